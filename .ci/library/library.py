@@ -4,7 +4,8 @@ ARCHIVE is another libwolqedir.a than that which archive.py gives, and WASMHOST 
 
 It needs gcc, cargo and python3, and ends with the name of the one that is missing. The examples are built, under the sanitizers
 where gcc has them, and have to print examples/library/hello.stdout; random scripts get of the library what they get of wasmhost;
-each code comes; and where a request for memory is refused, the host is as it was."""
+each code comes; turns are as the header says; a host that is let go gives back all memory; and where a request for memory is
+refused, the host is as it was."""
 import os
 import random
 import re
@@ -34,8 +35,8 @@ def tools():
 
 
 def gather(given, folder):
-    """Puts the archive, and the C of the toolchain's heap, into a folder, and makes a shared library of both: one that passes
-    requests for memory on, but for those that it is told to refuse."""
+    """Puts the archive, and the C of the toolchain's heap, into a folder, and makes a shared library of both: one that counts blocks
+    of memory, and passes requests on, but for those that it is told to refuse."""
     from archive import KIT, archive
 
     shutil.copy(given or archive(), os.path.join(folder, "libwolqedir.a"))
@@ -43,7 +44,7 @@ def gather(given, folder):
     parts = ["-Wl,--whole-archive", folder + "/libwolqedir.a", "-Wl,--no-whole-archive", folder + "/liblibc_c.a"]
     shared = ["gcc", "-shared", "-fPIC", "-O1", "-o"]
     run([*shared, folder + "/libwolqedir.so", *parts])
-    run([*shared, folder + "/refusing.so", HERE + "/refuse.c", *parts, "-Wl,--wrap=malloc,--wrap=realloc"])
+    run([*shared, folder + "/refusing.so", HERE + "/refuse.c", *parts, "-Wl,--wrap=malloc,--wrap=realloc,--wrap=free"])
 
 
 def sanitizers(folder):
@@ -126,6 +127,7 @@ def sessions(program, folder):
     """Random scripts get of the library what they get of wasmhost, and of the second model. How many replies that are, how many
     calls the transcripts in the end have, and which codes came."""
     from driven import MOST, Driven, generate
+    from refusals import blocks
 
     generate.FILES.pop("too/great")  # It stands for a file for which there is no memory.
     for path, contents in generate.FILES.items():
@@ -133,7 +135,7 @@ def sessions(program, folder):
             file.write(contents)
     settings, count, calls, codes = generate.random_settings(40), 0, 0, set()
     for seed in range(1, SCRIPTS + 1):
-        script, chosen = generate.Script(seed, settings).make(), random.Random(seed)
+        script, chosen, before = generate.Script(seed, settings).make(), random.Random(seed), blocks()
         driven = Driven(script.settings, generate.FILES, lambda: chosen.choice([1, 2, 7, 100, 1000, 5000, MOST]))
         got = []
         for line, _ in script.lines:
@@ -143,6 +145,7 @@ def sessions(program, folder):
         codes.update(driven.codes, driven.traps())
         calls += driven.transcripts()
         driven.host.close()
+        assert blocks() == before, (seed, blocks() - before)
         model = [plain(reply) for _, told in script.lines for reply in told] + [plain(reply) for reply in script.session.end()]
         wanted = model
         if program is not None:
@@ -163,6 +166,7 @@ def main(archive=None, program=ROOT + "/crates/wasmhost/out/wasmhost"):
         import codes
         import names
         import refusals
+        import turns
 
         print(f"{names.same()} exports are declared alike for C, Rust and Python, and {codes.texts()} codes have their sentences")
         print(f"the examples in C, Rust and Python print what they should, that in C {examples(folder)}")
@@ -173,6 +177,9 @@ def main(archive=None, program=ROOT + "/crates/wasmhost/out/wasmhost"):
         refused, spared, wanting = refusals.all_refused()
         print(f"{refused} requests for memory refused in turn: each time a code, or in {spared} no difference, and the host as before")
         met = {codes.named(code) for code in seen} | wanting | codes.met()
+        assert refusals.blocks() == 0, refusals.blocks()
+        print("each host gave back all blocks of memory that it had taken")
+        print(f"{turns.alike()} runs gave instances their turns of 1000 charges, one after the other")
         lacking = {codes.named(code) for code in codes.codes()} - met - codes.UNMET
         assert not lacking, f"codes that never came: {sorted(lacking)}"
         print(f"{len(met)} codes came, and nothing was done at any but 0")

@@ -1,6 +1,7 @@
 """Each request for memory that a call makes, refused in turn: the call answers a code of want of memory, the host is as it was,
 what could be written is as it was, and the call then goes as if nothing had been. Where a list of a module's instructions isn't
-reserved, it grows, and where it isn't cut, it stays: then nothing differs."""
+reserved, it grows, and where it isn't cut, it stays: then nothing differs. A host that is let go, or isn't made, has given back all
+memory."""
 import ctypes
 import itertools
 
@@ -17,6 +18,11 @@ WANTS = {
     "report": {"2", "H7"},
     "transcript": {"2", "H7"},
 }
+
+
+def blocks():
+    """How many blocks of memory hosts have taken and not given back."""
+    return wolqedir.lib.blocks_out()
 
 
 def refusing(act, n):
@@ -67,11 +73,14 @@ class Watched:
 
 def of_new():
     """Refuses each request of a new host in turn. How many there are, and the codes."""
-    kinds = set()
+    kinds, before = set(), blocks()
     for n in itertools.count(1):
         host, code, refused = refusing(lambda: Host(frames=64, slots=256), n)
         if refused == 0:
+            assert code == "0", code
             host.close()
+        assert blocks() == before, (n, blocks() - before)
+        if refused == 0:
             return n - 1, kinds
         assert code in WANTS["new"], (n, code)
         kinds.add(code)

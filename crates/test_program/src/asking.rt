@@ -6,6 +6,7 @@ use std::sync::Wait;
 use std::test::Fail;
 use std::thread::Threads;
 use wasmhost_program::{Lockable, SystemFiles, answer};
+use wh_streams::{WatchedRead, WatchedWrite};
 
 /// What a command line got.
 #[derive(Drop)]
@@ -39,8 +40,9 @@ where
     E::File: Lockable + Send + 'static,
 {
     let folder = SystemFiles { rt };
-    let mut input = input.as_bytes();
-    answer(rt, &folder, words, &mut input, output, errors).status
+    let mut input = WatchedRead::new(input.as_bytes());
+    let mut output = WatchedWrite::new(output);
+    answer(rt, &folder, words, &mut input, &mut output, errors).status
 }
 
 /// What a command line gets, for which the input gives nothing.

@@ -7,6 +7,7 @@ use std::alloc::Global;
 use std::io::{Error, ErrorKind, Result as IoResult};
 use std::test::Fail;
 use wasmhost_program::{ANSWERED, FileError, Folder, STOPPED, Source, answer};
+use wh_streams::{WatchedRead, WatchedWrite};
 
 /// Two files: settings with two frames, and a script.
 #[derive(Drop)]
@@ -37,29 +38,30 @@ impl Source for TwoFiles {
 #[test]
 fn settings_and_scripts_come_from_a_folder(rt: HostRuntime) -> Result<(), Fail> {
     let words = words(&rt, &["wasmhost", "--settings", "two.toml", "two.script"])?;
-    let mut input = b"no command\n".as_slice();
-    let mut output = Vec::new(rt.alloc());
+    let mut input = WatchedRead::new(b"no command\n".as_slice());
+    let mut output = WatchedWrite::new(Vec::new(rt.alloc()));
     let mut errors = Vec::new(rt.alloc());
     let status = answer(&rt, &TwoFiles, &words, &mut input, &mut output, &mut errors).status;
     assert_eq!(rt; status, ANSWERED);
     assert!(rt;
         output
+            .into_inner()
             .as_slice()
             .starts_with(b"error C2 line 1\n# frames 2")
     );
-    assert_eq!(rt; input.len(), 11);
+    assert_eq!(rt; input.into_inner().len(), 11);
     Ok(())
 }
 
 #[test]
 fn a_folder_may_lack_a_script(rt: HostRuntime) -> Result<(), Fail> {
     let words = words(&rt, &["wasmhost", "three.script"])?;
-    let mut input = b"scan\n".as_slice();
-    let mut output = Vec::new(rt.alloc());
+    let mut input = WatchedRead::new(b"scan\n".as_slice());
+    let mut output = WatchedWrite::new(Vec::new(rt.alloc()));
     let mut errors = Vec::new(rt.alloc());
     let status = answer(&rt, &TwoFiles, &words, &mut input, &mut output, &mut errors).status;
     assert_eq!(rt; status, STOPPED);
-    assert_eq!(rt; output.len(), 0);
+    assert_eq!(rt; output.into_inner().len(), 0);
     assert_eq!(rt; str::from_utf8(errors.as_slice()), Ok("wasmhost: script\n"));
     Ok(())
 }

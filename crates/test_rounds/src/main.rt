@@ -16,11 +16,18 @@ const ROUNDS: u32 = 1000;
 
 const FRAMES: [u32; 2] = [40, 6];
 
+// For so many pages runners have marks: for all of a memory, and for the lower half.
+const PAGES: [usize; 2] = [16, 8];
+
 // Whether each end came, of turns that were taken at once too.
 fn look_at(counts: &Counts) -> Result<()> {
     ensure!(
         counts.ended > 50 && counts.again > 50 && counts.cut > 10 && counts.several > 50,
         "too few turns were taken at once: {counts:?}"
+    );
+    ensure!(
+        counts.rounds > 200 && counts.turns > 400 && counts.wanted > 100,
+        "too few turns were taken in rounds: {counts:?}"
     );
     ensure!(
         counts.both > 50,
@@ -29,11 +36,11 @@ fn look_at(counts: &Counts) -> Result<()> {
     Ok(())
 }
 
-// So many rounds of two instances on so many frames.
-fn run<F: Fork>(alloc: Global, fork: &F, frames: u32) -> Result<()>
+// So many rounds of two instances on so many frames, with marks for so many pages.
+fn run<F: Fork>(alloc: Global, fork: &F, frames: u32, pages: usize) -> Result<()>
     requires { F.can fork.now }
 {
-    let mut twins = Twins::new(alloc, frames, 0x9E37_79B9_7F4A_7C15)?;
+    let mut twins = Twins::new(alloc, frames, pages, 0x9E37_79B9_7F4A_7C15)?;
     twins.run(alloc, fork, ROUNDS)?;
     look_at(&twins.counts)
 }
@@ -41,8 +48,10 @@ fn run<F: Fork>(alloc: Global, fork: &F, frames: u32) -> Result<()>
 fn main(rt: HostRuntime) -> Result<()> {
     let alloc = rt.alloc();
     for frames in FRAMES {
-        run(alloc, &InOrder, frames)?;
-        run(alloc, &AtOnce::new(&rt, 2), frames)?;
+        for pages in PAGES {
+            run(alloc, &InOrder, frames, pages)?;
+            run(alloc, &AtOnce::new(&rt, 2), frames, pages)?;
+        }
     }
     println!(rt; "rounds: {ROUNDS}, by one thread and by two, with many frames and with few")?;
     Ok(())

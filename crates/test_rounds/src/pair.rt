@@ -10,10 +10,8 @@ use std::sync::atomic::AtomicU64;
 use wh_host::{Burst, Fork, Host, Runner, SeriesEnd};
 use wh_host_model::InstId;
 
-// How many pages one may write beside the memory in a round, and how many its memory has.
+// How many pages one may write beside the memory in a round.
 const WRITTEN: u16 = 2;
-
-const PAGES: usize = 16;
 
 /// Two runners, which have no instance between rounds.
 #[derive(Drop)]
@@ -34,30 +32,30 @@ impl Model for Pair {
 }
 
 // Runners for these instances.
-fn two_runners(alloc: Global, first: InstId, second: InstId) -> Result<Vec<Runner>>
+fn two_runners(alloc: Global, first: InstId, second: InstId, pages: usize) -> Result<Vec<Runner>>
     ensures { IfOk result (λ runners. AllAreFree runners.items) }
 {
-    let one = Runner::new(alloc, first, WRITTEN, PAGES)?;
-    let other = Runner::new(alloc, second, WRITTEN, PAGES)?;
+    let one = Runner::new(alloc, first, WRITTEN, pages)?;
+    let other = Runner::new(alloc, second, WRITTEN, pages)?;
     Ok(Vec::from_array(alloc, [one, other])?)
 }
 
 impl Pair {
-    /// Makes runners for these instances.
-    pub fn new(alloc: Global, first: InstId, second: InstId) -> Result<Pair> {
-        let runners = two_runners(alloc, first, second)?;
+    /// Makes runners for these instances, with marks for so many pages.
+    pub fn new(alloc: Global, first: InstId, second: InstId, pages: usize) -> Result<Pair> {
+        let runners = two_runners(alloc, first, second, pages)?;
         Ok(Pair { runners })
     }
 
-    /// A round of bursts of `q` charges a turn, with so many further turns at most.
-    pub fn round<F: Fork>(&mut self, host: &mut Host, fork: &F, q: u64, further: u32)
+    /// A round of bursts of `q` charges a turn, with so many further turns at most, while so many want the memory.
+    pub fn round<F: Fork>(&mut self, host: &mut Host, fork: &F, q: u64, further: u32, wanted: u64)
         requires { F.can fork.now }
     {
-        let nobody = AtomicU64::new(0);
+        let wanted = AtomicU64::new(wanted);
         let burst = Burst {
             quantum: q,
             further,
-            wanted: &nobody,
+            wanted: &wanted,
         };
         host.turns_at_once(fork, self.runners.as_mut_slice(), burst);
     }

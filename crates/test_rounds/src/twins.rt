@@ -15,9 +15,12 @@ const MOST_CALLS: u32 = 65536;
 // Where calls read and write: on few pages, at their ends too.
 const PLACES: [u32; 8] = [0, 8, 4092, 4096, 8192, 12288, 16380, 61440];
 
-/// How often turns that were taken at once came to what, how often runners had no instance, and how often both had theirs.
+/// In how many rounds how many turns were taken at once, how often they came to what, how often runners had no instance, how often both
+/// had theirs, and how often somebody wanted the memory.
 #[derive(Clone, Copy, Debug, Default)]
 pub struct Counts {
+    pub rounds: u32,
+    pub turns: u64,
     pub ended: u32,
     pub again: u32,
     pub stood: u32,
@@ -25,6 +28,7 @@ pub struct Counts {
     pub several: u32,
     pub alone: u32,
     pub both: u32,
+    pub wanted: u32,
 }
 
 /// The two hosts with two instances each, and the runners of the first.
@@ -65,12 +69,12 @@ fn new_host(alloc: Global, frames: u32) -> Result<(Host, [InstId; 2])> {
 }
 
 impl Twins {
-    /// Both hosts as they are first.
-    pub fn new(alloc: Global, frames: u32, seed: u64) -> Result<Twins> {
+    /// Both hosts as they are first. Runners have marks for so many pages.
+    pub fn new(alloc: Global, frames: u32, pages: usize, seed: u64) -> Result<Twins> {
         let (together, ids) = new_host(alloc, frames)?;
         let (apart, same) = new_host(alloc, frames)?;
         ensure!(ids == same, "the hosts differ");
-        let pair = Pair::new(alloc, ids[0], ids[1])?;
+        let pair = Pair::new(alloc, ids[0], ids[1], pages)?;
         Ok(Twins {
             together,
             apart,
@@ -120,6 +124,7 @@ impl Twins {
     }
 
     fn count(&mut self, came: SeriesEnd, q: u64) {
+        self.counts.turns = self.counts.turns.saturating_add(came.turns);
         match came.end {
             TurnEnd::Ended => more(&mut self.counts.ended),
             TurnEnd::Frame => more(&mut self.counts.stood),
@@ -222,14 +227,33 @@ impl Twins {
         Ok(())
     }
 
+    // Somebody wanted the memory: each instance had one turn at most.
+    fn look_for_series(&mut self) -> Result<()> {
+        for at in 0..self.ids.len() {
+            if let Some(came) = self.pair.answer(at) {
+                more(&mut self.counts.wanted);
+                ensure!(came.turns == 1, "turns went on: {came:?}");
+            }
+        }
+        Ok(())
+    }
+
     fn round<F: Fork>(&mut self, alloc: Global, fork: &F) -> Result<()>
         requires { F.can fork.now }
     {
         self.ask_all(alloc)?;
         let q = u64::from(self.random.below(5));
         let further = self.random.below(4) as u32;
-        self.pair.round(&mut self.together, fork, q, further);
+        let wanted = u64::from(self.random.below(4) / 3);
+        self.pair
+            .round(&mut self.together, fork, q, further, wanted);
         let taken = self.follow(q)?;
+        if taken > 0 {
+            more(&mut self.counts.rounds);
+        }
+        if wanted > 0 {
+            self.look_for_series()?;
+        }
         if taken == 2 {
             more(&mut self.counts.both);
         }

@@ -9,6 +9,7 @@ use std::test::Fail;
 use std::thread::Threads;
 use wh_script::{ScriptFault, run_script};
 use wh_settings::{Settings, Workers, read_settings};
+use wh_streams::{WatchedRead, WatchedWrite};
 use wh_swap::MemSwap;
 
 /// With how many workers each script is run: one at a time, and several side by side.
@@ -25,8 +26,17 @@ pub fn run<R: Read, W: Write>(
     let alloc = rt.alloc();
     let device = MemSwap::new(alloc, settings.slots)?;
     let workers = Workers::new(number).unwrap_or(Workers::default());
-    let (result, _) = run_script(
-        *rt, alloc, settings, workers, &Shelf, device, reader, writer,
+    let mut reader = WatchedRead::new(reader);
+    let mut writer = WatchedWrite::new(writer);
+    let (result, _, _) = run_script(
+        *rt,
+        alloc,
+        settings,
+        workers,
+        &Shelf,
+        device,
+        &mut reader,
+        &mut writer,
     );
     Ok(result)
 }

@@ -12,6 +12,7 @@ use std::test::Fail;
 use std::thread::Threads;
 use wh_script::{ScriptFault, run_script};
 use wh_settings::{Settings, Workers, read_settings};
+use wh_streams::{WatchedRead, WatchedWrite};
 use wh_swap::{PageSwap, Pages};
 
 /// What becomes of a read or a write.
@@ -146,8 +147,9 @@ fn run_worn(
     let [reads, writes] = fates;
     let device = make_worn(alloc, settings.slots, reads, writes)?;
     let workers = Workers::new(number).unwrap_or(Workers::default());
-    let mut reader = script.as_bytes();
-    let (result, _) = run_script(
+    let mut reader = WatchedRead::new(script.as_bytes());
+    let mut writer = WatchedWrite::new(written);
+    let (result, _, _) = run_script(
         *rt,
         alloc,
         settings,
@@ -155,7 +157,7 @@ fn run_worn(
         &Shelf,
         device,
         &mut reader,
-        written,
+        &mut writer,
     );
     Ok(result)
 }

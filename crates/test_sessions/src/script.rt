@@ -7,6 +7,7 @@ use std::sync::Wait;
 use std::thread::Threads;
 use wh_script::run_script;
 use wh_settings::{Settings, Workers, read_settings};
+use wh_streams::{WatchedRead, WatchedWrite};
 use wh_swap::MemSwap;
 
 /// A script, with what it is run with and what it is to get.
@@ -55,9 +56,9 @@ fn written(
 ) -> Result<Vec<u8>> {
     let alloc = rt.alloc();
     let device = MemSwap::new(alloc, settings.slots)?;
-    let mut reader = lines.as_bytes();
-    let mut writer = Vec::new(alloc);
-    let (outcome, _) = run_script(
+    let mut reader = WatchedRead::new(lines.as_bytes());
+    let mut writer = WatchedWrite::new(Vec::new(alloc));
+    let (outcome, _, _) = run_script(
         *rt,
         alloc,
         settings,
@@ -68,7 +69,7 @@ fn written(
         &mut writer,
     );
     match outcome {
-        Ok(()) => Ok(writer),
+        Ok(()) => Ok(writer.into_inner()),
         Err(fault) => bail!("the script stops: {fault}"),
     }
 }

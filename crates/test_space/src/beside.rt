@@ -1,7 +1,7 @@
 // Two memories at once, each read below and written beside the other, and then laid back.
 
 ghost use Rattle.std.specs.Prelude.{◌≡◌, ◌≢◌, ◌+◌, ◌≤◌, [], IfOk, length};
-ghost use Rattle.wh_overlay.specs.Over.{AreAtHand, HasGrown, frames_lacking};
+ghost use Rattle.wh_overlay.specs.Over.{AreAtHand, HasGrown, ReadsAreThere, frames_lacking};
 
 use crate::same;
 use crate::trial::{MAX, PLACES, Trial, some_count, some_place};
@@ -46,14 +46,18 @@ fn run_two(
     uppers: (Upper, Upper),
     places: (usize, usize),
 ) -> Result<(Upper, Upper, u32)>
-    requires first { (uppers.0.pages ≡ []) × (uppers.0.grown ≡ 0) × (uppers.0.taken ≡ 0) }
-    requires second { (uppers.1.pages ≡ []) × (uppers.1.grown ≡ 0) × (uppers.1.taken ≡ 0) }
+    requires first { (uppers.0.pages ≡ []) × (uppers.0.grown ≡ 0) × (uppers.0.taken ≡ 0)
+        × (uppers.0.reads ≡ []) }
+    requires second { (uppers.1.pages ≡ []) × (uppers.1.grown ≡ 0) × (uppers.1.taken ≡ 0)
+        × (uppers.1.reads ≡ []) }
     ensures hand { IfOk result (λ r. AreAtHand memory.now places.0 r.0.pages
         × AreAtHand memory.now places.1 r.1.pages) }
     ensures frames { IfOk result (λ r. (frames_lacking memory.now places.0 r.0.pages ≤ uppers.0.lent)
         × (frames_lacking memory.now places.1 r.1.pages ≤ uppers.1.lent)) }
     ensures limited { IfOk result (λ r. HasGrown memory.now places.0 r.0
         × HasGrown memory.now places.1 r.1) }
+    ensures there { IfOk result (λ r. ReadsAreThere memory.now places.0 r.0
+        × ReadsAreThere memory.now places.1 r.1) }
 {
     let mut here = Overlay::new(memory, places.0, MOST_WASM_PAGES, uppers.0);
     let mut there = Overlay::new(memory, places.1, MOST_WASM_PAGES, uppers.1);
@@ -82,6 +86,8 @@ fn lay_two(memory: &mut Memory, uppers: (Upper, Upper), places: (usize, usize))
         + frames_lacking memory.old places.1 uppers.1.pages ≤ length memory.old.pool.free }
     requires first_limit { HasGrown memory.old places.0 uppers.0 }
     requires second_limit { HasGrown memory.old places.1 uppers.1 }
+    requires first_there { ReadsAreThere memory.old places.0 uppers.0 }
+    requires second_there { ReadsAreThere memory.old places.1 uppers.1 }
 {
     let (mut here, mut there) = uppers;
     here.lay(memory, places.0);

@@ -16,8 +16,8 @@ use std::sync::{Arc, Mutex, Wait};
 use std::test::Fail;
 use std::thread::Threads;
 use wh_threads::{
-    Books, Equipment, Lender, Message, ReceivedTurns, SeriesRoom, Shares, Slip, TurnSender, Turns,
-    Worker, dispatch, left_over, open_channel, pass_for, start_worker,
+    Books, Equipment, Gate, Lender, Message, ReceivedTurns, SeriesRoom, Shares, Slip, TurnSender,
+    Turns, Worker, dispatch, left_over, open_channel, pass_for, start_worker,
 };
 
 // Books under a lock, how many series a worker runs at once, and how many there were each time: two digits for each.
@@ -129,8 +129,9 @@ fn run_waiting<
         worker: lender.lend_worker(seat),
         slip: pass_for(&sender, &mut slip),
         room,
+        gate: Gate::new(alloc)?,
     };
-    let Ok(handle) = start_worker(rt, with, &sender, &mut slip, 0) else {
+    let Ok(handle) = start_worker(rt, with) else {
         return Ok(None);
     };
     lender.join_worker(&rt, seat, handle, &sender, &mut slip);

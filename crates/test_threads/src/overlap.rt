@@ -17,7 +17,7 @@ use wh_cell::{CellAgreements, CellParts, HostCell, Locked, Owner};
 use wh_host::{CallStatus, Cancel, Host};
 use wh_host_model::{InstId, SwapError, Tax};
 use wh_kernels::FnvHash;
-use wh_scheduler::{OwnedHost, RunConfig, run_calls};
+use wh_scheduler::{HereEnd, OwnedHost, RunConfig, run_calls};
 use wh_swap::{MemSwap, SwapDev};
 use wh_threads::Shares;
 
@@ -323,7 +323,15 @@ fn turns_go_on_while_the_device_is_called(rt: HostRuntime) -> Result<(), Fail> {
     Ok(())
 }
 
-// Two instances go on for 50000 charges each, by turns of one charge of two workers: how many turns each worker ran.
+// How many turns the owner ran itself, and how many each of two workers.
+#[derive(Clone, Copy, Debug, PartialEq, Eq)]
+struct Ran {
+    here: u64,
+    first: u64,
+    second: u64,
+}
+
+// Two instances go on for 50000 charges each, by turns of one charge: of the owner where no thread works, and then of two workers.
 fn run_loops<
     T: Ledger + Send + 'static,
     C: Ledger + Send + 'static,
@@ -331,7 +339,11 @@ fn run_loops<
     E: Ledger + Send + 'static,
     B: CellAgreements + Send + 'static,
     R: Threads + Wait + Copy + Send + Sync + 'static,
->(rt: R, alloc: Global, owned: &mut OwnedHost<MemSwap, T, C, O, E, B>) -> Result<(u64, u64), Fail> {
+>(
+    rt: R,
+    alloc: Global,
+    owned: &mut OwnedHost<MemSwap, T, C, O, E, B>,
+) -> Result<Option<Ran>, Fail> {
     let loops = owned.ask(loading(alloc, &LOOPS))?;
     let a = owned.ask(admission(alloc, loops))?;
     let b = owned.ask(admission(alloc, loops))?;
@@ -342,12 +354,20 @@ fn run_loops<
         quantum: 1,
         workers: 2,
     };
+    let here = owned.run_here(&[a, b], 31, 1);
+    if here.end != HereEnd::Most {
+        return Ok(None);
+    }
     match owned.run(rt, alloc, &[a, b], manner) {
         Ok(served) if served.end.is_ok() => {}
-        Ok(_) | Err(_) => return Ok((0, 0)),
+        Ok(_) | Err(_) => return Ok(None),
     }
     let (_, shares) = owned.counts();
-    Ok((shares.tally(0).turns, shares.tally(1).turns))
+    Ok(Some(Ran {
+        here: shares.owner().turns,
+        first: shares.tally(0).turns,
+        second: shares.tally(1).turns,
+    }))
 }
 
 // The same on a new host.
@@ -358,7 +378,7 @@ fn run_evenly<
     E: Ledger + Send + 'static,
     B: CellAgreements + Send + 'static,
     R: Threads + Wait + Copy + Send + Sync + 'static,
->(rt: R, alloc: Global, cell_parts: CellParts<MemSwap>) -> Result<(u64, u64), Fail>
+>(rt: R, alloc: Global, cell_parts: CellParts<MemSwap>) -> Result<Option<Ran>, Fail>
     requires empty { memory_held cell_parts.device ≡ replicate 64 [] }
     requires owned { cell_parts.to_owner ≡ B.to_owner }
     requires backed { cell_parts.to_device ≡ B.to_device }
@@ -374,10 +394,20 @@ fn both_workers_get_turns(rt: HostRuntime) -> Result<(), Fail> {
     let alloc = rt.alloc();
     let device = MemSwap::new(alloc, 64)?;
     let cell_parts = CellParts::new(alloc, device)?;
-    let (first, second) = run_evenly::<Brand, Brand, Brand, Brand, Brand, HostRuntime>(
-        rt, alloc, cell_parts,
-    )?;
+    let ran = run_evenly::<Brand, Brand, Brand, Brand, Brand, HostRuntime>(rt, alloc, cell_parts)?;
+    let Some(
+        Ran {
+            here,
+            first,
+            second,
+        },
+    ) = ran
+    else {
+        assert!(rt; false, "all calls ran");
+        return Ok(());
+    };
     assert!(rt; first > 0 && second > 0);
-    assert!(rt; first.saturating_add(second) >= 100_000);
+    assert_eq!(rt; here, 31);
+    assert!(rt; first.saturating_add(second) >= 100_000 - 31);
     Ok(())
 }

@@ -59,7 +59,7 @@ fn pass<
     O: Ledger + Send + 'static,
     E: Ledger + Send + 'static,
     B: CellAgreements + Send + 'static,
-    R: Threads + Wait,
+    R: Threads + Wait + Copy + Send + 'static,
 >(rt: &R, alloc: Global, owned: &mut OwnedHost<MemSwap, T, C, O, E, B>) -> Result<Passed, Fail> {
     let (books, shares) = owned.counts();
     let (in_book, by_threads) = (books.offers.low(), shares.offers());

@@ -457,9 +457,9 @@ fn settle<T: Ledger, C: Ledger, O: Ledger, E: Ledger, R: Wait>(
 // How many turns there were, what the two workers counted, and how many offers and evictions there were.
 type Ran = (u64, Tally, Tally, (u64, u64));
 
-// So many series, the first of one turn, and each of so many times as many turns as the one before. Those of the first turns are
-// run by this thread and the others by two workers, who meet in each; beside these a scanner that offers three pages at most, and
-// a reclaimer that evicts one, for which it is waited where so many series are left.
+// So many series, the first of one turn, and each of so many times as many turns as the one before. They are run by two workers,
+// who meet in each of the last ones, so many; beside these a scanner that offers three pages at most, and a reclaimer that evicts
+// one, for which it is waited where so many series are left.
 fn serve_at<
     T: Ledger + Send + 'static,
     C: Ledger + Send + 'static,
@@ -559,24 +559,36 @@ fn two_workers_run_turns(rt: HostRuntime) -> Result<(), Fail> {
         charges,
         offers,
         evictions,
-        129,
+        128,
         1000,
-        98,
+        128,
         1,
     )?;
     let Some((turns, first, second, helped)) = served else {
         assert!(rt; false, "threads were started");
         return Ok(());
     };
-    // This thread runs 31 turns as the first worker, and then the two run 49 each.
-    assert_eq!(rt; turns, 129);
-    assert_eq!(rt; (first.turns, first.charges), (80, 400));
-    assert_eq!(rt; (second.turns, second.charges), (49, 245));
+    // They meet in each turn, so each runs half of them. This thread runs none.
+    assert_eq!(rt; turns, 128);
+    assert_eq!(rt; (first.turns, first.charges), (64, 320));
+    assert_eq!(rt; (second.turns, second.charges), (64, 320));
 
     // Two offers are owed. The scanner stops at the third, or earlier where it is told to. No reclaimer was wanted.
     assert!(rt; helped.0 == 2 || helped.0 == 3);
     assert_eq!(rt; helped.1, 0);
     Ok(())
+}
+
+// Whether this is the sum of some of 1, 3, 9, 27 and so on, each once at most.
+fn is_sum_of_series(turns: u64) -> bool {
+    let mut left = turns;
+    for _ in 0..41 {
+        if left % 3 == 2 {
+            return false;
+        }
+        left /= 3;
+    }
+    left == 0
 }
 
 #[test]
@@ -590,20 +602,20 @@ fn each_series_is_run_whole(rt: HostRuntime) -> Result<(), Fail> {
         charges,
         offers,
         evictions,
-        7,
+        5,
         1000,
         0,
-        2,
+        3,
     )?;
     let Some((turns, first, second, helped)) = served else {
         assert!(rt; false, "threads were started");
         return Ok(());
     };
-    // This thread runs 1, 2, 4, 8 and 16 turns as the first worker, and the two run 32 and 64, whoever gets them.
-    assert_eq!(rt; turns, 127);
-    assert_eq!(rt; first.turns.wrapping_add(second.turns), 127);
-    assert_eq!(rt; (first.turns % 32, second.turns % 32), (31, 0));
-    assert_eq!(rt; first.charges.wrapping_add(second.charges), 635);
+    // The two run 1, 3, 9, 27 and 81 turns, whoever gets them.
+    assert_eq!(rt; turns, 121);
+    assert_eq!(rt; first.turns.wrapping_add(second.turns), 121);
+    assert!(rt; is_sum_of_series(first.turns) && is_sum_of_series(second.turns));
+    assert_eq!(rt; first.charges.wrapping_add(second.charges), 605);
 
     // One offer is owed.
     assert!(rt; helped.0 > 0 && helped.0 < 4);
@@ -612,7 +624,7 @@ fn each_series_is_run_whole(rt: HostRuntime) -> Result<(), Fail> {
 }
 
 #[test]
-fn few_turns_start_no_thread(rt: HostRuntime) -> Result<(), Fail> {
+fn where_no_turn_comes_no_thread_starts(rt: HostRuntime) -> Result<(), Fail> {
     let (turns, charges) = (Blank::new(65), Blank::new(65));
     let (offers, evictions) = (Blank::new(2), Blank::new(2));
     let served = serve_many::<Brand, Brand, Brand, Brand, HostRuntime>(
@@ -622,7 +634,7 @@ fn few_turns_start_no_thread(rt: HostRuntime) -> Result<(), Fail> {
         charges,
         offers,
         evictions,
-        31,
+        0,
         1000,
         0,
         1,
@@ -631,8 +643,8 @@ fn few_turns_start_no_thread(rt: HostRuntime) -> Result<(), Fail> {
         assert!(rt; false, "no thread was wanted");
         return Ok(());
     };
-    assert_eq!(rt; turns, 31);
-    assert_eq!(rt; (first.turns, second.turns), (31, 0));
+    assert_eq!(rt; turns, 0);
+    assert_eq!(rt; (first.turns, second.turns), (0, 0));
     assert_eq!(rt; helped, (0, 0));
     Ok(())
 }
@@ -657,9 +669,10 @@ fn helpers_are_started_where_they_are_wanted(rt: HostRuntime) -> Result<(), Fail
         assert!(rt; false, "threads were started");
         return Ok(());
     };
-    // This thread runs turns until the reclaimer is wanted, and then the two run four each.
+    // The two run the first eight turns, whoever gets them, until the reclaimer is wanted, and then four each.
     assert_eq!(rt; turns, 16);
-    assert_eq!(rt; (first.turns, second.turns), (12, 4));
+    assert_eq!(rt; first.turns.wrapping_add(second.turns), 16);
+    assert!(rt; first.turns >= 4 && second.turns >= 4);
 
     // No offer is owed for so few turns, and no scanner was started. The reclaimer was, in the middle.
     assert_eq!(rt; helped, (0, 1));

@@ -1,11 +1,14 @@
 -- What was read and written by how a run ends.
-use Rattle.std.proofs.Common.{◌≡◌, ◌∙◌, ℕ, true, List, [], Option, Some, None, is_some, Result, Ok, Err, option_map, refl, subst, subst₂, sym, ◌++◌, map, zero, suc, MatchOption}
+use Rattle.std.proofs.Common.{◌≡◌, ◌≢◌, ◌∙◌, ℕ, Bool, true, false, ap, List, [], Option, Some, None, is_some, Result, Ok, Err, option_map, refl, subst, subst₂, sym, ◌++◌, map, zero, suc, MatchOption}
 use Rattle.std.specs.Prelude.{⊤}
 use Rattle.clap.specs.Words.{Text}
 use Rattle.wh_host_model.specs.declared.plain.SwapError.{SwapError}
 use Rattle.wh_script_model.specs.Answers.{Files}
 use Rattle.wh_script_model.specs.Settings.{Settings}
-use Rattle.wh_script.specs.declared.fault.ScriptFault.TheVariants.{Memory}
+use Rattle.wh_script.specs.declared.fault.ScriptFault.TheVariants.{Memory, Output}
+use Rattle.wh_script.specs.declared.session.SessionConfig.{SessionConfig}
+use Rattle.wh_script.specs.Blame.{BlamesFailed}
+use Rattle.wh_script.specs.RunBy.{IsRunBy, RunsBy}
 use Rattle.wasmhost_program.specs.declared.fault.ProgramFault.{ProgramFault}
 use Rattle.wasmhost_program.specs.declared.fault.ProgramFault.TheVariants.{Settings as NoSettings, Swap, Script}
 use Rattle.wh_engine.specs.Draining.{HoldsAmid}
@@ -16,7 +19,7 @@ use Rattle.wh_script.proofs.Devices.{none_of}
 use Rattle.wh_script.proofs.Runs.{begins_nothing}
 use Rattle.wasmhost_program.specs.Accepted.{MeansArguments, line_faults}
 use Rattle.wasmhost_program.specs.declared.arguments.Arguments.{Arguments}
-use Rattle.wasmhost_program.specs.ProgramOutput.{HasServedSo, IsFaultOfDevice, IsFaultOfSettings, KnownFiles, RunsAsked, RunsScript, RunsWith, EndsSo, EndsWith, is_accepted, has_run, has_no_swap, has_no_settings, wants_memory, HoldsOver, RunClaim, has_settings, is_unread, runs_amid}
+use Rattle.wasmhost_program.specs.ProgramOutput.{HasServedSo, IsFaultOfDevice, IsFaultOfSettings, KnownFiles, RunsAsked, RunsScript, RunsWith, EndsSo, EndsWith, is_accepted, has_run, has_no_swap, has_no_settings, wants_memory, HoldsOver, RunClaim, has_settings, is_unread, outcome_of, runs_amid, ReadsSettings, RunsAsWords, RunsSo, RunsSoBy, StopsForOutput}
 use Rattle.wh_host_model.specs.SwapFaults.{swap_number}
 use Rattle.wh_script.specs.declared.fault.ScriptFault.{ScriptFault}
 use Rattle.wh_script.specs.Runs.{Runs}
@@ -138,3 +141,61 @@ module _ (claim : RunClaim) (known : KnownFiles) (files : Files) (words : List T
       → EndsSo claim known files words input left before after ended → EndsWith claim known files words input left before after status
   ends_stopped ended fault status is one_is ends =
       subst (EndsWith claim known files words input left before after) (sym one_is) (fault, subst (EndsSo claim known files words input left before after) is ends)
+
+-- ---- how calls were run
+
+-- the writer was blamed
+pub output_blamed : (reader writer : Bool) (ended : Result Unit ScriptFault) → BlamesFailed reader writer ended → ended ≡ Err Output → writer ≡ true
+output_blamed reader writer ended blames is = subst (BlamesFailed reader writer) is blames
+
+pub stops_for_output : (failed : Bool) (ended : Result Unit ScriptFault) → (ended ≡ Err Output → failed ≡ true) → StopsForOutput failed (outcome_of ended)
+stops_for_output failed (Ok done) blames is = absurd (cc is)
+stops_for_output failed (Err fault) blames is = blames (let same : fault ≡ Output = cc is in ap (λ f. Err f) same)
+
+pub not_for_output : (failed : Bool) (fault : ProgramFault) → ¬ (fault ≡ Script Output) → StopsForOutput failed (Err fault)
+not_for_output failed fault other is = absurd (other (cc is))
+
+pub device_fault_so : (fault : ProgramFault) → IsFaultOfDevice fault → ¬ (fault ≡ Script Output)
+device_fault_so Swap is same = cc same
+device_fault_so NoSettings is same = cc same
+device_fault_so (Script fault) is same = let bad : Memory ≡ Output = sym is ∙ cc same in cc bad
+
+pub settings_fault_so : (fault : ProgramFault) → IsFaultOfSettings fault → ¬ (fault ≡ Script Output)
+settings_fault_so Swap is same = cc same
+settings_fault_so NoSettings is same = cc same
+settings_fault_so (Script fault) is same = let bad : Memory ≡ Output = sym is ∙ cc same in cc bad
+
+-- in memory
+pub in_manner : {D : Type 0} (settings : Settings) (workers : ℕ) (ended : Result Unit ScriptFault) (device : Option D) (config : Option SessionConfig) → RunsBy settings workers ended device config
+    → MatchOption config (ended ≡ Err Memory) (IsRunBy settings workers)
+in_manner settings workers ended device None manner = manner
+in_manner settings workers ended device (Some config) manner = manner.0
+
+not_well : (ended : Result Unit ScriptFault) → ended ≡ Err Memory → outcome_of ended ≢ Ok tt
+not_well ended is well =
+    let so : outcome_of (Err Memory) ≡ Ok tt = sym (ap outcome_of is) ∙ well in cc so
+
+-- with settings that name no file
+pub in_memory : (settings : Settings) (workers : ℕ) (ended : Result Unit ScriptFault) (config : Option SessionConfig) → settings.swap ≡ None
+    → MatchOption config (ended ≡ Err Memory) (IsRunBy settings workers) → RunsSo settings workers (outcome_of ended) false config
+in_memory settings workers ended None none manner = not_well ended manner
+in_memory settings workers ended (Some config) none manner = (manner, ap is_some (sym none))
+
+-- and with such that name one
+pub over_file : {D : Type 0} (settings : Settings) (workers : ℕ) (path : Text) (ended : Result Unit ScriptFault) (device : Option D) (config : Option SessionConfig) → settings.swap ≡ Some path
+    → RunsBy settings workers ended device config → RunsSo settings workers (outcome_of ended) (is_some device) config
+over_file settings workers path ended device None some manner = not_well ended manner
+over_file settings workers path ended device (Some config) some manner = (manner.0, manner.1 ∙ ap is_some (sym some))
+
+-- the settings of a file
+pub by_file : (known : KnownFiles) (path : Option Text) (settings : Settings) (workers : ℕ) (ended : Result Unit ProgramFault) (over : Bool) (config : Option SessionConfig) → ReadsSettings known path settings
+    → RunsSo settings workers ended over config → RunsSoBy known path workers ended over config
+by_file known path settings workers ended over None reads manner = manner
+by_file known path settings workers ended over (Some config) reads manner = (settings, reads, manner.0, manner.1)
+
+-- which the words name
+pub as_words : (known : KnownFiles) (words : List Text) (a : Arguments) (ended : Result Unit ProgramFault) (status : ℕ) (over : Bool) (config : Option SessionConfig) → MeansArguments words a
+    → (status ≡ 0 → ended ≡ Ok tt) → RunsSoBy known (option_map (λ p. p.now) a.settings) a.workers.number ended over config → RunsAsWords known words status over config
+as_words known words a ended status over None means ends manner = λ zero_is. manner (ends zero_is)
+as_words known words a ended status over (Some config) means ends manner =
+    (manner.0, a.workers.number, subst (λ path. ReadsSettings known path manner.0) means.settings manner.1, means.workers, manner.2, manner.3)

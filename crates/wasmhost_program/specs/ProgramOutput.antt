@@ -1,5 +1,5 @@
 -- What the program reads and writes.
-use Rattle.std.specs.Prelude.{◌≡◌, ◌≢◌, ℕ, zero, suc, true, List, [], Option, Some, None, is_some, codes, Result, Ok, Err}
+use Rattle.std.specs.Prelude.{◌≡◌, ◌≢◌, ℕ, zero, suc, Bool, true, List, [], Option, Some, None, is_some, codes, Result, Ok, Err}
 use Rattle.std.specs.Io.KnownBytes.{Keeps}
 use Rattle.clap.specs.Words.{Text}
 use Rattle.wh_script_model.specs.Answers.{Files}
@@ -7,13 +7,15 @@ use Rattle.wh_script_model.specs.Settings.{Settings, default_settings}
 use Rattle.wh_settings.specs.Spelled.{SpellsSettings}
 use Rattle.wh_engine.specs.Draining.{HasServed, HoldsAmid}
 use Rattle.wh_script.specs.declared.fault.ScriptFault.{ScriptFault}
-use Rattle.wh_script.specs.declared.fault.ScriptFault.TheVariants.{Memory}
+use Rattle.wh_script.specs.declared.fault.ScriptFault.TheVariants.{Memory, Output}
+use Rattle.wh_script.specs.declared.session.SessionConfig.{SessionConfig}
+use Rattle.wh_script.specs.RunBy.{IsRunBy}
 use Rattle.wh_swap.specs.declared.stream.PageSwap.{PageSwap}
 use Rattle.wh_swap.specs.Written.{HasReadRight, page_faults}
 use Rattle.wh_script.specs.FailingRuns.{ScriptRunsAmid}
 use Rattle.wasmhost_program.specs.declared.fault.ProgramFault.{ProgramFault}
 use Rattle.wasmhost_program.specs.declared.fault.ProgramFault.TheVariants.{Settings as NoSettings, Swap, Script}
-use Rattle.wasmhost_program.specs.Accepted.{line_faults, given_in}
+use Rattle.wasmhost_program.specs.Accepted.{CountsWorkers, line_faults, given_in}
 
 -- the device over a file, if there is one, has given what was written to it, and no call of it failed
 abbrev pub HasServedSo : {P : Type 0} → Option (PageSwap P) → Type 0
@@ -107,3 +109,32 @@ EndsWith claim known files words input left before after (suc zero) =
     (fault : ProgramFault) × EndsSo claim known files words input left before after (Err fault)
 EndsWith claim known files words input left before after (suc (suc n)) =
     (line_faults words ≢ []) × (left ≡ input) × (after ≡ before)
+
+-- ---- how calls are run
+
+-- A script was begun: its calls were run as the settings say, by so many workers, and a device over a file has come back
+-- where the settings name one, and none else. Or it wasn't begun, and the program hasn't ended well.
+abbrev pub RunsSo : Settings → (workers : ℕ) → Result Unit ProgramFault → (over_file : Bool) → Option SessionConfig → Type 0
+RunsSo settings workers ended over_file None = ended ≢ Ok tt
+RunsSo settings workers ended over_file (Some config) =
+    IsRunBy settings workers config × (over_file ≡ is_some settings.swap)
+
+-- the same of the settings of this file
+abbrev pub RunsSoBy : KnownFiles → Option Text → (workers : ℕ) → Result Unit ProgramFault → (over_file : Bool) → Option SessionConfig
+    → Type 0
+RunsSoBy known path workers ended over_file None = ended ≢ Ok tt
+RunsSoBy known path workers ended over_file (Some config) =
+    (settings : Settings) × ReadsSettings known path settings × IsRunBy settings workers config
+    × (over_file ≡ is_some settings.swap)
+
+-- and of the settings and the number of workers that words ask for, by the status
+abbrev pub RunsAsWords : KnownFiles → (words : List Text) → (status : ℕ) → (over_file : Bool) → Option SessionConfig → Type 0
+RunsAsWords known words status over_file None = status ≢ 0
+RunsAsWords known words status over_file (Some config) =
+    (settings : Settings) × (workers : ℕ) × ReadsSettings known (given_in words (codes "settings")) settings
+    × CountsWorkers (given_in words (codes "workers")) workers × IsRunBy settings workers config
+    × (over_file ≡ is_some settings.swap)
+
+-- the program stops for its output only where a call of that has failed
+abbrev pub StopsForOutput : (failed : Bool) → Result Unit ProgramFault → Type 0
+StopsForOutput failed ended = ended ≡ Err (Script Output) → failed ≡ true

@@ -1,13 +1,14 @@
 //! The program: words, settings, a script, replies and a status.
 
 ghost use Rattle.std.specs.Io.KnownBytes.{Keeps};
-ghost use Rattle.std.specs.Prelude.{◌≡◌, ◌≤◌, ℕ, List, replicate, [], true, is_some, map, option_map, string_bytes, IfErr, IfOk, IfSome, MatchOption};
+ghost use Rattle.std.specs.Prelude.{◌≡◌, ◌≤◌, ℕ, List, replicate, [], Some, true, is_some, map, option_map, string_bytes, IfErr, IfOk, IfSome, MatchOption};
 ghost use Rattle.wh_engine.specs.Draining.{HoldsAmid};
+ghost use Rattle.wh_script.specs.RunBy.{IsRunBy, RunsBy};
 ghost use Rattle.wh_script.specs.Runs.{Runs};
 ghost use Rattle.wh_script.specs.Starting.{IsEmptyDevice};
 ghost use Rattle.wh_settings.specs.View.{settings_of};
 ghost use Rattle.wh_swap.specs.Written.{HasReadRight, page_faults, page_held};
-ghost use Rattle.wasmhost_program.specs.ProgramOutput.{EndsWith, HasServedSo, HoldsOver, IsFaultOfDevice, IsFaultOfSettings, ReadsSettings, RunsAsked, RunsScript, RunsWith, runs_amid};
+ghost use Rattle.wasmhost_program.specs.ProgramOutput.{EndsWith, HasServedSo, HoldsOver, IsFaultOfDevice, IsFaultOfSettings, ReadsSettings, RunsAsWords, RunsAsked, RunsScript, RunsSo, RunsSoBy, RunsWith, StopsForOutput, runs_amid};
 
 use crate::arguments::{Arguments, ArgumentsError, read_args};
 use crate::errors::Errors;
@@ -22,8 +23,9 @@ use std::rt::{Env, Files};
 use std::sync::Wait;
 use std::thread::Threads;
 use std::{env, io};
-use wh_script::{ScriptFault, Source, run_script};
+use wh_script::{ScriptFault, SessionConfig, Source, run_script};
 use wh_settings::{Settings, SettingsError, Workers, read_settings};
+use wh_streams::{WatchedRead, WatchedWrite};
 use wh_swap::{MemSwap, StreamSwap, SwapDev};
 
 /// The status where the whole script was answered.
@@ -92,6 +94,8 @@ pub struct ProgramOutcome<F> {
     pub status: u8,
     /// The device to which pages were swapped, where the settings name a file for it.
     pub swap: Option<StreamSwap<F>>,
+    /// How the calls of the script were run, where one was begun.
+    pub config: Option<SessionConfig>,
 }
 
 /// A device over this file. What it held is lost.
@@ -127,26 +131,29 @@ fn run_over<
     settings: &Settings,
     given: Arguments<'_>,
     device: D,
-    input: &mut R,
-    output: &mut W,
-) -> (Result<(), ScriptFault>, Option<D>)
+    input: &mut WatchedRead<R>,
+    output: &mut WatchedWrite<W>,
+) -> (Result<(), ScriptFault>, Option<D>, Option<SessionConfig>)
     requires { IsEmptyDevice settings.now.slots (D.held device) }
-    ensures { let holds = λ (met : List ℕ). RunsScript (runs_amid met) (S.known folder.now) (S.files folder.now)
-        (settings_of settings.now) (option_map (λ p. p.now) given.entry.script) (R.remaining input.old)
-        (R.remaining input.new) (W.contents output.old) (W.contents output.new) result.0 in
+    ensures amid { let holds = λ (met : List ℕ). RunsScript (runs_amid met) (S.known folder.now) (S.files folder.now)
+        (settings_of settings.now) (option_map (λ p. p.now) given.entry.script) (R.remaining input.old.inner)
+        (R.remaining input.new.inner) (W.contents output.old.inner) (W.contents output.new.inner) result.0 in
         MatchOption result.1 (holds []) (λ after. HoldsAmid (D.honest after) (D.faults device)
         (D.faults after) holds) }
+    ensures config { RunsBy (settings_of settings.now) given.entry.workers.number result.0
+        result.1 result.2 }
+    ensures output { result.0 ≡ Err ScriptFault.Output → output.new.has_failed ≡ true }
 {
     let alloc = rt.alloc();
     let workers = given.workers;
     let Some(path) = given.script else {
         return run_script(*rt, alloc, settings, workers, folder, device, input, output);
     };
-    let mut file = LateFile {
+    let mut file = WatchedRead::new(LateFile {
         folder,
         path,
         file: None,
-    };
+    });
     run_script(
         *rt, alloc, settings, workers, folder, device, &mut file, output,
     )
@@ -163,18 +170,22 @@ fn run_in_memory<
     folder: &S,
     settings: &Settings,
     given: Arguments<'_>,
-    input: &mut R,
-    output: &mut W,
-) -> Result<(), ScriptFault>
-    ensures { RunsScript (runs_amid []) (S.known folder.now) (S.files folder.now) (settings_of settings.now)
-        (option_map (λ p. p.now) given.entry.script) (R.remaining input.old) (R.remaining input.new)
-        (W.contents output.old) (W.contents output.new) result }
+    input: &mut WatchedRead<R>,
+    output: &mut WatchedWrite<W>,
+) -> (Result<(), ScriptFault>, Option<SessionConfig>)
+    ensures amid { RunsScript (runs_amid []) (S.known folder.now) (S.files folder.now)
+        (settings_of settings.now) (option_map (λ p. p.now) given.entry.script)
+        (R.remaining input.old.inner) (R.remaining input.new.inner) (W.contents output.old.inner)
+        (W.contents output.new.inner) result.0 }
+    ensures config { MatchOption result.1 (result.0 ≡ Err ScriptFault.Memory)
+        (IsRunBy (settings_of settings.now) given.entry.workers.number) }
+    ensures output { result.0 ≡ Err ScriptFault.Output → output.new.has_failed ≡ true }
 {
     let Ok(device) = MemSwap::new(rt.alloc(), settings.slots) else {
-        return Err(ScriptFault::Memory);
+        return (Err(ScriptFault::Memory), None);
     };
-    let (outcome, _) = run_over(rt, folder, settings, given, device, input, output);
-    outcome
+    let (outcome, _, config) = run_over(rt, folder, settings, given, device, input, output);
+    (outcome, config)
 }
 
 /// Runs the script of a command line with these settings and its workers. Pages are swapped to this file, over which the
@@ -190,23 +201,32 @@ fn run_on_file<
     settings: &Settings,
     given: Arguments<'_>,
     own: &SwapFile<E::File>,
-    input: &mut R,
-    output: &mut W,
-) -> (Result<(), ProgramFault>, Option<StreamSwap<E::File>>)
+    input: &mut WatchedRead<R>,
+    output: &mut WatchedWrite<W>,
+) -> (
+    Result<(), ProgramFault>,
+    Option<StreamSwap<E::File>>,
+    Option<SessionConfig>,
+)
 where
     E::File: Send + 'static,
-    requires { is_some (settings_of settings.now).swap ≡ true }
-    ensures { HoldsOver result.1 (λ met. RunsWith (runs_amid met) (S.known folder.now)
+    requires { (settings_of settings.now).swap ≡ Some (string_bytes own.now.path) }
+    ensures amid { HoldsOver result.1 (λ met. RunsWith (runs_amid met) (S.known folder.now)
         (S.files folder.now) (settings_of settings.now) (option_map (λ p. p.now) given.entry.script)
-        (R.remaining input.old) (R.remaining input.new) (W.contents output.old)
-        (W.contents output.new) result.0) }
+        (R.remaining input.old.inner) (R.remaining input.new.inner) (W.contents output.old.inner)
+        (W.contents output.new.inner) result.0) }
+    ensures config { RunsSo (settings_of settings.now) given.entry.workers.number result.0
+        (is_some result.1) result.2 }
+    ensures output { StopsForOutput output.new.has_failed result.0 }
 {
     match device_over(rt.alloc(), own, settings.slots) {
         Ok(device) => {
-            let (outcome, device) = run_over(rt, folder, settings, given, device, input, output);
-            (outcome_of(outcome), device)
+            let (outcome, device, config) = run_over(
+                rt, folder, settings, given, device, input, output,
+            );
+            (outcome_of(outcome), device, config)
         }
-        Err(fault) => (Err(fault), None),
+        Err(fault) => (Err(fault), None, None),
     }
 }
 
@@ -222,22 +242,29 @@ fn run_with<
     folder: &S,
     settings: &Settings,
     given: Arguments<'_>,
-    input: &mut R,
-    output: &mut W,
-) -> (Result<(), ProgramFault>, Option<StreamSwap<E::File>>)
+    input: &mut WatchedRead<R>,
+    output: &mut WatchedWrite<W>,
+) -> (
+    Result<(), ProgramFault>,
+    Option<StreamSwap<E::File>>,
+    Option<SessionConfig>,
+)
 where
     E::File: Lockable + Send + 'static,
-    ensures { HoldsOver result.1 (λ met. RunsWith (runs_amid met) (S.known folder.now)
+    ensures amid { HoldsOver result.1 (λ met. RunsWith (runs_amid met) (S.known folder.now)
         (S.files folder.now) (settings_of settings.now) (option_map (λ p. p.now) given.entry.script)
-        (R.remaining input.old) (R.remaining input.new) (W.contents output.old)
-        (W.contents output.new) result.0) }
+        (R.remaining input.old.inner) (R.remaining input.new.inner) (W.contents output.old.inner)
+        (W.contents output.new.inner) result.0) }
+    ensures config { RunsSo (settings_of settings.now) given.entry.workers.number result.0
+        (is_some result.1) result.2 }
+    ensures output { StopsForOutput output.new.has_failed result.0 }
 {
     let Some(path) = &settings.swap else {
-        let outcome = run_in_memory(rt, folder, settings, given, input, output);
-        return (outcome_of(outcome), None);
+        let (outcome, config) = run_in_memory(rt, folder, settings, given, input, output);
+        return (outcome_of(outcome), None, config);
     };
     let Ok(own) = open_swap_file(rt, path) else {
-        return (Err(ProgramFault::Swap), None);
+        return (Err(ProgramFault::Swap), None, None);
     };
     let ended = run_on_file(rt, folder, settings, given, &own, input, output);
     // That nothing could be taken out of the file has nobody to be told: what was answered stays so.
@@ -256,19 +283,26 @@ fn run_given<
     rt: &E,
     folder: &S,
     given: Arguments<'_>,
-    input: &mut R,
-    output: &mut W,
-) -> (Result<(), ProgramFault>, Option<StreamSwap<E::File>>)
+    input: &mut WatchedRead<R>,
+    output: &mut WatchedWrite<W>,
+) -> (
+    Result<(), ProgramFault>,
+    Option<StreamSwap<E::File>>,
+    Option<SessionConfig>,
+)
 where
     E::File: Lockable + Send + 'static,
-    ensures { HoldsOver result.1 (λ met. RunsAsked (runs_amid met) (S.known folder.now)
+    ensures amid { HoldsOver result.1 (λ met. RunsAsked (runs_amid met) (S.known folder.now)
         (S.files folder.now) (option_map (λ p. p.now) given.entry.settings)
-        (option_map (λ p. p.now) given.entry.script) (R.remaining input.old) (R.remaining input.new)
-        (W.contents output.old) (W.contents output.new) result.0) }
+        (option_map (λ p. p.now) given.entry.script) (R.remaining input.old.inner) (R.remaining input.new.inner)
+        (W.contents output.old.inner) (W.contents output.new.inner) result.0) }
+    ensures config { RunsSoBy (S.known folder.now) (option_map (λ p. p.now) given.entry.settings)
+        given.entry.workers.number result.0 (is_some result.1) result.2 }
+    ensures output { StopsForOutput output.new.has_failed result.0 }
 {
     match settings_of_file(rt.alloc(), folder, given.settings) {
         Ok(settings) => run_with(rt, folder, &settings, given, input, output),
-        Err(fault) => (Err(fault), None),
+        Err(fault) => (Err(fault), None, None),
     }
 }
 
@@ -292,8 +326,8 @@ pub fn answer<
     rt: &E,
     folder: &S,
     words: &[String],
-    input: &mut R,
-    output: &mut W,
+    input: &mut WatchedRead<R>,
+    output: &mut WatchedWrite<W>,
     errors: &mut impl Write,
 ) -> ProgramOutcome<E::File>
 where
@@ -302,21 +336,26 @@ where
     // Which script was answered, with which settings, and how much of it, by the status: so it is where pages are swapped to
     // memory, and over a file where that has given what was written to it, and no call of it failed.
     ensures ends { HasServedSo result.swap → EndsWith Runs (S.known folder.now) (S.files folder.now)
-        (map string_bytes words.now) (R.remaining input.old) (R.remaining input.new)
-        (W.contents output.old) (W.contents output.new) result.status }
+        (map string_bytes words.now) (R.remaining input.old.inner) (R.remaining input.new.inner)
+        (W.contents output.old.inner) (W.contents output.new.inner) result.status }
     // Where calls of it did fail, so it is still, but that a call may stand for such a fault until it is tried again.
     ensures amid { HoldsOver result.swap (λ met. EndsWith (runs_amid met) (S.known folder.now)
-        (S.files folder.now) (map string_bytes words.now) (R.remaining input.old)
-        (R.remaining input.new) (W.contents output.old) (W.contents output.new) result.status) }
+        (S.files folder.now) (map string_bytes words.now) (R.remaining input.old.inner)
+        (R.remaining input.new.inner) (W.contents output.old.inner) (W.contents output.new.inner) result.status) }
+    // Calls were run by as many workers as the words say, in turns of the settings and with their hash, and pages were swapped
+    // to a file where these name one; so it is at 0, and wherever a script was begun.
+    ensures config { RunsAsWords (S.known folder.now) (map string_bytes words.now) result.status
+        (is_some result.swap) result.config }
 {
-    let (outcome, swap) = match read_args(rt.alloc(), words) {
+    let (outcome, swap, config) = match read_args(rt.alloc(), words) {
         Ok(given) => run_given(rt, folder, given, input, output),
-        Err(ArgumentsError::Memory) => (Err(ProgramFault::Script(ScriptFault::Memory)), None),
+        Err(ArgumentsError::Memory) => (Err(ProgramFault::Script(ScriptFault::Memory)), None, None),
         Err(ArgumentsError::Line(error)) => {
             let _ = write!(errors, "{error}");
             return ProgramOutcome {
                 status: NOT_ACCEPTED,
                 swap: None,
+                config: None,
             };
         }
     };
@@ -324,7 +363,11 @@ where
         Ok(()) => ANSWERED,
         Err(fault) => stop(errors, fault),
     };
-    ProgramOutcome { status, swap }
+    ProgramOutcome {
+        status,
+        swap,
+        config,
+    }
 }
 
 /// Runs the program, with the words, the streams and the files of this process.
@@ -357,17 +400,11 @@ where
         }
     };
     let folder = SystemFiles { rt: &rt };
-    let mut input = LateInput {
+    let mut input = WatchedRead::new(LateInput {
         rt: &rt,
         reader: None,
-    };
-    let outcome = answer(
-        &rt,
-        &folder,
-        &words,
-        &mut input,
-        &mut io::writer(&rt),
-        &mut errors,
-    );
+    });
+    let mut output = WatchedWrite::new(io::writer(&rt));
+    let outcome = answer(&rt, &folder, &words, &mut input, &mut output, &mut errors);
     ExitCode::from(outcome.status)
 }

@@ -1,5 +1,7 @@
 // The file to which pages are swapped: this host's own while it runs, and empty where it has ended in order.
 
+ghost use Rattle.std.specs.Prelude.{◌≡◌, IfOk, string_bytes};
+
 use std::fs::{File, OpenFile, OpenOptions, TryLockError};
 use std::io::{Error, ErrorKind, Result as IoResult};
 use std::os::unix::fs::{FileTypeExt, OpenOptionsExt};
@@ -27,6 +29,8 @@ impl Lockable for File {
 pub struct SwapFile<F> {
     file: F,
     is_regular: bool,
+    // Where it was opened.
+    path: String,
 }
 
 impl<F: OpenFile> SwapFile<F> {
@@ -54,10 +58,12 @@ impl<F: OpenFile> SwapFile<F> {
 ///
 /// # Errors
 /// Where it can't be opened or emptied, and where another host has it.
-pub fn open_swap_file<E: Files>(rt: &E, path: &str) -> IoResult<SwapFile<E::File>>
+pub fn open_swap_file<E: Files + AllocGlobal>(rt: &E, path: &str) -> IoResult<SwapFile<E::File>>
 where
     E::File: Lockable,
+    ensures { IfOk result (λ own. string_bytes own.path ≡ path.now) }
 {
+    let path_kept = String::from_str(rt.alloc(), path)?;
     let mut options = OpenOptions::new();
     options.read(true);
     options.write(true);
@@ -69,7 +75,11 @@ where
     if (is_regular || kind.is_block_device()) && !file.lock_alone() {
         return Err(Error::from(ErrorKind::WouldBlock));
     }
-    let own = SwapFile { file, is_regular };
+    let own = SwapFile {
+        file,
+        is_regular,
+        path: path_kept,
+    };
     own.empty()?;
     Ok(own)
 }

@@ -3,7 +3,7 @@ use Rattle.std.proofs.Common.{ℕ, ◌+◌, ◌<◌, ◌^◌, Option, arith}
 use Rattle.wh_host_model.specs.declared.plain.InstId.{InstId}
 use Rattle.wh_host_model.specs.declared.plain.TurnEnd.{TurnEnd}
 use Rattle.wh_host_model.specs.Host.Worlds.{World}
-use Rattle.wh_host_model.specs.Host.Events.{Event, load, admit, invoke, refuel, cancel, retry, release}
+use Rattle.wh_host_model.specs.Host.Events.{Event, load, admit, invoke, refuel, cancel, retry, release, epoch}
 use Rattle.wh_host_model.specs.Host.Happens.{Happens, IsTurn}
 use Rattle.wh_host.specs.TicketsOut.{IsPresentCall}
 use Rattle.wh_host.specs.Hosting.{HostState, IsHost}
@@ -14,7 +14,7 @@ use Rattle.wh_cell.specs.Counted.{charges_between}
 use Rattle.wh_cell.specs.LeftByOwner.{FitsHost, HasNoCharge, HasTakenOn}
 use Rattle.wh_cell.proofs.Alike.{fits_each, fits_on, taken_each}
 use Rattle.wh_cell.proofs.Counted.{fits_taken}
-use Rattle.wh_cell.proofs.Requested.{admit_fits, cancel_fits, invoke_fits, load_fits, refuel_fits, release_fits, retry_fits}
+use Rattle.wh_cell.proofs.Requested.{admit_fits, cancel_fits, invoke_fits, load_fits, moves_fit, refuel_fits, release_fits, retry_fits}
 use Rattle.wh_cell.proofs.Turned.{turn_taken}
 
 -- ---- a turn
@@ -45,6 +45,7 @@ request_fits w w2 (refuel id n) total is happens f = refuel_fits w w2 id n happe
 request_fits w w2 (cancel id) total is happens f = cancel_fits w w2 id happens.0 total happens.1 f
 request_fits w w2 (retry id) total is happens f = retry_fits w w2 id happens.0 total happens.1 f
 request_fits w w2 (release id) total is happens f = release_fits w w2 id happens.0 total happens.1 f
+request_fits w w2 epoch total is happens f = moves_fit w w2 total happens f
 request_fits w w2 other total is happens f = absurd is
 
 pub fits_requested : (h h2 : HostState) (total : ℕ) → (w : World) × IsHost h w → FitsHost h total → LeadsByRequest h h2 → FitsHost h2 total

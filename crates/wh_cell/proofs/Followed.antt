@@ -1,12 +1,13 @@
 -- A host goes on from how its owner left it, and the book still fits it.
 use Rattle.std.proofs.Common.{◌≡◌, ℕ, List, [], ◌++◌, Option, refl, sym, subst, ◌∙◌}
+use Rattle.std.proofs.lemmas.Option.{same_Some}
 use Rattle.std.specs.Prelude.{Result, Ok, Err}
 use Rattle.wh_host_model.specs.declared.plain.InstId.{InstId}
 use Rattle.wh_host_model.specs.declared.plain.SwapError.{SwapError}
 use Rattle.wh_host_model.specs.declared.plain.TurnEnd.{TurnEnd}
 use Rattle.wh_host_model.specs.Space.Parts.{Space}
 use Rattle.wh_host_model.specs.Host.Worlds.{Tenant, World}
-use Rattle.wh_host_model.specs.Host.Events.{epoch, evict_commit, fetch_commit, provide, turn}
+use Rattle.wh_host_model.specs.Host.Events.{Event, evict_commit, fetch_commit, offer, provide, turn}
 use Rattle.wh_host_model.specs.Host.Happens.{AwaitsFrame, AwaitsFrameFor, IsTurn}
 use Rattle.wh_host_model.specs.Host.Misreading.{by_event, by_misreading}
 use Rattle.wh_swap.specs.DeviceCalls.{ServesOn, call_faults}
@@ -16,6 +17,7 @@ use Rattle.wh_host.specs.Backing.{KeepsBacking}
 use Rattle.wh_host.specs.Hosting.{HostState, IsHost}
 use Rattle.wh_host.specs.Paging.{MovesAnyhow, MovesOnly, MovesWith, provide_fault}
 use Rattle.wh_cell.specs.Going.{IsPartOf, fault_or_none}
+use Rattle.wh_cell.specs.Owning.{ComesOn}
 use Rattle.wh_cell.specs.LeftByOwner.{ComesFrom, FitsHost, LeftState, WorksOn, WorksAnyhowOn, left_as}
 use Rattle.wh_cell.proofs.Alike.{fits_on}
 use Rattle.wh_cell.proofs.Going.{anyhow_where_right, works_anyhow_by, works_anyhow_on, works_anyhow_to_itself, works_by, works_on, works_to_itself, works_within}
@@ -26,8 +28,12 @@ use Rattle.wh_cell.proofs.Requested.{misread_fits, moves_fit, pages_fit}
 pub works_by_turn : (h h2 : HostState) (id : InstId) (q : ℕ) (answer : TurnEnd) → ((w : World) → IsHost h w → (w2 : World) × IsTurn w id q answer w2 × IsHost h2 w2) → WorksOn h [] h2
 works_by_turn h h2 id q answer turns w st = let x = turns w st in (x.0, works_by w x.0 (turn id q) tt (answer, x.1), x.2)
 
+-- some page is offered
+abbrev some_offer : Event
+some_offer = offer (record { id = record { place = 0; number = 0 }; page = 0 }) 0
+
 pub works_by_moves : (h h2 : HostState) → MovesOnly h h2 → WorksOn h [] h2
-works_by_moves h h2 moves w st = let x = moves w st in (x.0, works_by w x.0 epoch tt x.1, x.2)
+works_by_moves h h2 moves w st = let x = moves w st in (x.0, works_by w x.0 some_offer tt x.1, x.2)
 
 pub works_by_provision : (h h2 : HostState) (id : InstId) (fault : Option SwapError) → MovesWith h id AwaitsFrame fault h2 → WorksOn h (fault_or_none fault) h2
 works_by_provision h h2 id fault moves w st = let x = moves w st in (x.0, works_by w x.0 (provide id fault) tt x.1, x.2)
@@ -129,6 +135,19 @@ module _ {D : Type 0} (keeps honest : D → Type 0) (faults : D → List SwapErr
       let fault = provide_fault result in
       comes_on_by left d d2 (fault_or_none fault) h h2 c (subst (λ more. ServesOn keeps honest faults d more d2) (provided_faults result) serves)
       (λ is. works_by_provision h h2 id fault (moves is)) (works_anyhow_by_provision h h2 id fault anyhow) whole
+
+  -- it came on, and came on again
+  pub comes_then : (left mid now : LeftState D) → ComesOn keeps honest faults left mid → ComesOn keeps honest faults mid now
+      → ComesOn keeps honest faults left now
+  comes_then left mid now first next =
+      let same = same_Some next.came.before first.device (sym next.came.left_it ∙ first.has) in
+      record {
+        device = next.device;
+        has = next.has;
+        came = comes_on_by left first.device next.device next.came.more mid.host now.host first.came
+            (subst (λ d. ServesOn keeps honest faults d next.came.more next.device) same next.came.serves) next.came.right next.came.anyhow
+            next.came.whole;
+      }
 
 -- ---- the book
 

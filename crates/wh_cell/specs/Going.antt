@@ -3,11 +3,11 @@ use Rattle.std.specs.Prelude.{◌≡◌, ◌⊎◌, List, [], ◌∷◌, ◌++�
 use Rattle.std.specs.List.{AllByRecursion}
 use Rattle.wh_host_model.specs.declared.plain.SwapError.{SwapError}
 use Rattle.wh_host_model.specs.Host.Worlds.{World}
-use Rattle.wh_host_model.specs.Host.Events.{Event, load, admit, invoke, refuel, cancel, retry, release, evict_commit, fetch_commit, provide}
+use Rattle.wh_host_model.specs.Host.Events.{Event, turn, load, admit, invoke, refuel, cancel, retry, release, offer, evict_begin, evict_commit, fetch_begin, fetch_commit, provide, epoch}
 use Rattle.wh_host_model.specs.Host.Happens.{AllHappen}
 use Rattle.wh_host_model.specs.Host.Misreading.{Step, by_event, by_misreading, AllBefall}
 
--- it is no request of an owner
+-- Threads do it, and no owner asks for it. Each event is named, so that a new one is neither a request nor work by itself.
 abbrev pub IsWork : Event → Type 0
 IsWork (load bytes) = ⊥
 IsWork (admit k p) = ⊥
@@ -16,7 +16,14 @@ IsWork (refuel id n) = ⊥
 IsWork (cancel id) = ⊥
 IsWork (retry id) = ⊥
 IsWork (release id) = ⊥
-IsWork other = Unit {0}
+IsWork epoch = ⊥
+IsWork (turn id q) = Unit {0}
+IsWork (offer page hash) = Unit {0}
+IsWork (evict_begin id) = Unit {0}
+IsWork (evict_commit id call fault) = Unit {0}
+IsWork (fetch_begin id) = Unit {0}
+IsWork (fetch_commit id call fault) = Unit {0}
+IsWork (provide id fault) = Unit {0}
 
 abbrev pub IsWorkOrMisread : Step → Type 0
 IsWorkOrMisread (by_event e) = IsWork e

@@ -232,15 +232,23 @@ impl<D: SwapDev, T: Ledger, C: Ledger, O: Ledger, E: Ledger, B: CellAgreements> 
         }
     }
 
-    /// Returns the roll of the host under the lock: what is there at one moment.
+    /// Acquires the lock, and returns it with the roll of the host that it finds there: what is there until the lock is released.
     ///
     /// # Errors
     /// Where memory was refused.
-    pub fn roll<R: Wait>(&self, rt: &R, alloc: Global) -> Result<Roll, HostError>
-        ensures { IfOk result (λ roll. (l : _) × IsInStep D.held D.keeps D.honest D.faults l
-            × IsRollOf l.host roll) }
+    pub fn roll<R: Wait>(
+        &self,
+        rt: &R,
+        alloc: Global,
+    ) -> (
+        MutexGuard<'_, Locked<D, T, C, O, E, B>>,
+        Result<Roll, HostError>,
+    )
+        ensures step { IsInStep D.held D.keeps D.honest D.faults (mutex_guard_value result.0) }
+        ensures roll { IfOk result.1 (IsRollOf (mutex_guard_value result.0).host) }
     {
         let guard = self.lock(rt);
-        guard.roll(alloc)
+        let roll = guard.roll(alloc);
+        (guard, roll)
     }
 }

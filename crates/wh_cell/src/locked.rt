@@ -7,7 +7,6 @@ ghost use Rattle.wh_host_model.specs.Host.Worlds.{World};
 ghost use Rattle.wh_host_model.specs.Space.Laws.{IsProvided};
 ghost use Rattle.wh_host_model.specs.Space.Offers.{OffersOf};
 ghost use Rattle.wh_host_model.specs.Space.Provide.{FailsToProvide, FailsTruly, OthersKeepMinimum, Provides, ProvidesTruly};
-ghost use Rattle.wh_host_model.specs.Space.Stores.{Epochs};
 ghost use Rattle.wh_host.specs.Backing.{KeepsBacking};
 ghost use Rattle.wh_host.specs.Hosting.{IsHost};
 ghost use Rattle.wh_host.specs.Left.{LeavesTurned};
@@ -16,7 +15,7 @@ ghost use Rattle.wh_host.specs.Sharing.{CanOffer};
 ghost use Rattle.wh_host.specs.Showing.{RepresentsReached};
 ghost use Rattle.wh_swap.specs.DeviceCalls.{ServesOn, call_faults};
 ghost use Rattle.wh_reclaim.specs.Together.{AreTogether};
-ghost use Rattle.wh_threads.specs.Counting.{IsZero, RanTurn, turns_of, charges_of};
+ghost use Rattle.wh_threads.specs.Counting.{IsZero, RanOwnTurn, RanTurn, all_charges, all_turns};
 ghost use Rattle.wh_cell.specs.Counted.{CountsEvictions, CountsOn, evictions_of};
 ghost use Rattle.wh_cell.specs.Knowing.{known_of};
 ghost use Rattle.wh_cell.specs.Ledgers.{HasLedgers};
@@ -283,6 +282,29 @@ impl<D: SwapDev, T: Ledger, C: Ledger, O: Ledger, E: Ledger, B: CellAgreements> 
         end
     }
 
+    /// Gives an instance a turn of at most so many charges, by the owner, which has the counts of all threads: none works meanwhile.
+    /// The owner's own count has the turn, and so do the books: one turn, and the charges by which the journal grew. The counts of
+    /// workers stay.
+    pub fn own_turn(&mut self, shares: &mut Shares<T, C, O, E>, id: InstId, quantum: u32) -> TurnEnd
+        requires room { shares.old.owner.turns < 2 ^ 64 - 1 }
+        ensures turns { (w : World) → IsHost self.old.host w
+            → (w2 : World) × IsTurn w id quantum result w2 × IsHost self.new.host w2 }
+        ensures counted { (taken : ℕ) × HasTakenOn self.old.host taken self.new.host
+            × RanOwnTurn shares.old taken shares.new
+            × (self.new.books ≡ record self.old.books {
+              turns = self.old.books.turns + 1;
+              charges = self.old.books.charges + taken;
+            }) }
+        ensures backing { KeepsBacking self.old.host.space self.new.host.space }
+        ensures memory { LeavesTurned id.place result self.old.host.space self.new.host.space }
+        ensures known { self.new.known ≡ self.old.known }
+        ensures left { self.new.left ≡ self.old.left }
+    {
+        let (end, taken) = counted_turn(&mut self.host, id, quantum);
+        self.books.own_turn(shares, taken);
+        end
+    }
+
     /// Offers a page of an instance for sharing, under any hash at all. Returns the outcome. The scanner counts it, and so do
     /// the books. No byte of any page changes.
     ///
@@ -315,18 +337,6 @@ impl<D: SwapDev, T: Ledger, C: Ledger, O: Ledger, E: Ledger, B: CellAgreements> 
             self.books.offer(scanner);
         }
         offered
-    }
-
-    /// Begins a new epoch: no page is marked as touched. It goes over all pages.
-    pub fn epoch(&mut self)
-        ensures moves { MovesOnly self.old.host self.new.host }
-        ensures clears { Epochs self.old.host.space self.new.host.space }
-        ensures backing { KeepsBacking self.old.host.space self.new.host.space }
-        ensures books { self.new.books ≡ self.old.books }
-        ensures known { self.new.known ≡ self.old.known }
-        ensures left { self.new.left ≡ self.old.left }
-    {
-        self.host.epoch();
     }
 
     /// Offers all pages of all instances for sharing, in the order of the instances' numbers, and those of each in order, each
@@ -409,8 +419,8 @@ impl<D: SwapDev, T: Ledger, C: Ledger, O: Ledger, E: Ledger, B: CellAgreements> 
 
     /// Shows whoever has the shares of all threads that the books are the sums of their counts, by kind. Changes nothing.
     pub fn agree(&mut self, shares: &mut Shares<T, C, O, E>)
-        ensures turns { self.old.books.turns ≡ turns_of shares.old.tallies }
-        ensures charges { self.old.books.charges ≡ charges_of shares.old.tallies }
+        ensures turns { self.old.books.turns ≡ all_turns shares.old }
+        ensures charges { self.old.books.charges ≡ all_charges shares.old }
         ensures offers { self.old.books.offers ≡ shares.old.offers }
         ensures evictions { self.old.books.evictions ≡ shares.old.evictions }
         ensures same { (self.new.host ≡ self.old.host) × (self.new.known ≡ self.old.known)

@@ -1,18 +1,29 @@
 -- Where a call can go on, the script has an open one.
-use Rattle.std.proofs.Common.{◌≡◌, ◌∙◌, ◌⊎◌, inl, inr, Result, Ok, Err, IfErr, refl, sym, subst, map}
-use Rattle.wh_script_laws.proofs.Opening.{open_is_known}
+use Rattle.std.proofs.Common.{◌≡◌, ◌∙◌, ◌⊎◌, inl, inr, ap, Option, None, Some, Result, Ok, Err, IfErr, refl, sym, subst, map}
+use Rattle.wh_host_model.specs.Host.Worlds.{for_frame, Tenant}
+use Rattle.wh_script_laws.specs.Following.{device_fault}
+use Rattle.wh_script_laws.proofs.Opening.{going_is_known}
 use Rattle.wh_engine.specs.declared.fault.RunFault.{RunFault}
 use Rattle.wh_engine.specs.declared.fault.RunFault.TheVariants.{Memory, Threads, Transcript}
-use Rattle.wh_engine.specs.Draining.{SomeGoes, StaysSo, StopsOnlyOpen, StopsOpenOr, StopsPrinting, StopsServing, WasOpen}
-use Rattle.wh_engine.specs.RepresentedScript.{ScriptHostState}
+use Rattle.wh_script_model.specs.Settings.{Settings}
+use Rattle.wh_script_model.specs.ScriptState.{ScriptState, SomeCallMayGo}
+use Rattle.wh_engine.specs.Draining.{SomeGoes, StopsOnlyOpen, StopsOpenOr, StopsPrinting, StopsServing, WasOpen}
+use Rattle.wh_engine.specs.RepresentedScript.{ScriptHostState, RepresentsScript}
 use Rattle.wh_engine.specs.declared.parts.NamedInstance.{NamedInstance}
 
-pub goes_open : {D : Type 0} (e : ScriptHostState D) → SomeGoes e.host.host → WasOpen e
-goes_open e goes settings m s =
+no_fault_yet : (t : Tenant) → (t.waiting_for ≡ None) ⊎ (t.waiting_for ≡ Some for_frame) → device_fault t.waiting_for ≡ None
+no_fault_yet t (inl none) = ap device_fault none
+no_fault_yet t (inr frame) = ap device_fault frame
+
+opens : {D : Type 0} (e : ScriptHostState D) → SomeGoes e.host.host → (settings : Settings) (m : ScriptState) → RepresentsScript settings e m → SomeCallMayGo m
+opens e goes settings m s =
     let known = s.stands in
     let reached = known.is.1 in
     let going = goes.1 known.world known.is.0 in
-    open_is_known reached.frames reached.slots reached.tax reached.events known.world reached.happen settings m (map (λ (x : NamedInstance). x.id.place) s.instances) goes.0.number going.0 known.knows going.1.0 going.2.0
+    going_is_known reached.frames reached.slots reached.tax reached.events known.world reached.happen settings m (map (λ (x : NamedInstance). x.id.place) s.instances) goes.0.number going.0 known.knows going.1.0 going.2.0 (no_fault_yet going.0 going.2.1)
+
+pub goes_open : {D : Type 0} (e : ScriptHostState D) → SomeGoes e.host.host → WasOpen e
+goes_open e goes = (goes, opens e goes)
 
 -- whatever stops it
 pub only_open : {D : Type 0} (e : ScriptHostState D) (fault : RunFault) → WasOpen e → StopsOnlyOpen e fault
@@ -28,15 +39,9 @@ printing_open e e2 (Err Threads) begins stops = elim stops [ ]
 printing_open e e2 (Err Transcript) (inl same) goes = goes_open e (subst (λ x. SomeGoes x.host.host) same goes)
 printing_open e e2 (Err Transcript) (inr was) goes = was
 
--- where pages alone had moved before
-pub only_open_before : {D : Type 0} (e e2 : ScriptHostState D) (fault : RunFault) → StaysSo e e2 → StopsOnlyOpen e2 fault → StopsOnlyOpen e fault
-only_open_before e e2 Threads stays was = λ settings m s. was settings m (stays settings m s)
-only_open_before e e2 Transcript stays was = λ settings m s. was settings m (stays settings m s)
-only_open_before e e2 Memory stays was = tt
-
-pub err_before : {D : Type 0} {A : Type 0} (e e2 : ScriptHostState D) (r : Result A RunFault) → StaysSo e e2 → IfErr r (StopsOnlyOpen e2) → IfErr r (StopsOnlyOpen e)
-err_before e e2 (Ok x) stays is = tt
-err_before e e2 (Err fault) stays is = only_open_before e e2 fault stays is
+-- where nothing had happened before
+pub err_before : {D : Type 0} {A : Type 0} (e e2 : ScriptHostState D) (r : Result A RunFault) → e2 ≡ e → IfErr r (StopsOnlyOpen e2) → IfErr r (StopsOnlyOpen e)
+err_before e e2 r same is = subst (λ x. IfErr r (StopsOnlyOpen x)) same is
 
 -- ---- of what may have to scan besides
 

@@ -13,7 +13,7 @@ use Rattle.wh_host_model.specs.Owners.{Entry}
 use Rattle.wh_script_model.specs.Settings.{Settings}
 use Rattle.wh_script_model.specs.ScriptState as script
 use Rattle.wh_script_model.specs.ScriptState.{ScriptState}
-use Rattle.wh_script_model.specs.Failing.{RunsAmid, gone_still, stands_still, runs_on}
+use Rattle.wh_script_model.specs.Failing.{RunsAmid, ZipAmid, gone_still, stands_still, runs_on}
 use Rattle.wh_script_model.specs.Served.{GoesNoFurther}
 use Rattle.wh_reclaim.specs.Whole.{IsAsWhole}
 use Rattle.wh_host.specs.Backing.{KeepsBacking}
@@ -33,7 +33,7 @@ use Rattle.wh_engine.specs.RepresentedScript.{AreNamedInstances, ScriptHostState
 use Rattle.wh_engine.proofs.Asked.{whole_of}
 use Rattle.wh_engine.proofs.Touching.{placed_at}
 use Rattle.wh_engine.proofs.Whole.{keeps_whole}
-use Rattle.wh_engine.proofs.Worked.{begins_amid, works_known}
+use Rattle.wh_engine.proofs.Worked.{works_known}
 use Rattle.wh_engine.proofs.Again.{stands_again}
 use Rattle.wh_engine.proofs.Found.{over_released, pair_at}
 use Rattle.wh_engine.proofs.Left.{kept_or_over}
@@ -126,32 +126,32 @@ name_run faults g _ (gone_still gone) = refl
 name_run faults g _ (stands_still live stands) = refl
 name_run faults g _ (runs_on live come replay rest) = refl
 
-run_keeps : (faults : List ℕ) (k : ℕ) (xs : List NamedInstance) (gs run : List script.NamedInstance) → AllZip (RunsAmid faults) gs run → AreNamedInstances k xs gs → AreNamedInstances k xs run
+run_keeps : (faults : List ℕ) (k : ℕ) (xs : List NamedInstance) (gs run : List script.NamedInstance) → ZipAmid RunsAmid faults gs run → AreNamedInstances k xs gs → AreNamedInstances k xs run
 run_keeps faults k [] [] [] all are = tt
 run_keeps faults k [] [] (r ∷ run) all are = absurd all
 run_keeps faults k [] (g ∷ gs) run all are = absurd are
 run_keeps faults k (x ∷ xs) [] run all are = absurd are
 run_keeps faults k (x ∷ xs) (g ∷ gs) [] all are = absurd all
-run_keeps faults k (x ∷ xs) (g ∷ gs) (r ∷ run) all are = (one_run faults k x g r all.0 are.0, run_keeps faults (k + 1) xs gs run all.1 are.1)
+run_keeps faults k (x ∷ xs) (g ∷ gs) (r ∷ run) all are = (one_run all.0 k x g r all.3 are.0, run_keeps all.1 (k + 1) xs gs run all.4 are.1)
 
-names_run : (faults : List ℕ) (gs run : List script.NamedInstance) → AllZip (RunsAmid faults) gs run → map (λ (g : script.NamedInstance). g.name) run ≡ map (λ (g : script.NamedInstance). g.name) gs
+names_run : (faults : List ℕ) (gs run : List script.NamedInstance) → ZipAmid RunsAmid faults gs run → map (λ (g : script.NamedInstance). g.name) run ≡ map (λ (g : script.NamedInstance). g.name) gs
 names_run faults [] [] all = refl
 names_run faults [] (r ∷ run) all = absurd all
 names_run faults (g ∷ gs) [] all = absurd all
-names_run faults (g ∷ gs) (r ∷ run) all = ap (λ ns. r.name ∷ ns) (names_run faults gs run all.1) ∙ ap (λ n. n ∷ map (λ (z : script.NamedInstance). z.name) gs) (name_run faults g r all.0)
+names_run faults (g ∷ gs) (r ∷ run) all = ap (λ ns. r.name ∷ ns) (names_run all.1 gs run all.4) ∙ ap (λ n. n ∷ map (λ (z : script.NamedInstance). z.name) gs) (name_run all.0 g r all.3)
 
 lives_so : (faults : List ℕ) (w : World) (g : script.NamedInstance) (o : Option Tenant) (t : Tenant) → follow.IsFollowed follow.ComeFurther (follow.StandsAmid faults) w g o → o ≡ Some t → g.is_released ≡ false
 lives_so faults w g _ t (follow.is_there tenancy calls sound) e = tenancy.is_live
 lives_so faults w g _ t (follow.is_gone gone) e = absurd (cc e)
 
 -- who has a number is an instance of the script that lives
-lives_at : (faults : List ℕ) (w : World) (gs : List script.NamedInstance) (ts : List (Option Tenant)) (i : ℕ) (t : Tenant) → AllZip (follow.IsFollowed follow.ComeFurther (follow.StandsAmid faults) w) gs ts → get_or ts i None ≡ Some t
+lives_at : (faults : List ℕ) (w : World) (gs : List script.NamedInstance) (ts : List (Option Tenant)) (i : ℕ) (t : Tenant) → follow.AreRunAmid faults w gs ts → get_or ts i None ≡ Some t
     → (g : script.NamedInstance) × (slice_get gs i ≡ Some g) × (g.is_released ≡ false)
 lives_at faults w [] [] i t h e = absurd (cc e)
 lives_at faults w [] (o ∷ ts) i t h e = absurd h
 lives_at faults w (g ∷ gs) [] i t h e = absurd h
-lives_at faults w (g ∷ gs) (o ∷ ts) zero t h e = (g, refl, lives_so faults w g o t h.0 e)
-lives_at faults w (g ∷ gs) (o ∷ ts) (suc i) t h e = lives_at faults w gs ts i t h.1 e
+lives_at faults w (g ∷ gs) (o ∷ ts) zero t h e = (g, refl, lives_so h.0 w g o t h.3 e)
+lives_at faults w (g ∷ gs) (o ∷ ts) (suc i) t h e = lives_at h.1 w gs ts i t h.4 e
 
 -- where none of them can go on, nobody has a call that can
 all_served : (faults : List ℕ) (settings : Settings) (m : ScriptState) (e : WholeState) (kept : List NamedInstance) (h2 : HostState) (w2 : World) → AreNamedInstances 0 e.instances m.instances → LeavesOut is_over kept e.instances → IsHost h2 w2
@@ -171,7 +171,7 @@ all_served faults settings m e kept h2 w2 are leaves is2 known rest i t there =
 
 -- then all have run
 ran_so : {D : Type 0} (faults : List ℕ) (settings : Settings) (m : ScriptState) (e : ScriptHostState D) (o2 : OwnedState D) (w2 : World) (s : RepresentsScript settings e m) → IsLed o2.host w2 → RunsKnown faults settings w2 m (map (λ (x : NamedInstance). x.id.place) s.instances)
-    → AllRest o2.host e.instances → (run : List script.NamedInstance) × AllZip (RunsAmid faults) m.instances run × RepresentsScript settings (record e { host = o2 }) (record m { instances = run })
+    → AllRest o2.host e.instances → (run : List script.NamedInstance) × ZipAmid RunsAmid faults m.instances run × RepresentsScript settings (record e { host = o2 }) (record m { instances = run })
 ran_so faults settings m e o2 w2 s led known rest =
     let whole = whole_on e s.instances s.invoked in
     let reached = led.1 in
@@ -220,7 +220,7 @@ ran_right keeps honest faults e o2 on none rest right settings m s =
     let w2 = did.0 in
     let before : tickets h.space ≡ 0 = ap (λ (z : Space). tickets z) s.stands.is.0.space ∙ s.stands.knows.none_out in
     let whole = whole_of h h2 w w2 s.stands.is.0 did.2 (whole_moves h.space h2.space c.whole before none) in
-    let begun = begins_amid met settings w m places (drains_begin settings w m places s.stands.knows) in
+    let begun = drains_begin settings w m places s.stands.knows in
     let known = works_known c.more settings w w2 m places s.stands.is.1 did.1 whole begun in
     ran_so met settings m e o2 w2 s (did.2, known.0) known.1 rest
 

@@ -1,18 +1,20 @@
 -- Drains: the device behind a host, and what calls come to.
-use Rattle.std.specs.Prelude.{◌≡◌, ◌⊎◌, ℕ, ◌+◌, List, [], ◌++◌, map, IsOk, Result, Ok, slice_get, Option, Some, None, false, true}
+use Rattle.std.specs.Prelude.{◌≡◌, ◌⊎◌, ℕ, ◌+◌, ◌≤◌, List, [], ◌++◌, map, IsOk, Result, Ok, slice_get, Option, Some, None, false, true}
 use Rattle.std.specs.List.{AllZip}
 use Rattle.wh_host_model.specs.declared.plain.InstId.{InstId}
 use Rattle.wh_host_model.specs.declared.plain.SwapError.{SwapError}
 use Rattle.wh_host_model.specs.SwapFaults.{swap_number}
 use Rattle.wh_script_model.specs.Settings.{Settings}
 use Rattle.wh_script_model.specs.ScriptState as script
-use Rattle.wh_script_model.specs.ScriptState.{ScriptState, SomeCallIsOpen}
-use Rattle.wh_script_model.specs.Failing.{RunsAmid}
+use Rattle.wh_script_model.specs.ScriptState.{ScriptState, SomeCallMayGo}
+use Rattle.wh_script_model.specs.Failing.{RunsAmid, ZipAmid}
 use Rattle.wh_host.specs.Hosting.{HostState}
 use Rattle.wh_host.specs.Paging.{IsGoing, Tells}
 use Rattle.wh_threads.specs.declared.channel.Message.{Message}
 use Rattle.wh_threads.specs.Handover.{SameMessages}
 use Rattle.wh_workers.specs.Serving.{AreRun, AreTurns}
+use Rattle.wh_cell.specs.Locking.{BooksState}
+use Rattle.wh_scheduler.specs.InHand.{OwnCount, RunsHere}
 use Rattle.wh_workers.specs.declared.crew.Served.{Served}
 use Rattle.wh_workers.specs.declared.crew.ServeError.{ServeError}
 use Rattle.wh_engine.specs.declared.fault.RunFault.{RunFault}
@@ -85,28 +87,36 @@ StopsServing Transcript = ⊥
 abbrev pub RunsEach : {D : Type 0} → ScriptHostState D → ScriptHostState D → (faults : List ℕ) → Type 0
 RunsEach e e2 faults =
     (settings : Settings) (m : ScriptState) → RepresentsScript settings e m
-    → (run : List script.NamedInstance) × AllZip (RunsAmid faults) m.instances run
+    → (run : List script.NamedInstance) × ZipAmid RunsAmid faults m.instances run
     × RepresentsScript settings e2 (record m { instances = run })
 
 -- it was served to its end
 abbrev pub IsServedWhole : Result Served ServeError → Type 0
 IsServedWhole served = (s : Served) × (served ≡ Ok s) × IsOk s.end
 
--- Turns of q charges were handed out, and workers have run those, each once; by so many the book has grown.
-pub record RunsTurns (q : ℕ) (before after : ℕ) : Type 0 where
+-- The owner ran some turns itself, 31 at most, where no thread worked. Behind these turns of q charges were handed out, and workers
+-- have run those, each once. By so many the book has grown.
+pub record RunsTurns (q : ℕ) (books : BooksState) (own : OwnCount) (books2 : BooksState) (own2 : OwnCount) : Type 0 where
+  pub here : ℕ
+  pub few : here ≤ 31
+  pub between : BooksState
+  pub ran_here : RunsHere books own here between own2
   pub turns : ℕ
   pub sent : List Message
   pub received : List Message
+  pub left : Option Message
   pub dispatched : AreTurns turns q sent
   pub once : SameMessages sent received
-  pub ran : AreRun before received after
-  pub grown : after ≡ before + turns
+  pub ran : AreRun between.turns left received books2.turns
+  pub grown : books2.turns ≡ between.turns + turns
 
--- whatever script the engine represents, an instance of it has an open call
+-- a call of some instance can go on, and whatever script the engine represents, an instance of it has an open call and
+-- stands for no fault of a device
 abbrev pub WasOpen : {D : Type 0} → ScriptHostState D → Type 0
-WasOpen e = (settings : Settings) (m : ScriptState) → RepresentsScript settings e m → SomeCallIsOpen m
+WasOpen e =
+    SomeGoes e.host.host × ((settings : Settings) (m : ScriptState) → RepresentsScript settings e m → SomeCallMayGo m)
 
--- why something stops: where threads can't run the calls, one was open before
+-- why something stops: where threads can't run the calls, one could go on before
 abbrev pub StopsOnlyOpen : {D : Type 0} → ScriptHostState D → RunFault → Type 0
 StopsOnlyOpen e Threads = WasOpen e
 StopsOnlyOpen e Transcript = WasOpen e

@@ -1,6 +1,7 @@
 // Pages of a script's instances that come to one frame, and the epochs in which they are touched.
 
 ghost use Rattle.std.specs.Prelude.{◌≡◌, ◌+◌, ℕ, IfErr, OnErr, OnOk, Option};
+ghost use Rattle.wh_host_model.specs.Space.Stores.{Epochs};
 ghost use Rattle.wh_cell.specs.Counted.{countable, offers_of};
 ghost use Rattle.wh_cell.specs.Scanned.{IsScanned};
 ghost use Rattle.wh_engine.specs.Draining.{StaysSo, StopsServing};
@@ -27,9 +28,11 @@ impl<D: SwapDev, T: Ledger, C: Ledger, O: Ledger, E: Ledger, B: CellAgreements> 
     /// Begins a new epoch, in which no page was touched yet.
     pub fn epoch(&mut self)
         ensures stands { StaysSo self.old self.new }
+        ensures clears { Epochs self.old.host.host.space self.new.host.host.space }
         ensures device { self.new.host.device ≡ self.old.host.device }
         ensures others { self.new ≡ record self.old { host = self.new.host } }
         ensures books { self.new.host.books ≡ self.old.host.books }
+        ensures own { self.new.host.own ≡ self.old.host.own }
     {
         self.host.epoch();
     }
@@ -50,7 +53,7 @@ impl<
     ///
     /// # Errors
     /// `Memory` where room was refused, and `Threads` where the scanner couldn't be started. Nothing was done then.
-    pub fn scan<H: PageHash + Drop + Send + 'static, R: Threads + Wait>(
+    pub fn scan<H: PageHash + Drop + Send + 'static, R: Threads + Wait + Copy + Send + 'static>(
         &mut self,
         rt: &R,
         alloc: Global,

@@ -14,7 +14,7 @@ use Rattle.wh_host.specs.Paging.{MovesOnly, MovesWith}
 use Rattle.wh_host.specs.Telling.{TellsChargesOf}
 use Rattle.wh_hand.specs.ChargesTaken.{charges_of_all}
 use Rattle.wh_hand.specs.Running.{AllGetOn, EventGetsOn, IsOwn, RunsByEvents, place_of_tenant, turn_count}
-use Rattle.wh_hand.specs.RunParts.{RunsPart, charges_taken}
+use Rattle.wh_hand.specs.RunParts.{RunsPart, charges_taken, quantum}
 use Rattle.wh_hand.specs.Lining.{MayGoOn, IsReadyFor}
 use Rattle.wh_hand.proofs.Sums.{live_by_places}
 use Rattle.wh_hand.proofs.Getting.{turned_gets_on}
@@ -43,22 +43,23 @@ reached_by w w2 events r happen = record {
 
 -- ---- from one host of the definitions to another
 
-abbrev pub runs_itself : (w : World) → RunsByEvents w 0 w
+abbrev pub runs_itself : (w : World) → RunsByEvents quantum w 0 w
 runs_itself w = record { events = []; happen = refl; gets_on = refl; own = tt; counted = omega arith; modules = refl; places = refl }
 
-abbrev pub runs_both : (w w2 w3 : World) (m n : ℕ) → RunsByEvents w m w2 → RunsByEvents w2 n w3 → RunsByEvents w (m + n) w3
+abbrev pub runs_both : (w w2 w3 : World) (m n : ℕ) → RunsByEvents quantum w m w2 → RunsByEvents quantum w2 n w3
+    → RunsByEvents quantum w (m + n) w3
 runs_both w w2 w3 m n a b = record {
   events = a.events ++ b.events;
   happen = happen_both w w2 w3 a.events b.events a.happen b.happen;
   gets_on = get_on_both w w2 w3 a.events b.events a.gets_on b.gets_on;
-  own = all_both IsOwn a.events b.events a.own b.own;
+  own = all_both (IsOwn quantum) a.events b.events a.own b.own;
   counted = (let x = a.counted in let y = b.counted in omega (arith, x, y));
   modules = b.modules ∙ a.modules;
   places = b.places ∙ a.places;
 }
 
 -- events that move pages alone
-abbrev pub runs_moved : (w w2 : World) (e : Event) → IsOwn e → Happens w e w2 → EventGetsOn w e w2 → OnlyMoves w w2 → RunsByEvents w 0 w2
+abbrev pub runs_moved : (w w2 : World) (e : Event) → IsOwn quantum e → Happens w e w2 → EventGetsOn w e w2 → OnlyMoves w w2 → RunsByEvents quantum w 0 w2
 runs_moved w w2 e own happens quiet moves = record {
   events = e ∷ [];
   happen = (w2, happens, refl);
@@ -85,7 +86,7 @@ on_both h h2 h3 m n a b f g w st reached =
     let turns = sum_by-append turn_count x.1.events y.1.events in
     (y.0, runs_both w x.0 y.0 m n x.1 y.1, omega (arith, turns, x.2, y.2), y.3)
 
-pub on_moved : (h h2 : HostState) (e : Event) → IsOwn e → ((w w2 : World) → OnlyMoves w w2 → Happens w e w2) → ((w w2 : World) → EventGetsOn w e w2)
+pub on_moved : (h h2 : HostState) (e : Event) → IsOwn quantum e → ((w w2 : World) → OnlyMoves w w2 → Happens w e w2) → ((w w2 : World) → EventGetsOn w e w2)
     → MovesOnly h h2 → RunsPart h 0 0 h2
 on_moved h h2 e own happens quiet moves w st reached =
     let x = moves w st in
@@ -103,17 +104,17 @@ pub turned_to : (h h2 : HostState) (id : InstId) (q call : ℕ) (answer : TurnEn
 turned_to h h2 id q call answer before after w w2 st st2 turned present told told2 =
     turn_counts w w2 id q call answer before after turned (λ t live. present w st t live) (told w st) (told2 w2 st2)
 
-pub on_turned : (h h2 : HostState) (id : InstId) (q call : ℕ) (answer : TurnEnd) (before after : Option ℕ) → 1 ≤ q → MayGoOn h id → IsReadyFor h id
+pub on_turned : (h h2 : HostState) (id : InstId) (q call : ℕ) (answer : TurnEnd) (before after : Option ℕ) → 1 ≤ q → q ≤ quantum → MayGoOn h id → IsReadyFor h id
     → ((w : World) → IsHost h w → (w2 : World) × IsTurn w id q answer w2 × IsHost h2 w2)
     → IsPresentCall h id call → TellsChargesOf h id call before → TellsChargesOf h2 id call after → RunsPart h (charges_taken before after) 1 h2
-on_turned h h2 id q call answer before after some goes ready turns present told told2 w st reached =
+on_turned h h2 id q call answer before after some within goes ready turns present told told2 w st reached =
     let x = turns w st in
     let c = turned_to h h2 id q call answer before after w x.0 st x.2 x.1 present told told2 in
-    let r : RunsByEvents w (charges_taken before after) x.0 = record {
+    let r : RunsByEvents quantum w (charges_taken before after) x.0 = record {
       events = turn id q ∷ [];
       happen = (x.0, (answer, x.1), refl);
       gets_on = (x.0, (answer, x.1), turned_gets_on h id q some goes ready w x.0 answer st reached x.1, refl);
-      own = (some, tt);
+      own = ((some, within), tt);
       counted = c.taken.charges;
       modules = c.taken.modules;
       places = c.taken.places;

@@ -23,7 +23,7 @@ use Rattle.wh_hand.specs.HandStates.{IsInOneHand}
 use Rattle.wh_hand.specs.Lining.{MayGoOn, KeepsGoing, KeepsOthersGoing, Lists}
 use Rattle.wh_hand.specs.Running.{EventGetsOn, IsOwn, RunsAll, RunsByEvents, AnyGoesOn, most_turns, turn_count, turns_among}
 use Rattle.wh_hand.specs.Moved.{IsMoved}
-use Rattle.wh_hand.specs.RunParts.{LeavesOf, RunsPart}
+use Rattle.wh_hand.specs.RunParts.{LeavesOf, RunsPart, quantum}
 use Rattle.wh_hand.proofs.Events.{live_moved, on_both, on_itself, on_moved, only_moves, reached_by, runs_both}
 use Rattle.wh_hand.proofs.Goers.{SameOthers, goes_in, keeps_all, keeps_others, lists_on, others_of_all, others_set, same_all}
 use Rattle.wh_hand.proofs.Together.{together_on}
@@ -53,7 +53,7 @@ moved_itself h = record {
 }
 
 -- pages have, in one event
-pub moved_by : (h h2 : HostState) (e : Event) → IsOwn e → ((w w2 : World) → OnlyMoves w w2 → Happens w e w2) → ((w w2 : World) → EventGetsOn w e w2)
+pub moved_by : (h h2 : HostState) (e : Event) → IsOwn quantum e → ((w w2 : World) → OnlyMoves w w2 → Happens w e w2) → ((w w2 : World) → EventGetsOn w e w2)
     → (w : World) × IsHost h w → MovesOnly h h2 → KeepsBacking h.space h2.space → IsMoved h h2
 moved_by h h2 e own happens quiet some moves backing = record {
   runs = on_moved h h2 e own happens quiet moves;
@@ -137,14 +137,14 @@ leaves_many a b given left k many f w st reached =
 -- ---- a whole run
 
 pub run_is : (a b c : HostState) (given left : ℕ) (goes : Bool) → left ≤ given → RunsPart a 0 0 b → LeavesOf b given left c → Tells c goes AnyGoesOn
-    → RunsAll a given (record { charges = given - left; goes_on = goes }) c
+    → RunsAll quantum a given (record { charges = given - left; goes_on = goes }) c
 run_is a b c given left goes few f g tells w st reached =
     let x = f w st reached in
     let y = g x.0 x.3 (reached_by w x.0 x.1.events reached x.1.happen) in
     let none : 0 + (given - left) ≡ given - left = omega arith in
-    let both : RunsByEvents w (0 + (given - left)) y.0 = runs_both w x.0 y.0 0 (given - left) x.1 y.1 in
+    let both : RunsByEvents quantum w (0 + (given - left)) y.0 = runs_both w x.0 y.0 0 (given - left) x.1 y.1 in
     let counts = both.counted in
-    let runs : RunsByEvents w (given - left) y.0 = record {
+    let runs : RunsByEvents quantum w (given - left) y.0 = record {
       events = x.1.events ++ y.1.events;
       happen = both.happen;
       gets_on = both.gets_on;

@@ -13,14 +13,14 @@ use Rattle.wh_host.specs.Paging.{IsGoing}
 use Rattle.wh_hand.specs.declared.running.Ran.{Ran}
 use Rattle.wh_hand.specs.ChargesTaken.{charges_of_all}
 
--- It is no request of an owner: a turn of one charge at least, an offer, a provision in which no call of the device
--- failed, or a new epoch.
-abbrev pub IsOwn : Event → Type 0
-IsOwn (turn id q) = 1 ≤ q
-IsOwn (offer page hash) = Unit {0}
-IsOwn (provide id fault) = fault ≡ None
-IsOwn epoch = Unit {0}
-IsOwn other = ⊥
+-- It is no request of an owner: a turn of one charge at least and of a quantum at most, an offer, a provision in which no call
+-- of the device failed, or a new epoch.
+abbrev pub IsOwn : (quantum : ℕ) → Event → Type 0
+IsOwn quantum (turn id q) = (1 ≤ q) × (q ≤ quantum)
+IsOwn quantum (offer page hash) = Unit {0}
+IsOwn quantum (provide id fault) = fault ≡ None
+IsOwn quantum epoch = Unit {0}
+IsOwn quantum other = ⊥
 
 -- 1 for a turn
 abbrev pub turn_count : Event → ℕ
@@ -53,14 +53,14 @@ abbrev pub place_of_tenant : Option Tenant → Option ℕ
 place_of_tenant None = None
 place_of_tenant (Some t) = Some t.place
 
--- Events lead from one host to the other that are no requests, in each turn of which its call gets on. All calls of live
--- instances together took so many charges in them. The modules are the same, and each number has the instance at the place
--- where it was, or none as before.
-pub record RunsByEvents (w : World) (charges : ℕ) (w2 : World) : Type 0 where
+-- Events lead from one host to the other that are no requests, by turns of a quantum at most, in each of which its call gets
+-- on. All calls of live instances together took so many charges in them. The modules are the same, and each number has the
+-- instance at the place where it was, or none as before.
+pub record RunsByEvents (quantum : ℕ) (w : World) (charges : ℕ) (w2 : World) : Type 0 where
   pub events : List Event
   pub happen : AllHappen w events w2
   pub gets_on : AllGetOn w events w2
-  pub own : AllByRecursion IsOwn events
+  pub own : AllByRecursion (IsOwn quantum) events
   pub counted : charges_of_all w2 ≡ charges_of_all w + charges
   pub modules : w2.modules ≡ w.modules
   pub places : map place_of_tenant w2.tenants ≡ map place_of_tenant w.tenants
@@ -73,17 +73,17 @@ AnyGoesOn w = (id : InstId) × IsGoing w id
 abbrev pub most_turns : ℕ
 most_turns = 2 ^ 64 - 1
 
--- A run for so many charges at most came to this: it leads there by events that are no requests, in which just as many
--- charges were taken as it says. It goes on exactly where some instance can; and then all charges were taken, or calls got
--- on in 2^64 - 1 turns.
-pub record IsWholeRun (w : World) (given : ℕ) (ran : Ran) (w2 : World) : Type 0 where
-  pub runs : RunsByEvents w ran.charges w2
+-- A run for so many charges at most came to this: it leads there by events that are no requests, by turns of a quantum at
+-- most, in which just as many charges were taken as it says. It goes on exactly where some instance can; and then all charges
+-- were taken, or calls got on in 2^64 - 1 turns.
+pub record IsWholeRun (quantum : ℕ) (w : World) (given : ℕ) (ran : Ran) (w2 : World) : Type 0 where
+  pub runs : RunsByEvents quantum w ran.charges w2
   pub reached : IsReached w2
   pub within : ran.charges ≤ given
   pub over : MatchBool ran.goes_on (AnyGoesOn w2) (¬ (AnyGoesOn w2))
   pub uses : ran.goes_on ≡ true → (ran.charges ≡ given) ⊎ (most_turns ≤ turns_among runs.events)
 
 -- for whatever host it stands to which events alone lead
-abbrev pub RunsAll : HostState → ℕ → Ran → HostState → Type 0
-RunsAll h given ran h2 =
-    (w : World) → IsHost h w → IsReached w → (w2 : World) × IsWholeRun w given ran w2 × IsHost h2 w2
+abbrev pub RunsAll : (quantum : ℕ) → HostState → ℕ → Ran → HostState → Type 0
+RunsAll quantum h given ran h2 =
+    (w : World) → IsHost h w → IsReached w → (w2 : World) × IsWholeRun quantum w given ran w2 × IsHost h2 w2

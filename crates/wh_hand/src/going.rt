@@ -11,7 +11,7 @@ ghost use Rattle.wh_host_model.specs.Host.Worlds.{World};
 ghost use Rattle.wh_hand.specs.Lining.{MayGoOn, IsReadyFor, KeepsGoing, KeepsOthersGoing, Lists};
 ghost use Rattle.wh_hand.specs.Running.{AnyGoesOn};
 ghost use Rattle.wh_hand.specs.Moved.{IsMoved};
-ghost use Rattle.wh_hand.specs.RunParts.{RunsPart, charges_taken};
+ghost use Rattle.wh_hand.specs.RunParts.{RunsPart, charges_taken, quantum};
 
 use crate::line::settle;
 use crate::pace::Pace;
@@ -41,6 +41,7 @@ fn charges_of_turn(before: Option<u64>, after: Option<u64>) -> u64
 // Gives an instance that can go on a turn of q charges: how many were taken.
 fn counted_turn(host: &mut Host, id: InstId, q: u64) -> u64
     requires charges { 1 ≤ q }
+    requires within { q ≤ quantum }
     requires goes { MayGoOn host.old id }
     requires ready { IsReadyFor host.old id }
     ensures runs { RunsPart host.old result 1 host.new }

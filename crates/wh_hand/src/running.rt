@@ -87,7 +87,7 @@ impl Hand {
     ///
     /// It takes no memory, and looks at no instance that can't go on, but for new epochs, which go over all pages.
     pub fn run(&mut self, charges: u64) -> Ran
-        ensures runs { RunsAll self.old.host charges result self.new.host }
+        ensures runs { RunsAll 1000 self.old.host charges result self.new.host }
         ensures whole { IsAsWhole self.old.host.space self.new.host.space }
         ensures output { self.new.output ≡ self.old.output }
     {

@@ -1,5 +1,5 @@
 -- A turn of an instance that was brought on beside others is a turn of the host's definitions, once all is laid back.
-use Rattle.std.proofs.Common.{◌≡◌, ◌≢◌, ◌∙◌, inl, inr, ℕ, ◌≤◌, ◌&&◌, Bool, true, false, cond, min, Option, List, [], ◌∷◌, refl, sym, ap, subst, arith}
+use Rattle.std.proofs.Common.{◌≡◌, ◌≢◌, ◌∙◌, inl, inr, ℕ, ◌≤◌, ◌&&◌, Bool, true, false, cond, min, Option, List, [], ◌∷◌, refl, slice_get, sym, ap, subst, arith}
 use Rattle.std.proofs.Math.Nat.{min-eq_left}
 use Rattle.std.proofs.lemmas.Bool.{cases_lt}
 use Rattle.wh_model.specs.declared.memory.Need.{Need}
@@ -37,7 +37,7 @@ use Rattle.wh_overlay.proofs.LaidTakes.{Laying, proceeds_laid, proceeds_none, wh
 use Rattle.wh_overlay.proofs.SomeLaid.{none_laid}
 use Rattle.wh_space.specs.Steps.{limit_by, page_limit}
 use Rattle.wh_space.specs.StepViews.{KeepsRest}
-use Rattle.wh_host.specs.Beside.{CameThere, HasRun, RunsBeside, beside_setting, memory_with}
+use Rattle.wh_host.specs.Beside.{CameThere, CanGoOnFrom, HasRun, RunsBeside, beside_setting, memory_with}
 use Rattle.wh_host.specs.Lent.{TurnsLent, turn_end_of}
 use Rattle.wh_host.specs.Lying.{LiesAt}
 use Rattle.wh_host.proofs.Turns.{Shown, shown_turn}
@@ -144,13 +144,22 @@ again_end x k n c cs made x2 answer again done =
     let is = done.is_answer ∙ ap (λ a. answered (brought_on x c cs k n) a done.still) again in
     ap turn_end_of is ∙ again_or_kept (done.still && is_fault x.waiting_for) done.still
 
+-- one that can go on came to where it can
+pub can_from : (s : Space) (i : ℕ) (answer : TurnOutcome) (n q : ℕ) (answer2 : TurnOutcome) (q2 : ℕ) (x : HostInstanceState) (still : Bool) → CameThere s i answer n q answer2 q2 → turn_end_of (answered x answer2 still) ≡ turn_answer.Again → CanGoOnFrom answer
+can_from s i (came.Frame need) n q answer2 q2 x still there again = tt
+can_from s i came.Again n q answer2 q2 x still there again = tt
+can_from s i (came.Returned result) n q answer2 q2 x still (same, many) again = absurd (let bad = sym (ap (λ a. turn_end_of (answered x a still)) same) ∙ again in cc bad)
+can_from s i (came.Trapped trap) n q answer2 q2 x still (same, many) again = absurd (let bad = sym (ap (λ a. turn_end_of (answered x a still)) same) ∙ again in cc bad)
+can_from s i came.Fuel n q answer2 q2 x still (same, many) again = absurd (let bad = sym (ap (λ a. turn_end_of (answered x a still)) same) ∙ again in cc bad)
+
 -- ---- one that has run
 
 -- nothing is written yet
-none_whole : (s : Space) (i : ℕ) (first u : UpperState) → first.pages ≡ [] → first.grown ≡ 0 → first.taken ≡ 0 → IsWholeOver s i u → IsWholeOver s i first
-none_whole s i first u none same taken (over, whole) = (
+none_whole : (s : Space) (i : ℕ) (first u : UpperState) → first.pages ≡ [] → first.reads ≡ [] → first.grown ≡ 0 → first.taken ≡ 0 → IsWholeOver s i u → IsWholeOver s i first
+none_whole s i first u none unread same taken (over, whole) = (
   record {
     at_hand = subst (AreAtHand s i) (sym none) (λ k x there. absurd (cc there));
+    there = λ p is. absurd (let bad = sym (ap (λ rs. slice_get rs is.0) unread) ∙ is.1 in cc bad);
     frames = (let lacking : frames_lacking s i first.pages ≡ 0 = ap (frames_lacking s i) none in omega (arith, lacking));
     lent = omega (arith, taken);
     counted = (let few = over.counted in omega (arith, few, same));
@@ -159,8 +168,8 @@ none_whole s i first u none same taken (over, whole) = (
   subst AreWhole (sym none) (λ k x there. absurd (cc there)),
 )
 
-none_seen : (s : Space) (i : ℕ) (first : UpperState) → first.pages ≡ [] → first.grown ≡ 0 → with_upper (view s i) first ≡ view s i
-none_seen s i first none same = sym (none_laid s i first none same).sees
+pub none_seen : (s : Space) (i : ℕ) (first : UpperState) → first.pages ≡ [] → first.reads ≡ [] → first.grown ≡ 0 → with_upper (view s i) first ≡ view s i
+none_seen s i first none unread same = sym (none_laid s i first none unread same).sees
 
 abbrev pub most_of : ℕ → Space → ℕ → ℕ
 most_of limit s place = min limit (page_limit s place)
@@ -169,10 +178,10 @@ most_is : (l : LinkedState) (limit : ℕ) (s0 s : Space) (place : ℕ) (x : Host
 most_is l limit s0 s place x t looks lies = min-eq_left (subst (λ (c : Option Claimed). limit ≤ limit_by c) looks.claim lies.within)
 
 -- it is the instance that lies in the memory
-pub over_none : (l : LinkedState) (limit : ℕ) (s0 s : Space) (place : ℕ) (x : HostInstanceState) (t : Tenant) (first : UpperState) → LooksSame place s0 s → LiesAt l limit x s place t → first.pages ≡ [] → first.grown ≡ 0
+pub over_none : (l : LinkedState) (limit : ℕ) (s0 s : Space) (place : ℕ) (x : HostInstanceState) (t : Tenant) (first : UpperState) → LooksSame place s0 s → LiesAt l limit x s place t → first.pages ≡ [] → first.reads ≡ [] → first.grown ≡ 0
     → RepresentsTenant (beside_setting l limit s0 place) x (memory_with s0 place limit first) t
-over_none l limit s0 s place x t first looks lies none same =
-    let seen : sees (memory_with s0 place limit first) ≡ view s place = none_seen s0 place first none same ∙ sym looks.sees in
+over_none l limit s0 s place x t first looks lies none unread same =
+    let seen : sees (memory_with s0 place limit first) ≡ view s place = none_seen s0 place first none unread same ∙ sym looks.sees in
     represents_over (linked_parts l) (most_of limit s0 place) (λ b. b) (λ b need. Unit {0}) (λ b b2. Unit {0}) sees IsReadyOver IsOverSame (view s place) (memory_with s0 place limit first) seen x t
     (subst (λ z. IsTenant l z x (view s place) t) (sym (most_is l limit s0 s place x t looks lies)) lies.is)
 
@@ -183,9 +192,9 @@ parts_of : (o : OverlayState) (s : Space) (i l : ℕ) (u : UpperState) → o.low
 parts_of o s i l u a b c d = rw (← a, ← b, ← c, ← d) refl
 
 -- what is known of one that has run over it
-pub ran_beside : (l : LinkedState) (limit q : ℕ) (s : Space) (place : ℕ) (x : HostInstanceState) (t : Tenant) (o o2 : OverlayState) (answer : TurnOutcome) (k n : ℕ) (x1 : HostInstanceState) (first u : UpperState) → IsAtTerm t → LiesAt l limit x s place t → o ≡ memory_with s place limit first → first.pages ≡ [] → first.grown ≡ 0 → first.taken ≡ 0
+pub ran_beside : (l : LinkedState) (limit q : ℕ) (s : Space) (place : ℕ) (x : HostInstanceState) (t : Tenant) (o o2 : OverlayState) (answer : TurnOutcome) (k n : ℕ) (x1 : HostInstanceState) (first u : UpperState) → IsAtTerm t → LiesAt l limit x s place t → o ≡ memory_with s place limit first → first.pages ≡ [] → first.grown ≡ 0 → first.taken ≡ 0 → first.reads ≡ []
     → IsOverSame o o2 → u ≡ o2.upper → IsWholeOver o2.lower o2.place u → StaysBut x x1 → AdvancesAny (setting_of l sees IsReadyOver IsOverSame (min o.page_limit (page_limit o.lower o.place))) q x o answer k n x1 o2 → RunsBeside l limit q s place x t answer k n x1 u
-ran_beside l limit q s place x t o o2 answer k n x1 first u computes lies is none same taken keeps upper whole stays advances =
+ran_beside l limit q s place x t o o2 answer k n x1 first u computes lies is none same taken unread keeps upper whole stays advances =
     let keeps2 = subst (λ (z : OverlayState). IsOverSame z o2) is keeps in
     let advances2 = subst (λ (z : OverlayState). AdvancesAny (setting_of l sees IsReadyOver IsOverSame (min z.page_limit (page_limit z.lower z.place))) q x z answer k n x1 o2) is advances in
     let is2 : o2 ≡ memory_with s place limit u = parts_of o2 s place limit u keeps2.lower keeps2.place keeps2.page_limit (sym upper) in
@@ -195,20 +204,21 @@ ran_beside l limit q s place x t o o2 answer k n x1 first u computes lies is non
       no_pages = none;
       not_grown = same;
       none_taken = taken;
+      no_reads = unread;
       lent = ap (λ (z : UpperState). z.lent) upper ∙ keeps2.lent;
       whole = subst (λ (z : OverlayState). IsWholeOver z.lower z.place u) is2 whole;
       stays = stays;
       advances = λ e es is_open. subst (λ z. AdvancesTenant (beside_setting l limit s place) q (memory_with s place limit first) t e es answer k n x1 z) is2
-          (advances2 t e es is_open (over_none l limit s s place x t first (looks_itself place s) lies none same));
+          (advances2 t e es is_open (over_none l limit s s place x t first (looks_itself place s) lies none unread same));
     }
 
 -- it can begin there
-pub may_run : (l : LinkedState) (limit : ℕ) (s : Space) (place : ℕ) (x : HostInstanceState) (t : Tenant) (o : OverlayState) (first : UpperState) → IsAtTerm t → LiesAt l limit x s place t → o ≡ memory_with s place limit first → first.pages ≡ [] → first.grown ≡ 0
+pub may_run : (l : LinkedState) (limit : ℕ) (s : Space) (place : ℕ) (x : HostInstanceState) (t : Tenant) (o : OverlayState) (first : UpperState) → IsAtTerm t → LiesAt l limit x s place t → o ≡ memory_with s place limit first → first.pages ≡ [] → first.grown ≡ 0 → first.reads ≡ []
     → HasOpenCall (setting_of l sees IsReadyOver IsOverSame (min o.page_limit (page_limit o.lower o.place))) x o
-may_run l limit s place x t o first computes lies is none same = (
+may_run l limit s place x t o first computes lies is none same unread = (
   t,
   λ empty. (let bad = sym computes.calls ∙ empty in cc bad),
-  subst (λ (z : OverlayState). RepresentsTenant (setting_of l sees IsReadyOver IsOverSame (min z.page_limit (page_limit z.lower z.place))) x z t) (sym is) (over_none l limit s s place x t first (looks_itself place s) lies none same),
+  subst (λ (z : OverlayState). RepresentsTenant (setting_of l sees IsReadyOver IsOverSame (min z.page_limit (page_limit z.lower z.place))) x z t) (sym is) (over_none l limit s s place x t first (looks_itself place s) lies none unread same),
 )
 
 module _ (l : LinkedState) (limit q : ℕ) (s0 s : Space) (place : ℕ) (x : HostInstanceState) (t : Tenant) (answer : TurnOutcome) (k n : ℕ) (x1 : HostInstanceState) (u : UpperState) (h : HasRun l limit q s0 s place x t answer k n x1 u) where
@@ -216,7 +226,7 @@ module _ (l : LinkedState) (limit q : ℕ) (s0 s : Space) (place : ℕ) (x : Hos
   least = most_is l limit s0 s place x t h.looks h.lies
 
   over_first : RepresentsTenant (beside_setting l limit s0 place) x (memory_with s0 place limit h.runs.first) t
-  over_first = over_none l limit s0 s place x t h.runs.first h.looks h.lies h.runs.no_pages h.runs.not_grown
+  over_first = over_none l limit s0 s place x t h.runs.first h.looks h.lies h.runs.no_pages h.runs.no_reads h.runs.not_grown
 
   pub can_finish : CanGoFurther x1.journal.open_calls k n
   can_finish =
@@ -272,8 +282,9 @@ module _ (l : LinkedState) (limit q : ℕ) (s0 s : Space) (place : ℕ) (x : Hos
               let goes = subst (λ d. Proceeds sees IsReadyOver IsOverSame t.inst q e.call (memory_with s0 place limit runs.first) t.rest d a.to k n (memory_with s0 place limit u) a.rest a.doing) doing a.proceeds in
               let same : u ≡ runs.first = ap (λ (o : OverlayState). o.upper) (proceeds_none none goes) in
               let pages : u.pages ≡ [] = ap (λ (z : UpperState). z.pages) same ∙ runs.no_pages in
+              let reads : u.reads ≡ [] = ap (λ (z : UpperState). z.reads) same ∙ runs.no_reads in
               let grown : u.grown ≡ 0 = ap (λ (z : UpperState). z.grown) same ∙ runs.not_grown in
-              subst (IsLaid s place u) (sym (h.left none)) (none_laid s place u pages grown))
+              subst (IsLaid s place u) (sym (h.left none)) (none_laid s place u pages reads grown))
         ]
 
     laying : (e : Entry) (es : List Entry) → t.open_calls ≡ e ∷ es → Laying s0 s place (memory_with s0 place limit h.run.runs.first) (memory_with s0 place limit u) n s s2
@@ -282,8 +293,8 @@ module _ (l : LinkedState) (limit q : ℕ) (s0 s : Space) (place : ℕ) (x : Hos
         record {
           looks = h.run.looks;
           sound = h.sound;
-          lies = record { lower = refl; place = refl; lent = (let few = h.run.frames in let lent = runs.lent in omega (arith, few, lent)); whole = none_whole s0 place runs.first u runs.no_pages runs.not_grown runs.none_taken runs.whole };
-          first = none_laid s place runs.first runs.no_pages runs.not_grown;
+          lies = record { lower = refl; place = refl; lent = (let few = h.run.frames in let lent = runs.lent in omega (arith, few, lent)); whole = none_whole s0 place runs.first u runs.no_pages runs.no_reads runs.not_grown runs.none_taken runs.whole };
+          first = none_laid s place runs.first runs.no_pages runs.no_reads runs.not_grown;
           last = laid_there e es is_open;
           none = h.left;
         }

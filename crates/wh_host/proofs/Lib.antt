@@ -9,6 +9,7 @@ mod BesideTurns
 mod Unmoved
 mod RunnerLists
 mod RunnerTurns
+mod Reaching
 pub mod Hosts
 mod Requests
 mod Comers

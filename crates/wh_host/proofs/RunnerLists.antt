@@ -143,8 +143,8 @@ more_out E F ys i y n F2 y2 out there free t = record {
     before : entry_at E y.id.place ≡ Some t.entry
     before = sym (out.elsewhere y.id.place (λ k a at sits. apart_from a (out.each k a at sits))) ∙ t.was
 
-    room_then : (u : UpperState) × (with_lent n y.upper ≡ Some u) × (u.pages ≡ []) × (u.grown ≡ 0) × (u.taken ≡ 0)
-    room_then = let r = free.1 in let u = r.0 in (record u { lent = n; taken = 0 }, ap (with_lent n) r.1, r.2, r.3, refl)
+    room_then : (u : UpperState) × (with_lent n y.upper ≡ Some u) × (u.pages ≡ []) × (u.grown ≡ 0) × (u.taken ≡ 0) × (u.reads ≡ [])
+    room_then = let r = free.1 in let u = r.0 in (record u { lent = n; taken = 0 }, ap (with_lent n) r.1, r.2, r.3, refl, r.5)
 
     mine : IsOut E F2 y2 SitsThere
     mine = subst (λ z. IsOut E F2 z SitsThere) (sym t.runner) (record {

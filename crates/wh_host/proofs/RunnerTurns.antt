@@ -278,8 +278,8 @@ laid_next F0 m0 xs F m ys i y F2 m2 y2 h there lays = record {
     free_then (inr f) free = let r = f.1 in r.free
 
     answer_then : {q : ℕ} → LaysAt q F m y F2 m2 y2 → HasAnswer y y2
-    answer_then (inl f) = (ap (λ (z : Runner). z.id) f.3, λ sits. absurd (not_both y sits f.0))
-    answer_then (inr f) = (let r = f.1 in (r.id, λ sits. (series_end y.ran r.end, r.answer)))
+    answer_then (inl f) = (ap (λ (z : Runner). z.id) f.3, λ sits. absurd (not_both y sits f.0), λ gone. ap (λ (z : Runner). z.answer) f.3)
+    answer_then (inr f) = (let r = f.1 in (r.id, λ sits. (r.end, r.answer, r.again, r.upper), λ gone. absurd (not_both y f.0 gone)))
 
     backs : {q : ℕ} → LaysAt q F m y F2 m2 y2 → KeepsBacking m m2
     backs (inl f) = same_backing m m2 f.2
@@ -426,8 +426,9 @@ heard_all h w q most ys ys2 ys3 st long long2 free all answers k y3 there none t
         let at3 = at_index ys3 j y3 (omega (arith, less, long, long2)) in
         let z3 = slice_index_or ys3 j y3 in
         let a = answers j z3 at3 in
+        let b = a.0 in
         let r = all j a.0 a.1 in
         let runs = r.2 in
         let e = one_runner r.0 z (sym r.1 ∙ at) in
         let m = a.2.1 (runs.taken ∙ ap (λ (x : Runner). x.taken) e ∙ sits) in
-        (j, z3, at3, a.2.0 ∙ runs.id ∙ ap (λ (x : Runner). x.id) e ∙ same, m.0, m.1)
+        (j, z3, at3, a.2.0 ∙ runs.id ∙ ap (λ (x : Runner). x.id) e ∙ same, series_end b.ran m.0, m.1)

@@ -1,5 +1,5 @@
 -- How an instance is brought on beside others, and what its turns are answered once all is laid back.
-use Rattle.std.specs.Prelude.{◌≡◌, ◌⊎◌, ℕ, ◌≤◌, min, List, [], ◌∷◌, length}
+use Rattle.std.specs.Prelude.{◌≡◌, ◌⊎◌, ℕ, ◌+◌, ◌≤◌, min, List, [], ◌∷◌, length}
 use Rattle.wh_host_model.specs.declared.plain.TurnEnd.{TurnEnd}
 use Rattle.wh_host_model.specs.Host.CallAnswers.{Turn}
 use Rattle.wh_host_model.specs.Host.Worlds.{Tenant}
@@ -37,6 +37,7 @@ pub record RunsBeside (l : LinkedState) (limit q : ℕ) (s : Space) (place : ℕ
   pub no_pages : first.pages ≡ []
   pub not_grown : first.grown ≡ 0
   pub none_taken : first.taken ≡ 0
+  pub no_reads : first.reads ≡ []
   pub lent : u.lent ≡ first.lent
   pub whole : IsWholeOver s place u
   pub stays : StaysBut x x1
@@ -68,3 +69,15 @@ abbrev pub EndsTurn : LinkedState → ℕ → ℕ → ℕ → Space → Tenant �
 EndsTurn l limit q n s t end place x2 s2 =
     (few : ℕ) × IsWholeOrCut q few n end × (n ≤ few) × (t2 : Tenant) × Turn few s t end s2 t2 × Spends n t t2
     × LiesAt l limit x2 s2 place t2
+
+-- the room with nothing in it
+abbrev pub with_nothing : UpperState → UpperState
+with_nothing u = record u { pages = []; reads = []; grown = 0; room = u.room + length u.pages; taken = 0 }
+
+-- a call that came to this can go on, once all is laid back
+abbrev pub CanGoOnFrom : TurnOutcome → Type 0
+CanGoOnFrom (came.Frame need) = Unit {0}
+CanGoOnFrom came.Again = Unit {0}
+CanGoOnFrom (came.Returned result) = ⊥
+CanGoOnFrom (came.Trapped trap) = ⊥
+CanGoOnFrom came.Fuel = ⊥

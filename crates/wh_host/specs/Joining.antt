@@ -1,6 +1,7 @@
 -- How instances join a round, and leave it.
 use Rattle.std.specs.Prelude.{◌≡◌, ◌≢◌, ◌⊎◌, ℕ, ◌*◌, ◌+◌, ◌≤◌, true, false, List, Option, Some, None, length, slice_get, slice_set}
 use Rattle.wh_host_model.specs.declared.plain.TurnEnd.{TurnEnd}
+use Rattle.wh_host_model.specs.declared.plain.TurnEnd.TheVariants.{Again}
 use Rattle.wh_host_model.specs.Host.Worlds.{Tenant}
 use Rattle.wh_host_model.specs.Space.Parts.{Space}
 use Rattle.wh_imports.specs.LinkedState.{LinkedState}
@@ -15,7 +16,7 @@ use Rattle.wh_host.specs.declared.rounds.Runner.{Runner}
 use Rattle.wh_host.specs.Backing.{KeepsBacking}
 use Rattle.wh_host.specs.declared.rounds.SeriesEnd.{SeriesEnd}
 use Rattle.wh_host.specs.declared.beside.RanBeside.{RanBeside}
-use Rattle.wh_host.specs.Beside.{EndsTurn, HasRun}
+use Rattle.wh_host.specs.Beside.{CanGoOnFrom, EndsTurn, HasRun, with_nothing}
 use Rattle.wh_host.specs.Hosting.{HostState, entry_at}
 use Rattle.wh_host.specs.Left.{LeavesTurned}
 use Rattle.wh_host.specs.Rounds.{AreTakenOut, IsFree, RanThere, lent_to, lent_to_all}
@@ -64,7 +65,7 @@ IsLeftOut rs ys y =
 
 -- to what so many turns came, of which the last was answered so
 abbrev pub series_end : RanBeside → TurnEnd → SeriesEnd
-series_end ran end = record { turns = ran.turns; charges = ran.charges; end = end }
+series_end ran end = record { turns = ran.turns; charges = ran.charges; end = end; leave = ran.leave }
 
 -- The instance of the runner has finished its turns, as one: in this memory, which is as good as before for all others, and it has this instance then.
 pub record Finishes (q : ℕ) (s : Space) (y : Runner) (s2 : Space) (end : TurnEnd) (x3 : HostInstanceState) : Type 0 where
@@ -81,6 +82,8 @@ pub record FinishesAt (q : ℕ) (s : Space) (y : Runner) (s2 : Space) (y2 : Runn
   pub end : TurnEnd
   pub finishes : Finishes q s y s2 end y2.tenant
   pub answer : y2.answer ≡ Some (series_end y.ran end)
+  pub again : end ≡ Again → CanGoOnFrom y.ran.came
+  pub upper : (u : UpperState) → y.upper ≡ Some u → y2.upper ≡ Some (with_nothing u)
   pub id : y2.id ≡ y.id
   pub free : IsFree y2
 
@@ -96,6 +99,8 @@ pub record Returns (q : ℕ) (rs : List (Option InstanceEntry)) (s : Space) (y :
   pub tenant : HostInstanceState
   pub finishes : Finishes q s y s2 end tenant
   pub answer : y2.answer ≡ Some (series_end y.ran end)
+  pub again : end ≡ Again → CanGoOnFrom y.ran.came
+  pub upper : (u : UpperState) → y.upper ≡ Some u → y2.upper ≡ Some (with_nothing u)
   pub id : y2.id ≡ y.id
   pub free : IsFree y2
   pub entries : (x : InstanceEntry) → entry_at rs y.id.place ≡ Some x
@@ -106,9 +111,17 @@ abbrev pub LaysAt : ℕ → List (Option InstanceEntry) → Space → Runner →
 LaysAt q rs s y rs2 s2 y2 =
     ((y.taken ≡ false) × (rs2 ≡ rs) × (s2 ≡ s) × (y2 ≡ y)) ⊎ ((y.taken ≡ true) × Returns q rs s y rs2 s2 y2)
 
--- a runner that had an instance has an answer
+-- A runner that had an instance has an answer: to what its turns came, and that its call can go on only where it can go on from what it
+-- came to. Nothing lies in its room any more.
+abbrev pub TellsSeries : Runner → Runner → Type 0
+TellsSeries y y2 =
+    (end : TurnEnd) × (y2.answer ≡ Some (series_end y.ran end)) × (end ≡ Again → CanGoOnFrom y.ran.came)
+    × ((u : UpperState) → y.upper ≡ Some u → y2.upper ≡ Some (with_nothing u))
+
+-- one that had none has the answer that it had
 abbrev pub HasAnswer : Runner → Runner → Type 0
-HasAnswer y y2 = (y2.id ≡ y.id) × (y.taken ≡ true → (made : SeriesEnd) × (y2.answer ≡ Some made))
+HasAnswer y y2 =
+    (y2.id ≡ y.id) × (y.taken ≡ true → TellsSeries y y2) × (y.taken ≡ false → y2.answer ≡ y.answer)
 
 -- The instances of all runners have run over one memory, and this one is as good for each; the frames that are lent to them are free.
 -- The other runners are free, and have no answer.

@@ -1,15 +1,21 @@
 -- Rounds: turns of several instances, that are brought on at once and finished one after the other.
-use Rattle.std.specs.Prelude.{◌≡◌, ◌≢◌, ℕ, ◌*◌, ◌≤◌, cond, true, false, List, [], ◌∷◌, Option, Some, None, slice_get}
+use Rattle.std.specs.Prelude.{◌≡◌, ◌≢◌, ℕ, ◌*◌, ◌+◌, ◌≤◌, cond, true, false, List, [], ◌∷◌, Option, Some, None, slice_get}
 use Rattle.wh_host_model.specs.Frames.{tally}
 use Rattle.wh_host_model.specs.declared.plain.InstId.{InstId}
 use Rattle.wh_host_model.specs.Host.Happens.{IsLive}
-use Rattle.wh_host_model.specs.Host.Worlds.{Tenant, World}
-use Rattle.wh_host_model.specs.Space.Parts.{Space}
+use Rattle.wh_model.specs.declared.memory.Need.{Need}
+use Rattle.wh_model.specs.Execution.Asking.{Asks}
+use Rattle.wh_model.specs.Execution.Configuration.{Term, config}
+use Rattle.wh_model.specs.Execution.Reduction.{After}
+use Rattle.wh_host_model.specs.declared.plain.TurnEnd.TheVariants.{Again}
+use Rattle.wh_host_model.specs.Host.Worlds.{Rest, Tenant, World, computing, store_in, store_with}
+use Rattle.wh_host_model.specs.Space.Parts.{Space, view}
 use Rattle.wh_instance.specs.OwnerRequests.{OfAnyTenant}
 use Rattle.wh_instance.specs.Seen.{IsAtTerm}
 use Rattle.wh_instance.specs.Bursts.{AreUsed}
 use Rattle.wh_instance.specs.Tenancy.{HostInstanceState}
 use Rattle.wh_overlay.specs.LaidPages.{UpperState}
+use Rattle.wh_overlay.specs.Over.{CanStepOver}
 use Rattle.wh_host.specs.declared.parts.LoadedModule.{LoadedModule}
 use Rattle.wh_host.specs.declared.parts.InstanceEntry.{InstanceEntry}
 use Rattle.wh_host.specs.declared.rounds.Runner.{Runner}
@@ -38,9 +44,9 @@ AllTurn q most w (y ∷ ys) w2 = (mid : World) × TakesTurns q most w y.id y.ans
 
 -- ---- runners
 
--- it has room, in which nothing is written
+-- it has room, in which nothing is written, and no page is noted as read
 abbrev pub HasRoomBeside : Runner → Type 0
-HasRoomBeside y = (u : UpperState) × (y.upper ≡ Some u) × (u.pages ≡ []) × (u.grown ≡ 0) × (u.taken ≡ 0)
+HasRoomBeside y = (u : UpperState) × (y.upper ≡ Some u) × (u.pages ≡ []) × (u.grown ≡ 0) × (u.taken ≡ 0) × (u.reads ≡ [])
 
 -- how many frames are lent for what is written there
 abbrev pub lent_in : Option UpperState → ℕ
@@ -85,9 +91,11 @@ pub record AreTakenOut (before now : List (Option InstanceEntry)) (ys : List Run
 abbrev pub SitsThere : InstanceEntry → Runner → Type 0
 SitsThere x y = (y.tenant ≡ x.tenant) × OfAnyTenant x.tenant (λ l limit bytes t. IsAtTerm t) × HasRoomBeside y
 
--- it was brought on by so many turns of q charges at most, and each but the last was used up
+-- It was brought on by so many turns of q charges at most, and each but the last was used up. Each but the first was begun where it was
+-- read that nobody wants the memory.
 abbrev pub IsBurst : ℕ → ℕ → RanBeside → Type 0
-IsBurst q most ran = (ran.turns ≤ most) × AreUsed q ran.turns ran.charges
+IsBurst q most ran =
+    (ran.turns ≤ most) × AreUsed q ran.turns ran.charges × (ran.turns ≤ ran.leave.reads + 1)
 
 -- it has run there, over this memory
 abbrev pub RanThere : List LoadedModule → Space → ℕ → ℕ → InstanceEntry → Runner → Type 0
@@ -145,3 +153,34 @@ abbrev pub NoneIsLeftOut : World → List Runner → Type 0
 NoneIsLeftOut w ys =
     (k : ℕ) (y : Runner) → slice_get ys k ≡ Some y → y.answer ≡ None → (t : Tenant) → IsLive w y.id t → IsAtTerm t
     → (j : ℕ) × (z : Runner) × (slice_get ys j ≡ Some z) × (z.id ≡ y.id) × (made : SeriesEnd) × (z.answer ≡ Some made)
+
+-- ---- what turns take
+
+-- What the call at this instance does next reads or writes bytes that can't be reached beside this memory, with this room there.
+pub record IsOutOfReach (s : Space) (t : Tenant) (u : UpperState) : Type 0 where
+  pub term : Term
+  pub rest : Rest
+  pub next : Term
+  pub need : Need
+  pub doing : t.doing ≡ computing term
+  pub after : After t.inst (config (store_in s t) [] term) 0 (config (store_with (view s t.place) rest) [] next)
+  pub asks : Asks t.inst (config (store_with (view s t.place) rest) [] next) need
+  pub never : ¬ (CanStepOver s t.place u need)
+
+-- Turns of an instance behind which its call can go on took a charge, or what the call does next can't be reached.
+abbrev pub TakesSome : World → Runner → Type 0
+TakesSome w y =
+    (made : SeriesEnd) (t : Tenant) → y.answer ≡ Some made → made.end ≡ Again → made.charges ≡ 0 → IsLive w y.id t
+    → (u : UpperState) × (y.upper ≡ Some u) × IsOutOfReach w.space t u
+
+-- those of each runner did
+abbrev pub EachTakesSome : World → List Runner → Type 0
+EachTakesSome w ys = (k : ℕ) (y : Runner) → slice_get ys k ≡ Some y → TakesSome w y
+
+-- each of its turns but the first was begun where it was read that nobody wants the memory
+abbrev pub HadLeave : Runner → Type 0
+HadLeave y = (made : SeriesEnd) → y.answer ≡ Some made → made.turns ≤ made.leave.reads + 1
+
+-- those of each runner were
+abbrev pub EachHadLeave : List Runner → Type 0
+EachHadLeave ys = (k : ℕ) (y : Runner) → slice_get ys k ≡ Some y → HadLeave y

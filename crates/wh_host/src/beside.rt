@@ -7,10 +7,11 @@ ghost use Rattle.wh_imports.specs.LinkedState.{LinkedState};
 ghost use Rattle.wh_instance.specs.Seen.{IsAtTerm};
 ghost use Rattle.wh_instance.specs.Tenancy.{HostInstanceState};
 ghost use Rattle.wh_overlay.specs.LaidBack.{IsLaid, LooksSame};
-ghost use Rattle.wh_overlay.specs.Over.{AreAtHand, HasGrown, frames_lacking};
+ghost use Rattle.wh_overlay.specs.Over.{AreAtHand, HasGrown, ReadsAreThere, frames_lacking};
 ghost use Rattle.wh_space.specs.StepViews.{KeepsRest};
 ghost use Rattle.wh_host.specs.Backing.{KeepsBacking};
-ghost use Rattle.wh_host.specs.Beside.{CameThere, EndsTurn, HasRun, RunsBeside};
+ghost use Rattle.wh_host_model.specs.declared.plain.TurnEnd.TheVariants.{Again as CanGoOn};
+ghost use Rattle.wh_host.specs.Beside.{CameThere, CanGoOnFrom, EndsTurn, HasRun, RunsBeside, with_nothing};
 ghost use Rattle.wh_host.specs.Left.{LeavesTurned};
 ghost use Rattle.wh_host.specs.Lying.{LiesAt};
 ghost use Rattle.wh_host.specs.Rounds.{IsBurst};
@@ -18,7 +19,7 @@ ghost use Rattle.wh_host.specs.Rounds.{IsBurst};
 use crate::turning::settle_at;
 use wh_host_model::TurnEnd;
 use wh_imports::Linked;
-use wh_instance::{Burst, HostInstance, TurnOutcome};
+use wh_instance::{Burst, HostInstance, Leave, TurnOutcome};
 use wh_overlay::{Overlay, Upper};
 use wh_space::Memory;
 
@@ -33,6 +34,8 @@ pub struct RanBeside {
     pub charges: u64,
     /// In how many turns.
     pub turns: u64,
+    /// The leave that there was for further ones.
+    pub leave: Leave,
 }
 
 /// Brings the instance at this place on by a burst over the memory, which others read at the same time: what came of it, and what
@@ -49,6 +52,7 @@ pub fn run_beside(
     requires pages { upper.pages ≡ [] }
     requires grown { upper.grown ≡ 0 }
     requires taken { upper.taken ≡ 0 }
+    requires reads { upper.reads ≡ [] }
     requires lies { (t : OneTenant) × IsAtTerm t
         × LiesAt linked.now page_limit tenant.old memory.now place t }
     ensures runs { (t : OneTenant) → IsAtTerm t
@@ -65,6 +69,7 @@ pub fn run_beside(
         pieces,
         charges: ended.charges,
         turns: ended.turns,
+        leave: ended.leave,
     };
     (ran, overlay.into_upper())
 }
@@ -75,15 +80,14 @@ fn lay_beside(memory: &mut Memory, place: usize, charges: u64, upper: &mut Upper
     requires lacking { frames_lacking memory.old place upper.old.pages ≤ upper.old.lent }
     requires free { upper.old.lent ≤ length memory.old.pool.free }
     requires limited { HasGrown memory.old place upper.old }
+    requires there { ReadsAreThere memory.old place upper.old }
     ensures laid { 1 ≤ charges → IsLaid memory.old place upper.old memory.new }
     ensures left { charges ≡ 0 → memory.new ≡ memory.old }
     ensures others { (other : ℕ) → other ≢ place
         → get_or memory.new.tables other [] ≡ get_or memory.old.tables other [] }
     ensures keeps { KeepsRest place memory.old memory.new }
     ensures frames { length memory.old.pool.free ≤ length memory.new.pool.free + upper.old.lent }
-    ensures pages { upper.new.pages ≡ [] }
-    ensures grown { upper.new.grown ≡ 0 }
-    ensures taken { upper.new.taken ≡ 0 }
+    ensures empty { upper.new ≡ with_nothing upper.old }
 {
     if charges == 0 {
         upper.clear();
@@ -126,9 +130,8 @@ pub fn finish_beside(
     ensures frames { length memory.old.pool.free ≤ length memory.new.pool.free + upper.old.lent }
     ensures backing { KeepsBacking memory.old memory.new }
     ensures memory { LeavesTurned place result memory.old memory.new }
-    ensures pages { upper.new.pages ≡ [] }
-    ensures grown { upper.new.grown ≡ 0 }
-    ensures taken { upper.new.taken ≡ 0 }
+    ensures again { result ≡ CanGoOn → CanGoOnFrom ran.came }
+    ensures empty { upper.new ≡ with_nothing upper.old }
 {
     memory.invariant();
     lay_beside(memory, place, ran.charges, upper);

@@ -8,7 +8,7 @@ ghost use Rattle.wh_host.specs.declared.parts.InstanceEntry.{InstanceEntry as On
 ghost use Rattle.wh_host.specs.declared.rounds.Runner.{Runner as OneRunner};
 ghost use Rattle.wh_host.specs.Backing.{KeepsBacking};
 ghost use Rattle.wh_host.specs.Hosting.{HostState, IsHost, entry_at};
-ghost use Rattle.wh_host.specs.Rounds.{AllAreFree, AllTurn, AreTakenOut, RunnersStay, IsFree, NoneIsLeftOut, SitsThere, lent_to_all};
+ghost use Rattle.wh_host.specs.Rounds.{AllAreFree, AllTurn, AreTakenOut, EachHadLeave, EachTakesSome, RunnersStay, IsFree, NoneIsLeftOut, SitsThere, lent_to_all};
 ghost use Rattle.wh_host.specs.Joining.{CanFinish, FinishesAt, HasAnswer, HaveRun, IsLeftOut, LaysAt, TakesOut, host_with};
 
 use crate::beside::finish_beside;
@@ -83,6 +83,7 @@ fn finish_at(memory: &mut Memory, runner: &mut Runner)
         turns: runner.ran.turns,
         charges: runner.ran.charges,
         end,
+        leave: runner.ran.leave,
     });
 }
 
@@ -134,7 +135,9 @@ fn lay_all(entries: &mut Slab<InstanceEntry>, memory: &mut Memory, runners: &mut
 
 impl Host {
     /// Gives a burst to each instance that has a runner and computes, all at once. It comes to their turns one after the other, in the
-    /// order of the runners: as many of each as its runner says, and of as many charges at most as the burst says.
+    /// order of the runners: as many of each as its runner says, and of as many charges at most as the burst says. Behind turns that
+    /// took no charge its call can go on only where what it does next can't be reached beside the memory. No further turn is begun once
+    /// somebody wants the memory.
     pub fn turns_at_once<F: Fork>(&mut self, fork: &F, runners: &mut [Runner], burst: Burst)
         requires can { F.can fork.now }
         requires free { AllAreFree runners.old }
@@ -142,6 +145,9 @@ impl Host {
             → (w2 : World) × AllTurn burst.entry.quantum (burst.entry.further + 1) w runners.new w2
             × IsHost self.new w2 }
         ensures all { (w : World) → IsHost self.old w → NoneIsLeftOut w runners.new }
+        ensures some { 1 ≤ burst.entry.quantum → (w : World) → IsHost self.old w
+            → EachTakesSome w runners.new }
+        ensures leave { EachHadLeave runners.new }
         ensures free { AllAreFree runners.new }
         ensures same { RunnersStay runners.old runners.new }
         ensures backing { KeepsBacking self.old.space self.new.space }

@@ -1,17 +1,18 @@
 //! What an owner asks of a host.
 
-ghost use Rattle.std.specs.Prelude.{◌≡◌, ℕ, IfOk, OnErr, OnOk, Result};
+ghost use Rattle.std.specs.Prelude.{◌≡◌, ℕ, IfOk, IsOk, OnErr, OnOk, Result};
 ghost use Rattle.wh_params.specs.View.{view_params};
-ghost use Rattle.wh_host_model.specs.Host.Events.{admit, cancel, invoke, load, refuel, release, retry};
+ghost use Rattle.wh_host_model.specs.Host.Events.{admit, cancel, epoch, invoke, load, refuel, release, retry};
 ghost use Rattle.wh_host_model.specs.Host.Happens.{IsCancel, IsRefuel, IsRetry};
 ghost use Rattle.wh_host_model.specs.Host.Worlds.{promised};
 ghost use Rattle.wh_host_model.specs.Space.Places.{Enters, Exits};
-ghost use Rattle.wh_host_model.specs.Space.Stores.{ended};
+ghost use Rattle.wh_host_model.specs.Space.Stores.{Epochs, ended};
 ghost use Rattle.wh_host.specs.Admitting.{AnswersAdmit};
 ghost use Rattle.wh_host.specs.Backing.{KeepsBacking};
 ghost use Rattle.wh_host.specs.CallRequests.{AnswersCall, AnswersInvoke};
 ghost use Rattle.wh_host.specs.Hosting.{HostState};
 ghost use Rattle.wh_host.specs.Loading.{AnswersLoad};
+ghost use Rattle.wh_host.specs.Paging.{MovesOnly};
 ghost use Rattle.wh_host.specs.Releasing.{AnswersRelease};
 ghost use Rattle.wh_host.specs.Requests.{LeadsByRequest};
 
@@ -225,4 +226,24 @@ impl Request for Release {
 
     ghost leads = { λ r h answer h2 asked w is.
         let x = asked.0 w is in (release r.id, x.1, tt, (x.0, x.3), x.4) };
+}
+
+/// Asks for a new epoch to begin: no page is marked as touched then. It is never refused.
+#[derive(Clone, Copy)]
+pub struct BeginEpoch;
+
+impl Request for BeginEpoch {
+    type Answer = ();
+
+    type Error = HostError;
+
+    ghost asks = { λ _ h answer h2. IsOk answer × MovesOnly h h2 × Epochs h.space h2.space };
+
+    fn ask(self, host: &mut Host) -> Result<(), HostError> {
+        host.epoch();
+        Ok(())
+    }
+
+    ghost leads = { λ _ h answer h2 asked w is.
+        let x = asked.1 w is in (epoch, x.0, tt, x.1, x.2) };
 }

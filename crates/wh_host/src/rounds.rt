@@ -8,7 +8,7 @@ use crate::host::module_at;
 use crate::parts::LoadedModule;
 use std::alloc::{AllocError, Global};
 use wh_host_model::{InstId, TurnEnd};
-use wh_instance::{Burst, HostInstance, TurnOutcome};
+use wh_instance::{Burst, HostInstance, Leave, TurnOutcome};
 use wh_overlay::Upper;
 use wh_space::Memory;
 
@@ -21,6 +21,8 @@ pub struct SeriesEnd {
     pub charges: u64,
     /// What the last was answered. Behind each other one the call could go on.
     pub end: TurnEnd,
+    /// The leave that there was for those behind the first: it was read as often that nobody wants the memory.
+    pub leave: Leave,
 }
 
 /// A runner of a round: for which instance it is, to what its turns came, and room for what they write beside the memory.
@@ -128,6 +130,7 @@ impl Runner {
                 pieces: 0,
                 charges: 0,
                 turns: 0,
+                leave: Leave::none(),
             },
             answer: None,
         })

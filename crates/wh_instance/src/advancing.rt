@@ -11,6 +11,7 @@ ghost use Rattle.wh_instance.specs.declared.stages.CallStage.TheVariants as at;
 use crate::burst::{Burst, BurstEnd};
 use crate::computing::TurnOutcome;
 use crate::host_instance::HostInstance;
+use crate::leave::Leave;
 use crate::stages::{CallStage, TurnResult};
 use crate::starting::turn_start;
 use crate::turning::{turn_first, turn_on};
@@ -143,6 +144,7 @@ impl HostInstance {
             (result.turns * burst.entry.quantum) self.old memory.old result.came 0 result.charges self.new memory.new }
         ensures used { AreUsed burst.entry.quantum result.turns result.charges }
         ensures few { result.turns ≤ burst.entry.further + 1 }
+        ensures leave { result.turns ≤ result.leave.reads + 1 }
         ensures stays { StaysBut self.old self.new }
         ensures keeps { M.keeps memory.old memory.new }
     {
@@ -213,6 +215,7 @@ impl HostInstance {
             memory.new }
         ensures used { AreUsed burst.entry.quantum result.0.turns result.0.charges }
         ensures few { result.0.turns ≤ burst.entry.further + 1 }
+        ensures leave { result.0.turns ≤ result.0.leave.reads + 1 }
         ensures stays { StaysBut self.old self.new }
         ensures keeps { M.keeps memory.old memory.new }
     {
@@ -224,6 +227,7 @@ impl HostInstance {
             came,
             charges,
             turns: 1,
+            leave: Leave::none(),
         };
         (ended, pieces)
     }

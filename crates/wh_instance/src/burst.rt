@@ -1,13 +1,14 @@
 //! Bursts: a call that is brought on by several turns, one right behind the other.
 
-ghost use Rattle.std.specs.Prelude.{◌≡◌, ◌+◌, ◌*◌, ◌≤◌, true};
+ghost use Rattle.std.specs.Prelude.{◌≡◌, ◌+◌, ◌*◌, ◌^◌, ◌<◌, ◌≤◌, false, true};
 ghost use Rattle.wh_machine.specs.CallStates.{HasConfiguration, setting_of, call_state};
 ghost use Rattle.wh_instance.specs.Computed.{ComputesWithin};
 ghost use Rattle.wh_instance.specs.Bursts.{AreUsed};
 ghost use Rattle.wh_instance.specs.declared.computing.TurnOutcome.TheVariants.{Again as CanGoOn};
 
 use crate::computing::{TurnOutcome, compute};
-use std::sync::atomic::{AtomicU64, Ordering};
+use crate::leave::Leave;
+use std::sync::atomic::AtomicU64;
 use wh_imports::Linked;
 use wh_linmem::LinearMem;
 use wh_machine::{Machine, Store};
@@ -33,15 +34,20 @@ pub struct BurstEnd {
     pub charges: u64,
     /// In how many turns.
     pub turns: u64,
+    /// The leave that there was for further ones: each but the first was begun by it.
+    pub leave: Leave,
 }
 
 impl<'a> Burst<'a> {
-    // Whether a further turn is begun behind what came of the last.
-    fn goes_on(&self, came: TurnOutcome) -> bool
-        ensures { result ≡ true → (came ≡ CanGoOn) × (1 ≤ self.now.quantum) }
+    // Whether a further turn is begun behind what came of the last. For that it asks leave.
+    fn goes_on(&self, came: TurnOutcome, leave: &mut Leave) -> bool
+        requires { leave.old.reads + 1 < 2 ^ 64 }
+        ensures may { result ≡ true → (came ≡ CanGoOn) × (1 ≤ self.now.quantum) }
+        ensures leave { result ≡ true → leave.new.reads ≡ leave.old.reads + 1 }
+        ensures none { result ≡ false → leave.new ≡ leave.old }
     {
         match came {
-            TurnOutcome::Again => self.quantum > 0 && self.wanted.load(Ordering::SeqCst) == 0,
+            TurnOutcome::Again => self.quantum > 0 && leave.ask(self.wanted),
             _ => false,
         }
     }
@@ -67,6 +73,7 @@ pub fn compute_burst<M: LinearMem>(
         (call_state machine.new store.new memory.new) }
     ensures used { AreUsed burst.entry.quantum result.turns result.charges }
     ensures few { result.turns ≤ burst.entry.further + 1 }
+    ensures leave { result.turns ≤ result.leave.reads + 1 }
     ensures keeps { M.keeps memory.old memory.new }
 {
     let quantum = burst.quantum;
@@ -75,9 +82,10 @@ pub fn compute_burst<M: LinearMem>(
         came,
         charges,
         turns: 1,
+        leave: Leave::none(),
     };
     for behind in 0..burst.further {
-        if !burst.goes_on(ended.came) {
+        if !burst.goes_on(ended.came, &mut ended.leave) {
             return ended;
         }
         let rest = left - ended.charges;
@@ -86,6 +94,7 @@ pub fn compute_burst<M: LinearMem>(
             came,
             charges: ended.charges + charges,
             turns: u64::from(behind) + 2,
+            leave: ended.leave,
         };
     }
     ended

@@ -41,6 +41,7 @@ pub fn turn_on<M: LinearMem>(
         (call_state machine.new store.new memory.new) [] }
     ensures used { AreUsed burst.entry.quantum result.turns result.charges }
     ensures few { result.turns ≤ burst.entry.further + 1 }
+    ensures leave { result.turns ≤ result.leave.reads + 1 }
     ensures keeps { M.keeps memory.old memory.new }
 {
     compute_burst(linked, store, machine, memory, burst, fuel - charges)

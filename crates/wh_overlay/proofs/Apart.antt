@@ -1,5 +1,5 @@
 -- What is laid back for one instance changes nothing that another one's pages rest on.
-use Rattle.std.proofs.Common.{◌≡◌, ◌≢◌, ℕ, List, [], length, get_or, slice_get, Option, None, ap, sym, subst}
+use Rattle.std.proofs.Common.{◌≡◌, ◌≢◌, ◌+◌, ◌*◌, ◌<◌, ◌≤◌, inl, inr, ℕ, List, [], length, get_or, slice_get, Option, None, ap, sym, subst, arith}
 use Rattle.wh_host_model.specs.Frames.{tally}
 use Rattle.wh_host_model.specs.Space.Parts.{Occupant, Space, claim_of, view}
 use Rattle.wh_host_model.specs.Space.Ready.{IsAtHand}
@@ -9,10 +9,16 @@ use Rattle.wh_space.specs.Steps.{limit_by, page_limit}
 use Rattle.wh_space.specs.StepViews.{KeepsRest}
 use Rattle.wh_overlay.specs.declared.upper.WrittenPage.{WrittenPage}
 use Rattle.wh_overlay.specs.LaidPages.{UpperState}
-use Rattle.wh_overlay.specs.Over.{AreAtHand, HasGrown, frames_lacking, lacks_frame}
+use Rattle.wh_overlay.specs.Over.{AreAtHand, HasGrown, ReadsAreThere, frames_lacking, lacks_frame}
 
 pub hand_beside : (s s2 : Space) (j : ℕ) (pages : List WrittenPage) → get_or s2.tables j [] ≡ get_or s.tables j [] → AreAtHand s j pages → AreAtHand s2 j pages
 hand_beside s s2 j pages same hand k x there = subst IsAtHand (ap (λ t. slice_get t x.number) (sym same)) (hand k x there)
+
+pub there_beside : (s s2 : Space) (j : ℕ) (u : UpperState) → get_or s2.tables j [] ≡ get_or s.tables j [] → ReadsAreThere s j u → ReadsAreThere s2 j u
+there_beside s s2 j u same there p is = elim (there p is) [
+  | inl hand ↦ inl (subst IsAtHand (ap (λ t. slice_get t p) (sym same)) hand)
+  | inr come ↦ (let long = ap length same in inr (omega (arith, long, come.0), omega (arith, long, come.1)))
+]
 
 pub lacking_beside : (s s2 : Space) (j : ℕ) (pages : List WrittenPage) → get_or s2.tables j [] ≡ get_or s.tables j [] → frames_lacking s2 j pages ≡ frames_lacking s j pages
 lacking_beside s s2 j pages same = ap (λ (t : List Page). tally (λ (x : WrittenPage). at lacks_frame (slice_get t x.number)) pages) same

@@ -17,7 +17,7 @@ use Rattle.wh_host_model.specs.Space.Parts.{Space, frame_bytes, sharers, view}
 use Rattle.wh_host_model.specs.Space.Ready.{IsAtHand, Ready, copies, pages_of_need}
 use Rattle.wh_host_model.specs.Space.Sound.{IsSound}
 use Rattle.wh_host_model.specs.Space.States.{at, joined, page_at, put, untouched}
-use Rattle.wh_host_model.specs.Space.Stores.{Overwrites, touching}
+use Rattle.wh_host_model.specs.Space.Stores.{Overwrites, Touches, touching}
 use Rattle.wh_host_model.proofs.Tally.{one_same, one_other, tally-append}
 use Rattle.wh_host_model.proofs.Space.Counting.{frames_one_page, shared_frame, single}
 use Rattle.wh_host_model.proofs.Space.Filled.{stores_are_right}
@@ -25,12 +25,12 @@ use Rattle.wh_host_model.proofs.Space.Filling.{at_hand}
 use Rattle.wh_host_model.proofs.Space.Putting.{is_page, put_other, put_this}
 use Rattle.wh_host_model.proofs.Space.Quiet.{steps_quiet}
 use Rattle.wh_host_model.proofs.Space.Reading.{on_one_page, view_length}
-use Rattle.wh_space.specs.Steps.{CanBreak, CanStep, LeavesGrowth, LeavesLoad, LeavesStore}
+use Rattle.wh_space.specs.Steps.{CanBreak, CanStep, LeavesGrowth, LeavesStore}
 use Rattle.wh_space.specs.StepViews.{keeps_all, keeps_on}
 use Rattle.wh_space.proofs.Keeping.{keeps_growth, keeps_load, keeps_store}
 use Rattle.wh_space.proofs.Storing.{can_step_one}
 use Rattle.wh_overlay.specs.declared.upper.WrittenPage.{WrittenPage}
-use Rattle.wh_overlay.specs.LaidPages.{grown_by}
+use Rattle.wh_overlay.specs.LaidPages.{IsNoted, grown_by}
 use Rattle.wh_overlay.specs.LaidBack.{HasLaid}
 use Rattle.wh_overlay.specs.Over.{AreAtHand, IsOnItsOwn, frames_lacking, lacks_frame}
 use Rattle.wh_overlay.proofs.Grown.{in_front, others_stay, same_before}
@@ -115,10 +115,11 @@ lacks_most (Some x) = lacks_one x
 
 -- ---- nothing is done
 
-pub no_step : (s : Space) (i : ℕ) → HasLaid s i 0 (view s i) [] s
+pub no_step : (s : Space) (i : ℕ) → HasLaid s i 0 [] (view s i) [] s
 no_step s i = record {
   sees = refl;
   keeps = keeps_all i s;
+  read = λ p is. absurd (let none = is.1 in cc none);
   own = λ k x there. absurd (cc there);
   free = omega arith;
   at_hand = λ p hand. hand;
@@ -130,34 +131,53 @@ no_step s i = record {
 
 -- ---- pages are marked
 
+some_at : {X : Type 0} (xs : List X) (p : ℕ) → p < length xs → (x : X) × (slice_get xs p ≡ Some x)
+some_at [] p less = absurd (omega (arith, less))
+some_at (x ∷ xs) zero less = (x, refl)
+some_at (x ∷ xs) (suc p) less = some_at xs p (omega (arith, less))
+
 put_true : (t : List (List Bool)) (i p q : ℕ) → page_at t i q ≡ Some true → page_at (put t i p true) i q ≡ Some true
 put_true t i p q was = elim (cases_eq q p) [
   | inl same ↦ (let there : page_at t i p ≡ Some true = ap (page_at t i) (sym same) ∙ was in ap (page_at (put t i p true) i) same ∙ put_this t i p true true there)
   | inr other ↦ put_other t i p q true other ∙ was
 ]
 
-touching_keeps : (t : List (List Bool)) (i q : ℕ) (ps : List ℕ) → page_at t i q ≡ Some true → page_at (touching t i ps) i q ≡ Some true
-touching_keeps t i q [] was = was
-touching_keeps t i q (p ∷ ps) was = put_true (touching t i ps) i p q (touching_keeps t i q ps was)
+-- on which page its first byte lies
+first_byte : (p : ℕ) → pages_of_need (reading (4096 * p) 1) ≡ p ∷ []
+first_byte p =
+    let k = 4096 * p in
+    let number : k / 4096 ≡ p = omega arith in
+    let start : k % 4096 ≡ 0 = omega arith in
+    on_one_page k 1 (omega arith) (omega (arith, start)) ∙ ap (λ z. z ∷ []) number
 
-pub touch_step : (s : Space) (i k n : ℕ) (got : Got) (s2 : Space) → LeavesLoad s i k n got s2 → HasLaid s i 0 (view s i) [] s2
-touch_step s i k n Value s2 is =
+-- a page is read
+pub touch_step : (s : Space) (i p : ℕ) (s2 : Space) → IsSound s → IsAtHand (page_at s.tables i p) → Touches s i (4096 * p) 1 s2 → HasLaid s i 0 (p ∷ []) (view s i) [] s2
+touch_step s i p s2 sound hand is =
     let tables : s2.tables ≡ s.tables = ap (λ (z : Space). z.tables) is in
     let free : length s2.pool.free ≡ length s.pool.free = ap (λ (z : Space). length z.pool.free) is in
     let quiet = steps_quiet s i in
+    let on = at_hand (page_at s.tables i p) hand in
+    let less = (is_page s.tables i p on.0 on.1).1 in
+    let marks = sound.occupants.marks i in
+    let mark = some_at (get_or s.touched i []) p (omega (arith, less, marks)) in
+    let marked : s2.touched ≡ put s.touched i p true = ap (λ (z : Space). z.touched) is ∙ ap (touching s.touched i) (first_byte p) in
+    let here : IsTouched s2 i p = ap (λ t. page_at t i p) marked ∙ put_this s.touched i p mark.0 true mark.1 in
     record {
-      sees = ap (λ (b : List (List (List ℕ))). joined (get_or b i [])) (quiet.touches k n s2 is);
-      keeps = keeps_load s i k n Value s2 is;
+      sees = ap (λ (b : List (List (List ℕ))). joined (get_or b i [])) (quiet.touches (4096 * p) 1 s2 is);
+      keeps = keeps_load s i (4096 * p) 1 Value s2 is;
+      read = λ q read. subst (IsTouched s2 i) (the_number p q read) here;
       own = λ j x there. absurd (cc there);
       free = omega (arith, free);
-      at_hand = λ p hand. subst (λ t. IsAtHand (page_at t i p)) (sym tables) hand;
-      come = λ p least less. absurd (omega (arith, least, less));
-      alone = λ p own. (own.0, ap (λ t. page_at t i p) tables ∙ own.1);
-      touched = λ p was. ap (λ (z : Space). page_at z.touched i p) is ∙ touching_keeps s.touched i p (pages_of_need (reading k n)) was;
+      at_hand = λ q hand. subst (λ t. IsAtHand (page_at t i q)) (sym tables) hand;
+      come = λ q least less. absurd (omega (arith, least, less));
+      alone = λ q own. (own.0, ap (λ t. page_at t i q) tables ∙ own.1);
+      touched = λ q was. ap (λ t. page_at t i q) marked ∙ put_true s.touched i p q was;
       others = λ j other. ap (λ t. get_or t j []) tables;
     }
-touch_step s i k n Trap s2 is = subst (HasLaid s i 0 (view s i) []) (sym is) (no_step s i)
-touch_step s i k n (NotReady need) s2 is = subst (HasLaid s i 0 (view s i) []) (sym is) (no_step s i)
+  where
+    the_number : (p q : ℕ) → IsNoted (p ∷ []) q → p ≡ q
+    the_number p q (zero, there) = cc there
+    the_number p q (suc k, there) = absurd (cc there)
 
 -- ---- it grows
 
@@ -174,12 +194,13 @@ same_free s s2 i n (Done pages) grew = ap (λ (z : Space). length z.pool.free) g
 same_free s s2 i n Refused same = ap (λ (z : Space). length z.pool.free) same
 
 pub growth_step : (s s2 : Space) (i n : ℕ) (grown : Grown) → IsSound s2 → LeavesGrowth s i n grown s2 → view s2 i ≡ grown_by (view s i) n
-    → ((p : ℕ) → length (get_or s.tables i []) ≤ p → p < length (get_or s.tables i []) + 16 * n → page_at s2.tables i p ≡ Some Untouched) → HasLaid s i n (grown_by (view s i) n) [] s2
+    → ((p : ℕ) → length (get_or s.tables i []) ≤ p → p < length (get_or s.tables i []) + 16 * n → page_at s2.tables i p ≡ Some Untouched) → HasLaid s i n [] (grown_by (view s i) n) [] s2
 growth_step s s2 i n grown sound leaves sees come =
     let free = same_free s s2 i n grown leaves in
     record {
       sees = sees;
       keeps = keeps_growth s i n grown s2 sound leaves;
+      read = λ p is. absurd (let none = is.1 in cc none);
       own = λ k x there. absurd (cc there);
       free = omega (arith, free);
       at_hand = λ p hand.
@@ -193,19 +214,14 @@ growth_step s s2 i n grown sound leaves sees come =
     }
 
 -- by nothing
-pub no_growth : (s : Space) (i : ℕ) → HasLaid s i 0 (grown_by (view s i) 0) [] s
-no_growth s i = subst (λ b. HasLaid s i 0 b [] s) (no_more (view s i)) (no_step s i)
+pub no_growth : (s : Space) (i : ℕ) → HasLaid s i 0 [] (grown_by (view s i) 0) [] s
+no_growth s i = subst (λ b. HasLaid s i 0 [] b [] s) (no_more (view s i)) (no_step s i)
   where
     no_more : (xs : List ℕ) → xs ≡ grown_by xs 0
     no_more [] = refl
     no_more (x ∷ xs) = ap (λ z. x ∷ z) (no_more xs)
 
 -- ---- a page is written
-
-some_at : {X : Type 0} (xs : List X) (p : ℕ) → p < length xs → (x : X) × (slice_get xs p ≡ Some x)
-some_at [] p less = absurd (omega (arith, less))
-some_at (x ∷ xs) zero less = (x, refl)
-some_at (x ∷ xs) (suc p) less = some_at xs p (omega (arith, less))
 
 the_one : (x : WrittenPage) (k : ℕ) (y : WrittenPage) → slice_get (x ∷ []) k ≡ Some y → x ≡ y
 the_one x zero y there = cc there
@@ -219,7 +235,7 @@ its_page x long =
     let start : k % 4096 ≡ 0 = omega arith in
     on_one_page k (length x.bytes) (omega (arith, long)) (omega (arith, long, start)) ∙ ap (λ z. z ∷ []) number
 
-pub page_step : (s : Space) (i : ℕ) (x : WrittenPage) (s2 : Space) → IsSound s → length x.bytes ≡ 4096 → Overwrites s i (4096 * x.number) x.bytes s2 → HasLaid s i 0 (written (view s i) (4096 * x.number) x.bytes) (x ∷ []) s2
+pub page_step : (s : Space) (i : ℕ) (x : WrittenPage) (s2 : Space) → IsSound s → length x.bytes ≡ 4096 → Overwrites s i (4096 * x.number) x.bytes s2 → HasLaid s i 0 [] (written (view s i) (4096 * x.number) x.bytes) (x ∷ []) s2
 page_step s i x s2 sound long o =
     let p = x.number in
     let k = 4096 * p in
@@ -237,6 +253,7 @@ page_step s i x s2 sound long o =
     record {
       sees = right.sees;
       keeps = keeps_store s i k x.bytes Value s2 sound o;
+      read = λ q is. absurd (let none = is.1 in cc none);
       own = λ j y there. subst (λ (z : WrittenPage). IsOnItsOwn s2 i z.number × IsTouched s2 i z.number) (the_one x j y there) (own, touched);
       free = omega (arith, free);
       at_hand = λ q hand. elim (cases_eq q p) [
@@ -301,10 +318,14 @@ lacking_less s m i (y ∷ ys) stays hand =
     let rest = lacking_less s m i ys stays (λ k x there. hand (suc k) x there) in
     omega (arith, first, rest)
 
-pub laid_on : (s : Space) (i g : ℕ) (b c : List ℕ) (xs ys : List WrittenPage) (m m2 : Space) → HasLaid s i g b xs m → HasLaid m i 0 c ys m2 → AreAtHand s i ys → HasLaid s i g c (xs ++ ys) m2
-laid_on s i g b c xs ys m m2 first second hand = record {
+pub laid_on : (s : Space) (i g : ℕ) (rs ts us : List ℕ) (b c : List ℕ) (xs ys : List WrittenPage) (m m2 : Space) → HasLaid s i g rs b xs m → HasLaid m i 0 ts c ys m2 → ((p : ℕ) → IsNoted us p → IsNoted rs p ⊎ IsNoted ts p) → AreAtHand s i ys → HasLaid s i g us c (xs ++ ys) m2
+laid_on s i g rs ts us b c xs ys m m2 first second reads hand = record {
   sees = second.sees;
   keeps = keeps_on i i s m m2 refl first.keeps second.keeps;
+  read = λ p is. elim (reads p is) [
+    | inl before ↦ second.touched p (first.read p before)
+    | inr now ↦ second.read p now
+  ];
   own = λ k x there. elim (in_either xs ys k x there) [
     | inl before ↦ (let is = first.own k x before in (second.alone x.number is.0, second.touched x.number is.1))
     | inr now ↦ second.own now.0 x now.1

@@ -19,7 +19,7 @@ use Rattle.wh_host_model.specs.Space.States.{page_at}
 use Rattle.wh_space.specs.Steps.{limit_by, page_limit}
 use Rattle.wh_overlay.specs.LaidPages.{UpperState, with_upper}
 use Rattle.wh_overlay.specs.LaidBack.{ComesThere, IsLaid, LiesOver, LooksSame}
-use Rattle.wh_overlay.specs.Over.{CanRead, CanStepOver, CanWrite, IsOverSame, IsReadyOver, IsWholeOver, OverlayState, sees}
+use Rattle.wh_overlay.specs.Over.{CanRead, CanStepOver, CanWrite, IsOverSame, IsReadyOver, IsThereToRead, IsWholeOver, OverlayState, sees}
 use Rattle.wh_overlay.proofs.Apart.{hand_beside, lacking_beside}
 use Rattle.wh_overlay.proofs.SomeLaid.{laid_ready, some_laid}
 
@@ -28,6 +28,10 @@ use Rattle.wh_overlay.proofs.SomeLaid.{laid_ready, some_laid}
 page_same : (s s2 : Space) (i p : ℕ) → LooksSame i s s2 → page_at s2.tables i p ≡ page_at s.tables i p
 page_same s s2 i p looks = ap (λ row. slice_get row p) looks.table
 
+there_still : (s s2 : Space) (i : ℕ) (u : UpperState) (p : ℕ) → LooksSame i s s2 → IsThereToRead s i u p → IsThereToRead s2 i u p
+there_still s s2 i u p looks (inl hand) = inl (subst IsAtHand (sym (page_same s s2 i p looks)) hand)
+there_still s s2 i u p looks (inr come) = let long = ap length looks.table in inr (omega (arith, long, come.0), omega (arith, long, come.1))
+
 pub whole_there : (s s2 : Space) (i : ℕ) (u : UpperState) → LooksSame i s s2 → IsWholeOver s i u → IsWholeOver s2 i u
 whole_there s s2 i u looks (over, whole) =
     let seen : length (view s2 i) ≡ length (view s i) = ap length looks.sees in
@@ -35,6 +39,7 @@ whole_there s s2 i u looks (over, whole) =
     let counted = over.counted in (
       record {
         at_hand = hand_beside s s2 i u.pages looks.table over.at_hand;
+        there = λ p is. there_still s s2 i u p looks (over.there p is);
         frames = rw (lacking_beside s s2 i u.pages looks.table) over.frames;
         lent = over.lent;
         counted = rw seen counted;
@@ -45,8 +50,7 @@ whole_there s s2 i u looks (over, whole) =
 
 read_there : (s s2 : Space) (i : ℕ) (u : UpperState) (p : ℕ) → LooksSame i s s2 → CanRead s i u p → CanRead s2 i u p
 read_there s s2 i u p looks (inl among) = inl among
-read_there s s2 i u p looks (inr (inl hand)) = inr (inl (subst IsAtHand (sym (page_same s s2 i p looks)) hand))
-read_there s s2 i u p looks (inr (inr come)) = let long = ap length looks.table in inr (inr (omega (arith, long, come.0), omega (arith, long, come.1)))
+read_there s s2 i u p looks (inr (less, there)) = inr (less, there_still s s2 i u p looks there)
 
 step_there : (s s2 : Space) (i : ℕ) (u : UpperState) (need : Need) → LooksSame i s s2 → CanStepOver s i u need → CanStepOver s2 i u need
 step_there s s2 i u need looks (inl none) = inl none

@@ -1,9 +1,11 @@
 -- The marks of pages that were read and written.
-use Rattle.std.proofs.Common.{◌≡◌, ◌≢◌, ◌∙◌, ◌⊎◌, inl, inr, ℕ, ◌+◌, ◌<◌, ◌≤◌, List, [], ◌∷◌, ◌++◌, Some, length, get_or, slice_get, slice_set, zero, suc, refl, sym, ap, arith}
+use Rattle.std.proofs.Common.{◌≡◌, ◌≢◌, ◌∙◌, ◌⊎◌, inl, inr, ℕ, ◌+◌, ◌<◌, ◌≤◌, List, [], ◌∷◌, ◌++◌, Some, length, length-append, get_or, slice_get, slice_set, take, zero, suc, refl, sym, ap, subst, arith}
 use Rattle.std.proofs.lemmas.Bool.{cases_eq, cases_lt}
 use Rattle.wh_host_model.proofs.Space.Putting.{set_other, there_of}
 use Rattle.wh_overlay.specs.declared.upper.WrittenPage.{WrittenPage}
-use Rattle.wh_overlay.specs.LaidPages.{IsMarked, IsAmong, IsWrittenAt}
+use Rattle.wh_host_model.specs.Frames.{tally}
+use Rattle.wh_host_model.proofs.Space.Sums.{set_tally}
+use Rattle.wh_overlay.specs.LaidPages.{AreNoted, IsMarked, IsAmong, IsNoted, IsWrittenAt, has_mark}
 
 -- ---- lists
 
@@ -176,3 +178,148 @@ pub past_the_end : (xs : List ℕ) (i : ℕ) → length xs ≤ i → get_or xs i
 past_the_end [] i past = refl
 past_the_end (x ∷ xs) zero past = absurd (omega (arith, past))
 past_the_end (x ∷ xs) (suc i) past = past_the_end xs i (omega (arith, past))
+
+-- ---- pages that were read
+
+pub get_there : (xs : List ℕ) (i : ℕ) → i < length xs → slice_get xs i ≡ Some (get_or xs i 0)
+get_there [] i less = absurd (omega (arith, less))
+get_there (x ∷ xs) zero less = refl
+get_there (x ∷ xs) (suc i) less = get_there xs i (omega (arith, less))
+
+one_mark : (mark : ℕ) → has_mark mark ≤ 1
+one_mark zero = omega arith
+one_mark (suc mark) = omega arith
+
+some_mark : (mark : ℕ) → 1 ≤ mark → has_mark mark ≡ 1
+some_mark zero some = absurd (omega (arith, some))
+some_mark (suc mark) some = refl
+
+-- there are no more marks than pages
+marks_few : (marks : List ℕ) → tally has_mark marks ≤ length marks
+marks_few [] = omega arith
+marks_few (m ∷ marks) = let rest = marks_few marks in let one = one_mark m in omega (arith, rest, one)
+
+-- and one less where a page has none
+pub marks_fewer : (marks : List ℕ) (number : ℕ) → number < length marks → get_or marks number 0 ≡ 0 → tally has_mark marks < length marks
+marks_fewer [] number less none = absurd (omega (arith, less))
+marks_fewer (m ∷ marks) zero less none = let rest = marks_few marks in let one : has_mark m ≡ 0 = ap has_mark none in omega (arith, rest, one)
+marks_fewer (m ∷ marks) (suc number) less none =
+    let rest = marks_fewer marks number (omega (arith, less)) none in
+    let one = one_mark m in
+    omega (arith, rest, one)
+
+-- a page that has none gets one
+marks_more : (marks : List ℕ) (number mark : ℕ) → number < length marks → get_or marks number 0 ≡ 0 → 1 ≤ mark → tally has_mark (slice_set marks number mark) ≡ tally has_mark marks + 1
+marks_more marks number mark less none some =
+    let sum = set_tally has_mark marks number (get_or marks number 0) mark (get_there marks number less) in
+    let was : has_mark (get_or marks number 0) ≡ 0 = ap has_mark none in
+    let now = some_mark mark some in
+    omega (arith, sum, was, now)
+
+-- or keeps one
+marks_no_fewer : (marks : List ℕ) (number mark : ℕ) → number < length marks → 1 ≤ mark → tally has_mark marks ≤ tally has_mark (slice_set marks number mark)
+marks_no_fewer marks number mark less some =
+    let sum = set_tally has_mark marks number (get_or marks number 0) mark (get_there marks number less) in
+    let was = one_mark (get_or marks number 0) in
+    let now = some_mark mark some in
+    omega (arith, sum, was, now)
+
+pub read_before_end : (reads : List ℕ) (number p : ℕ) → IsNoted reads p → IsNoted (reads ++ number ∷ []) p
+read_before_end reads number p (k, there) = (k, in_front_of reads k p there)
+  where
+    in_front_of : (xs : List ℕ) (k x : ℕ) → slice_get xs k ≡ Some x → slice_get (xs ++ number ∷ []) k ≡ Some x
+    in_front_of xs k x there = still_there xs number x k there
+
+pub read_last : (reads : List ℕ) (number : ℕ) → IsNoted (reads ++ number ∷ []) number
+read_last reads number = (length reads, last_there reads number)
+
+pub read_or_last : (reads : List ℕ) (number p : ℕ) → IsNoted (reads ++ number ∷ []) p → IsNoted reads p ⊎ (p ≡ number)
+read_or_last reads number p (k, there) = elim (was_there reads number p k there) [
+  | inl before ↦ inl (k, before)
+  | inr end ↦ inr (sym end.0)
+]
+
+pub noted_read : (reads marks : List ℕ) (number : ℕ) → AreNoted reads marks → number < length marks → get_or marks number 0 ≡ 0 → AreNoted (reads ++ number ∷ []) (slice_set marks number 1)
+noted_read reads marks number is less none = record {
+  each = λ p one. elim (cases_eq p number) [
+    | inl same ↦ (length reads, last_there reads number ∙ ap Some (sym same))
+    | inr other ↦ read_before_end reads number p (is.each p (sym (got_elsewhere marks number p 1 0 other) ∙ one))
+  ];
+  many =
+      (let more = marks_more marks number 1 less none (omega arith) in
+      let had = is.many in
+      let long = length-append reads (number ∷ []) in
+      omega (arith, more, had, long));
+}
+
+pub noted_new : (reads marks : List ℕ) (number mark : ℕ) → AreNoted reads marks → number < length marks → 2 ≤ mark → AreNoted reads (slice_set marks number mark)
+noted_new reads marks number mark is less large = record {
+  each = λ p one. elim (cases_eq p number) [
+    | inl same ↦ absurd (
+        let now : get_or (slice_set marks number mark) p 0 ≡ mark = ap (λ z. get_or (slice_set marks number mark) z 0) same ∙ got_there marks number mark 0 less in
+        omega (arith, now, one, large))
+    | inr other ↦ is.each p (sym (got_elsewhere marks number p mark 0 other) ∙ one)
+  ];
+  many = (let more = marks_no_fewer marks number mark less (omega (arith, large)) in let had = is.many in omega (arith, more, had));
+}
+
+-- of the pages that were read only those from this one on have the mark
+abbrev pub ReadsLeft : List ℕ → List ℕ → ℕ → Type 0
+ReadsLeft reads marks i = (p : ℕ) → get_or marks p 0 ≡ 1 → (k : ℕ) × (i ≤ k) × (slice_get reads k ≡ Some p)
+
+pub next_read : (reads marks marks2 : List ℕ) (i x : ℕ) → ReadsLeft reads marks i → slice_get reads i ≡ Some x → get_or marks2 x 0 ≡ 0
+    → ((p : ℕ) → get_or marks2 p 0 ≡ 1 → get_or marks p 0 ≡ 1) → ReadsLeft reads marks2 (i + 1)
+next_read reads marks marks2 i x left there none was p one =
+    let had = left p (was p one) in
+    elim (cases_lt i had.0) [
+      | inl less ↦ (had.0, omega (arith, less), had.2)
+      | inr most ↦ absurd (
+          let same : had.0 ≡ i = omega (arith, most, had.1) in
+          let both : Some p ≡ Some x = sym had.2 ∙ ap (slice_get reads) same ∙ there in
+          let here : p ≡ x = cc both in
+          let zero : get_or marks2 p 0 ≡ 0 = ap (λ z. get_or marks2 z 0) here ∙ none in
+          omega (arith, zero, one))
+    ]
+
+pub was_one : (marks : List ℕ) (number p : ℕ) → get_or (slice_set marks number 0) p 0 ≡ 1 → get_or marks p 0 ≡ 1
+was_one marks number p one = elim (zero_or_same marks number p) [
+  | inl none ↦ absurd (omega (arith, none, one))
+  | inr same ↦ sym same ∙ one
+]
+
+pub no_reads_left : (reads marks : List ℕ) (i : ℕ) → length reads ≤ i → ReadsLeft reads marks i → AreNoted [] marks
+no_reads_left reads marks i all left = record {
+  each = λ p one. absurd (
+      let had = left p one in
+      let less = there_of reads had.0 p had.2 in
+      omega (arith, less, all, had.1));
+  many = omega arith;
+}
+
+-- the first ones with the next one
+pub taken_next : (xs : List ℕ) (i x : ℕ) → slice_get xs i ≡ Some x → (p : ℕ) → IsNoted (take (i + 1) xs) p → IsNoted (take i xs) p ⊎ IsNoted (x ∷ []) p
+taken_next [] i x there p is = absurd (cc there)
+taken_next (y ∷ xs) zero x there p (zero, at) = let e : y ≡ x = cc there in let e2 : y ≡ p = cc at in inr (0, ap Some (sym e ∙ e2))
+taken_next (y ∷ xs) zero x there p (suc k, at) = absurd (cc at)
+taken_next (y ∷ xs) (suc i) x there p is =
+    let e : suc i + 1 ≡ suc (i + 1) = omega arith in
+    elim (first_or (subst (λ n. IsNoted (take n (y ∷ xs)) p) e is)) [
+      | inl first ↦ inl (0, ap Some first)
+      | inr rest ↦ elim (taken_next xs i x there p rest) [
+        | inl before ↦ inl (suc before.0, before.1)
+        | inr now ↦ inr now
+      ]
+    ]
+  where
+    first_or : IsNoted (y ∷ take (i + 1) xs) p → (y ≡ p) ⊎ IsNoted (take (i + 1) xs) p
+    first_or (zero, at) = inl (cc at)
+    first_or (suc k, at) = inr (k, at)
+
+-- a page that has a mark was read or written
+pub known_page : (pages : List WrittenPage) (reads marks : List ℕ) (number : ℕ) → IsMarked pages marks → AreNoted reads marks → get_or marks number 0 ≢ 0 → IsAmong pages number ⊎ IsNoted reads number
+known_page pages reads marks number marked noted some = by (get_or marks number 0) refl
+  where
+    by : (mark : ℕ) → get_or marks number 0 ≡ mark → IsAmong pages number ⊎ IsNoted reads number
+    by zero is = absurd (some is)
+    by (suc zero) is = inr (noted.each number is)
+    by (suc (suc k)) is = inl (k, marked.only number k (let e : suc (suc k) ≡ k + 2 = omega arith in is ∙ e))

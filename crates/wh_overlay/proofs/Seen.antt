@@ -14,10 +14,10 @@ use Rattle.wh_host_model.proofs.Space.Putting.{is_page, set_other}
 use Rattle.wh_host_model.proofs.Space.Reading.{view_length}
 use Rattle.wh_host_model.proofs.Space.Sums.{set_tally}
 use Rattle.wh_overlay.specs.declared.upper.WrittenPage.{WrittenPage}
-use Rattle.wh_overlay.specs.LaidPages.{AreWrittenOnce, AreWhole, FitIn, IsAmong, IsWrittenAt, UpperState, grown_by, laid_over, with_upper}
-use Rattle.wh_overlay.specs.Over.{AreAtHand, CanWrite, IsOver, frames_lacking, lacks_frame}
+use Rattle.wh_overlay.specs.LaidPages.{AreWrittenOnce, AreWhole, FitIn, IsAmong, IsNoted, IsWrittenAt, NotesRead, UpperState, grown_by, laid_over, with_upper}
+use Rattle.wh_overlay.specs.Over.{AreAtHand, CanWrite, HasCome, IsOver, IsOverSame, IsThereToRead, IsWholeOver, ReadsAreThere, frames_lacking, lacks_frame}
 use Rattle.std.proofs.lemmas.Bool.{cases_eq}
-use Rattle.wh_overlay.proofs.Marks.{set_there, was_there}
+use Rattle.wh_overlay.proofs.Marks.{read_before_end, read_or_last, set_there, was_there}
 use Rattle.wh_overlay.proofs.Bytes.{read_first, read_past, read_zeros}
 use Rattle.wh_overlay.proofs.OverPages.{add_same, laid_length, page_with, read_other, read_own, rest_fits, write_own}
 
@@ -82,10 +82,48 @@ add_page s i u v p bytes sound hand whole never there same grown pages =
     ap (λ z. laid_over (grown_by (view s i) z) v.pages) grown ∙ ap (laid_over w) pages
     ∙ add_same w u.pages (record { number = p; bytes = bytes }) (all_fit s i u sound hand whole) never (omega (arith, long, less, more)) (same ∙ sym below)
 
+-- what was read is there still
+pub there_with : (s : Space) (i : ℕ) (u v : UpperState) → v.grown ≡ u.grown → ((p : ℕ) → IsNoted v.reads p → IsNoted u.reads p) → ReadsAreThere s i u → ReadsAreThere s i v
+there_with s i u v grown was there p is = elim (there p (was p is)) [
+  | inl hand ↦ inl hand
+  | inr come ↦ inr (come.0, (let more = come.1 in omega (arith, more, grown)))
+]
+
+-- a page that is there is noted as read
+pub noted_over : (s : Space) (i : ℕ) (u v : UpperState) (p : ℕ) → IsOver s i u → IsThereToRead s i u p → NotesRead u p v → IsOver s i v
+noted_over s i u v p over there (inl (same, known)) = subst (IsOver s i) (sym same) over
+noted_over s i u v p over there (inr is) = subst (IsOver s i) (sym is) (record {
+  at_hand = over.at_hand;
+  there = λ q read. elim (read_or_last u.reads p q read) [
+    | inl before ↦ over.there q before
+    | inr last ↦ subst (IsThereToRead s i u) (sym last) there
+  ];
+  frames = over.frames;
+  lent = over.lent;
+  counted = over.counted;
+  limited = over.limited;
+})
+
+pub noted_pages : (u v : UpperState) (p : ℕ) → NotesRead u p v → v.pages ≡ u.pages
+noted_pages u v p (inl (same, known)) = ap (λ (z : UpperState). z.pages) same
+noted_pages u v p (inr is) = ap (λ (z : UpperState). z.pages) is
+
+pub noted_lent : (u v : UpperState) (p : ℕ) → NotesRead u p v → v.lent ≡ u.lent
+noted_lent u v p (inl (same, known)) = ap (λ (z : UpperState). z.lent) same
+noted_lent u v p (inr is) = ap (λ (z : UpperState). z.lent) is
+
+pub noted_reads : (u v : UpperState) (p q : ℕ) → NotesRead u p v → IsNoted u.reads q → IsNoted v.reads q
+noted_reads u v p q (inl (same, known)) read = subst (λ (z : UpperState). IsNoted z.reads q) (sym same) read
+noted_reads u v p q (inr is) read = subst (λ (z : UpperState). IsNoted z.reads q) (sym is) (read_before_end u.reads p q read)
+
+pub noted_seen : (bytes : List ℕ) (u v : UpperState) (p : ℕ) → NotesRead u p v → with_upper bytes v ≡ with_upper bytes u
+noted_seen bytes u v p (inl (same, known)) = ap (with_upper bytes) same
+noted_seen bytes u v p (inr is) = ap (with_upper bytes) is
+
 -- and takes a frame where it may have to get one
 pub added_over : (s : Space) (i : ℕ) (u v : UpperState) (p n : ℕ) (bytes : List ℕ) → IsOver s i u → IsAtHand (page_at s.tables i p) → at lacks_frame (page_at s.tables i p) ≤ n → u.taken + n ≤ u.lent
-    → v.pages ≡ u.pages ++ record { number = p; bytes = bytes } ∷ [] → v.grown ≡ u.grown → v.taken ≡ u.taken + n → v.lent ≡ u.lent → IsOver s i v
-added_over s i u v p n bytes over there some left pages grown taken lent =
+    → v.pages ≡ u.pages ++ record { number = p; bytes = bytes } ∷ [] → v.reads ≡ u.reads → v.grown ≡ u.grown → v.taken ≡ u.taken + n → v.lent ≡ u.lent → IsOver s i v
+added_over s i u v p n bytes over there some left pages reads grown taken lent =
     let frames = over.frames in
     let sum = tally-append (λ (x : WrittenPage). at lacks_frame (page_at s.tables i x.number)) u.pages (record { number = p; bytes = bytes } ∷ []) in
     let all : frames_lacking s i v.pages ≡ frames_lacking s i (u.pages ++ record { number = p; bytes = bytes } ∷ []) = ap (frames_lacking s i) pages in
@@ -94,6 +132,7 @@ added_over s i u v p n bytes over there some left pages grown taken lent =
         | inl before ↦ over.at_hand k x before
         | inr last ↦ subst (λ (z : WrittenPage). IsAtHand (page_at s.tables i z.number)) last.0 there
       ]);
+      there = there_with s i u v grown (λ q is. subst (λ rs. IsNoted rs q) reads is) over.there;
       frames = omega (arith, frames, sum, all, some, taken);
       lent = omega (arith, left, taken, lent);
       counted = rw grown over.counted;
@@ -163,3 +202,26 @@ pub grow_page : (s : Space) (i : ℕ) (u v : UpperState) (n : ℕ) → IsSound s
 grow_page s i u v n sound hand whole is =
     ap (with_upper (view s i)) is ∙ ap (λ z. laid_over z u.pages) (grown_twice (view s i) u.grown n)
     ∙ laid_longer (grown_by (view s i) u.grown) (replicate (n * 65536) 0) u.pages (all_fit s i u sound hand whole)
+
+pub there_longer : (s : Space) (i : ℕ) (u : UpperState) (n : ℕ) → ReadsAreThere s i u → ReadsAreThere s i (record u { grown = u.grown + n })
+there_longer s i u n there p is = elim (there p is) [
+  | inl hand ↦ inl hand
+  | inr come ↦ inr (come.0, (let more = come.1 in omega (arith, more)))
+]
+
+-- a page behind those of the memory below has come
+pub come : (s : Space) (i : ℕ) (u : UpperState) (p k n : ℕ) → IsSound s → AreAtHand s i u.pages → AreWhole u.pages → 1 ≤ n → length (get_or s.tables i []) ≤ p → 4096 * p + k + n ≤ length (with_upper (view s i) u) → HasCome s i u p
+come s i u p k n sound hand whole some least within =
+    let seen = seen_length s i u sound hand whole in
+    let long = view_length s i sound in
+    (least, omega (arith, seen, long, within, some))
+
+pub noted_same : (s : Space) (i limit : ℕ) (u v : UpperState) (p : ℕ) → NotesRead u p v → (IsWholeOver s i u → IsWholeOver s i v) → IsOverSame (record { lower = s; place = i; page_limit = limit; upper = u }) (record { lower = s; place = i; page_limit = limit; upper = v })
+noted_same s i limit u v p notes stays = record {
+  lower = refl;
+  place = refl;
+  page_limit = refl;
+  lent = noted_lent u v p notes;
+  reads = λ q is. noted_reads u v p q notes is;
+  stays = stays;
+}

@@ -11,7 +11,7 @@ use Rattle.wh_host_model.specs.Space.Ready.{IsAtHand, Ready}
 use Rattle.wh_host_model.specs.Space.States.{page_at}
 use Rattle.wh_space.specs.StepViews.{KeepsRest}
 use Rattle.wh_overlay.specs.declared.upper.WrittenPage.{WrittenPage}
-use Rattle.wh_overlay.specs.LaidPages.{UpperState, with_upper}
+use Rattle.wh_overlay.specs.LaidPages.{IsNoted, UpperState, with_upper}
 use Rattle.wh_overlay.specs.Over.{IsOnItsOwn, IsWholeOver, OverlayState, frames_lacking}
 
 -- For the instance at this place one memory is as good as another: it has the same pages there, sees the same, and was promised the
@@ -21,12 +21,14 @@ pub record LooksSame (i : ℕ) (s s2 : Space) : Type 0 where
   pub sees : view s2 i ≡ view s i
   pub claim : claim s2 i ≡ claim s i
 
--- By steps of its own alone the instance at this place has come to see these bytes, has grown by so many pages of 65536 bytes, and
--- has written these pages: each is alone on its frame and marked as touched. No more free frames were taken than pages lacked one.
--- What was at hand is, and so are the pages by which it has grown; pages that were alone are, and marks stay. So do others' pages.
-pub record HasLaid (s : Space) (i grown : ℕ) (bytes : List ℕ) (pages : List WrittenPage) (s2 : Space) : Type 0 where
+-- By steps of its own alone the instance at this place has come to see these bytes, has grown by so many pages of 65536 bytes, has
+-- read pages of these numbers, each of which is marked as touched, and has written these pages: each is alone on its frame, and marked
+-- as touched, too. No more free frames were taken than pages lacked one. What was at hand is, and so are the pages by which it has
+-- grown; pages that were alone are, and marks stay. So do others' pages.
+pub record HasLaid (s : Space) (i grown : ℕ) (reads : List ℕ) (bytes : List ℕ) (pages : List WrittenPage) (s2 : Space) : Type 0 where
   pub sees : view s2 i ≡ bytes
   pub keeps : KeepsRest i s s2
+  pub read : (p : ℕ) → IsNoted reads p → IsTouched s2 i p
   pub own : (k : ℕ) (x : WrittenPage) → slice_get pages k ≡ Some x → IsOnItsOwn s2 i x.number × IsTouched s2 i x.number
   pub free : length s.pool.free ≤ length s2.pool.free + frames_lacking s i pages
   pub at_hand : (p : ℕ) → IsAtHand (page_at s.tables i p) → IsAtHand (page_at s2.tables i p)
@@ -38,7 +40,7 @@ pub record HasLaid (s : Space) (i grown : ℕ) (bytes : List ℕ) (pages : List 
 
 -- what was written beside it is laid back
 abbrev pub IsLaid : Space → ℕ → UpperState → Space → Type 0
-IsLaid s i u s2 = HasLaid s i u.grown (with_upper (view s i) u) u.pages s2
+IsLaid s i u s2 = HasLaid s i u.grown u.reads (with_upper (view s i) u) u.pages s2
 
 -- the memory of an instance is that of this place of this memory, at most so many frames are lent, and what is written beside it can be
 -- laid back

@@ -1,13 +1,15 @@
 -- Pages that were written beside a memory, and what the memory is with them.
-use Rattle.std.specs.Prelude.{◌≡◌, ℕ, ◌+◌, ◌*◌, ◌++◌, ◌≤◌, List, [], ◌∷◌, Some, length, replicate, get_or, slice_get}
+use Rattle.std.specs.Prelude.{◌≡◌, ◌⊎◌, ℕ, ◌+◌, ◌*◌, ◌++◌, ◌≤◌, List, [], ◌∷◌, Some, length, replicate, get_or, slice_get, zero, suc}
 use Rattle.wh_model.specs.Execution.Store.{written}
+use Rattle.wh_host_model.specs.Frames.{tally}
 use Rattle.wh_overlay.specs.declared.upper.WrittenPage.{WrittenPage}
 
--- What is written beside a memory: pages of 4096 bytes; by how many pages of 65536 bytes it has grown; for how many more written
--- pages there is room; below which number all pages are that may be written; how many frames are lent for pages that have none of
--- their own, and how many such pages were written.
+-- What is written beside a memory: pages of 4096 bytes; the numbers of the pages that were read there before they were written; by
+-- how many pages of 65536 bytes it has grown; for how many more written pages there is room; below which number all pages are that
+-- may be read and written; how many frames are lent for pages that have none of their own, and how many such pages were written.
 pub record UpperState : Type 0 where
   pub pages : List WrittenPage
+  pub reads : List ℕ
   pub grown : ℕ
   pub room : ℕ
   pub most : ℕ
@@ -35,6 +37,15 @@ IsWrittenAt pages number k = (x : WrittenPage) × (slice_get pages k ≡ Some x)
 abbrev pub IsAmong : List WrittenPage → ℕ → Type 0
 IsAmong pages number = (k : ℕ) × IsWrittenAt pages number k
 
+-- the page is among those that were read
+abbrev pub IsNoted : List ℕ → ℕ → Type 0
+IsNoted reads number = (k : ℕ) × (slice_get reads k ≡ Some number)
+
+-- A page is noted as read, as the last one; or it was read or written before, and nothing changes.
+abbrev pub NotesRead : UpperState → ℕ → UpperState → Type 0
+NotesRead u number v =
+    ((v ≡ u) × (IsAmong u.pages number ⊎ IsNoted u.reads number)) ⊎ (v ≡ record u { reads = u.reads ++ number ∷ [] })
+
 -- each page has 4096 bytes
 abbrev pub AreWhole : List WrittenPage → Type 0
 AreWhole pages = (k : ℕ) (x : WrittenPage) → slice_get pages k ≡ Some x → length x.bytes ≡ 4096
@@ -44,6 +55,16 @@ pub record IsMarked (pages : List WrittenPage) (marks : List ℕ) : Type 0 where
   pub each : (k : ℕ) (x : WrittenPage) → slice_get pages k ≡ Some x → get_or marks x.number 0 ≡ k + 2
   pub only : (number k : ℕ) → get_or marks number 0 ≡ k + 2 → IsWrittenAt pages number k
   pub whole : AreWhole pages
+
+-- 1 for a page that has a mark
+abbrev pub has_mark : ℕ → ℕ
+has_mark zero = 0
+has_mark (suc mark) = 1
+
+-- Marks by page: 1 only where the page was read. So many pages have a mark at least as were read.
+pub record AreNoted (reads marks : List ℕ) : Type 0 where
+  pub each : (number : ℕ) → get_or marks number 0 ≡ 1 → IsNoted reads number
+  pub many : length reads ≤ tally has_mark marks
 
 -- each page has 4096 bytes, and lies in a memory of so many
 abbrev pub FitIn : ℕ → List WrittenPage → Type 0

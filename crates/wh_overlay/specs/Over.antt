@@ -1,5 +1,7 @@
 -- What an instance can read and write while nobody changes the memory of all.
 use Rattle.std.specs.Prelude.{◌≡◌, ℕ, ◌*◌, ◌+◌, ◌/◌, ◌%◌, ◌^◌, ◌<◌, ◌≤◌, ◌⊎◌, cond, List, [], Some, length, get_or, slice_get}
+use Rattle.wh_model.specs.declared.memory.Got.{Got}
+use Rattle.wh_model.specs.declared.memory.Got.TheVariants.{Value, Trap, NotReady}
 use Rattle.wh_model.specs.declared.memory.Need.{Need}
 use Rattle.wh_host_model.specs.Frames.{tally}
 use Rattle.wh_host_model.specs.declared.states.Page.{Page}
@@ -9,16 +11,20 @@ use Rattle.wh_host_model.specs.Space.Ready.{IsAtHand}
 use Rattle.wh_host_model.specs.Space.States.{at, page_at}
 use Rattle.wh_space.specs.Steps.{page_limit}
 use Rattle.wh_overlay.specs.declared.upper.WrittenPage.{WrittenPage}
-use Rattle.wh_overlay.specs.LaidPages.{AreWhole, IsAmong, UpperState, with_upper}
+use Rattle.wh_overlay.specs.LaidPages.{AreWhole, IsAmong, IsNoted, NotesRead, UpperState, with_upper}
 
 -- the memory has grown by this page
 abbrev pub HasCome : Space → ℕ → UpperState → ℕ → Type 0
 HasCome s i u number =
     (length (get_or s.tables i []) ≤ number) × (number < length (get_or s.tables i []) + 16 * u.grown)
 
--- a page can be read: it was written beside the memory, is at hand in it, or the memory has grown by it
+-- it is at hand in the memory, or the memory has grown by it
+abbrev pub IsThereToRead : Space → ℕ → UpperState → ℕ → Type 0
+IsThereToRead s i u number = IsAtHand (page_at s.tables i number) ⊎ HasCome s i u number
+
+-- a page can be read: it was written beside the memory, or it is there, and can be noted as read
 abbrev pub CanRead : Space → ℕ → UpperState → ℕ → Type 0
-CanRead s i u number = IsAmong u.pages number ⊎ IsAtHand (page_at s.tables i number) ⊎ HasCome s i u number
+CanRead s i u number = IsAmong u.pages number ⊎ ((number < u.most) × IsThereToRead s i u number)
 
 -- the page is alone on its frame
 abbrev pub IsOnItsOwn : Space → ℕ → ℕ → Type 0
@@ -43,6 +49,10 @@ CanStepOver s i u need =
 abbrev pub AreAtHand : Space → ℕ → List WrittenPage → Type 0
 AreAtHand s i pages =
     (k : ℕ) (x : WrittenPage) → slice_get pages k ≡ Some x → IsAtHand (page_at s.tables i x.number)
+
+-- each page that was read is there
+abbrev pub ReadsAreThere : Space → ℕ → UpperState → Type 0
+ReadsAreThere s i u = (number : ℕ) → IsNoted u.reads number → IsThereToRead s i u number
 
 -- 1 for a page that may have to get a frame before it is written
 abbrev pub lacks_frame : Page → ℕ
@@ -73,10 +83,12 @@ sees o = with_upper (view o.lower o.place) o.upper
 abbrev pub HasGrown : Space → ℕ → UpperState → Type 0
 HasGrown s i u = 1 ≤ u.grown → length (view s i) + u.grown * 65536 ≤ page_limit s i * 65536
 
--- What is written beside a memory are pages that are at hand there. Of frames that are lent no more are taken than there are, and
--- one at least for each page that may have to get one. There are no more bytes than pages can be counted.
+-- What is written beside a memory are pages that are at hand there, and each page that was read is there. Of frames that are lent no
+-- more are taken than there are, and one at least for each page that may have to get one. There are no more bytes than pages can be
+-- counted.
 pub record IsOver (s : Space) (i : ℕ) (u : UpperState) : Type 0 where
   pub at_hand : AreAtHand s i u.pages
+  pub there : ReadsAreThere s i u
   pub frames : frames_lacking s i u.pages ≤ u.taken
   pub lent : u.taken ≤ u.lent
   pub counted : length (view s i) + u.grown * 65536 < 2 ^ 44
@@ -86,13 +98,27 @@ pub record IsOver (s : Space) (i : ℕ) (u : UpperState) : Type 0 where
 abbrev pub IsWholeOver : Space → ℕ → UpperState → Type 0
 IsWholeOver s i u = IsOver s i u × AreWhole u.pages
 
--- only what is written beside it changes, and stays what can be laid back
+-- Only what is written beside it changes, and stays what can be laid back. What was noted as read stays so.
 pub record IsOverSame (o p : OverlayState) : Type 0 where
   pub lower : p.lower ≡ o.lower
   pub place : p.place ≡ o.place
   pub page_limit : p.page_limit ≡ o.page_limit
   pub lent : p.upper.lent ≡ o.upper.lent
+  pub reads : (number : ℕ) → IsNoted o.upper.reads number → IsNoted p.upper.reads number
   pub stays : IsWholeOver o.lower o.place o.upper → IsWholeOver p.lower p.place p.upper
+
+-- a page of it is noted as read, and nothing else changes
+pub record NotesOver (o : OverlayState) (number : ℕ) (p : OverlayState) : Type 0 where
+  pub lower : p.lower ≡ o.lower
+  pub place : p.place ≡ o.place
+  pub page_limit : p.page_limit ≡ o.page_limit
+  pub notes : NotesRead o.upper number p.upper
+
+-- so many bytes are read from a place on: where there are some, the page on which they lie is noted as read
+abbrev pub ReadsOver : OverlayState → ℕ → ℕ → Got → OverlayState → Type 0
+ReadsOver o k n Value p = 1 ≤ n → NotesOver o (k / 4096) p
+ReadsOver o k n Trap p = p ≡ o
+ReadsOver o k n (NotReady need) p = p ≡ o
 
 -- these bytes can be read or written at once
 abbrev pub IsReadyOver : OverlayState → Need → Type 0

@@ -7,15 +7,17 @@ use Rattle.wh_overlay.specs.LaidPages.{UpperState}
 
 abbrev pub stored_upper : Coded UpperState
 stored_upper =
-    code_by (List WrittenPage × (ℕ × (ℕ × (ℕ × (ℕ × ℕ)))))
-    (coded× (coded_list page_type.the_row.coded) (coded× coded_ℕ (coded× coded_ℕ (coded× coded_ℕ (coded× coded_ℕ coded_ℕ)))))
-    (λ u. (u.pages, (u.grown, (u.room, (u.most, (u.lent, u.taken))))))
+    code_by (List WrittenPage × (List ℕ × (ℕ × (ℕ × (ℕ × (ℕ × ℕ))))))
+    (coded× (coded_list page_type.the_row.coded)
+    (coded× (coded_list coded_ℕ) (coded× coded_ℕ (coded× coded_ℕ (coded× coded_ℕ (coded× coded_ℕ coded_ℕ))))))
+    (λ u. (u.pages, (u.reads, (u.grown, (u.room, (u.most, (u.lent, u.taken)))))))
     (λ p. record {
       pages = p.0;
-      grown = p.1.0;
-      room = p.1.1.0;
-      most = p.1.1.1.0;
-      lent = p.1.1.1.1.0;
-      taken = p.1.1.1.1.1;
+      reads = p.1.0;
+      grown = p.1.1.0;
+      room = p.1.1.1.0;
+      most = p.1.1.1.1.0;
+      lent = p.1.1.1.1.1.0;
+      taken = p.1.1.1.1.1.1;
     })
     (λ _. refl)

@@ -1,10 +1,11 @@
 // An overlay is a linear memory.
 
 ghost use Rattle.std.proofs.Common.{◌∙◌, ap, refl};
-ghost use Rattle.std.specs.Prelude.{◌≡◌, ◌+◌, ◌*◌, ◌%◌, ◌≤◌, ◌/◌, MatchBool, length, min};
-ghost use Rattle.wh_model.specs.Execution.Memory.{reading, writing};
+ghost use Rattle.std.specs.Prelude.{◌≡◌, ◌+◌, ◌*◌, ◌%◌, ◌≤◌, ◌/◌, IsFalse, IsTrue, MatchBool, length, min};
+ghost use Rattle.wh_model.specs.declared.memory.Got.TheVariants.{Value};
+ghost use Rattle.wh_model.specs.Execution.Memory.{IsWaiting, Loads, reading, writing};
 ghost use Rattle.wh_space.specs.Steps.{page_limit};
-ghost use Rattle.wh_overlay.specs.Over.{CanRead, CanStepOver, CanWrite, IsOverSame, OverlayState, sees};
+ghost use Rattle.wh_overlay.specs.Over.{CanRead, CanStepOver, CanWrite, IsOverSame, IsReadyOver, OverlayState, ReadsOver, sees};
 
 use crate::overlay::Overlay;
 use wh_linmem::LinearMem;
@@ -41,7 +42,13 @@ impl<'a> LinearMem for Overlay<'a> {
         }
     }
 
-    fn load(&mut self, at: u64, into: &mut [u8]) -> Got {
+    fn load(&mut self, at: u64, into: &mut [u8]) -> Got
+        ensures loads { Loads (IsReadyOver self.old) (sees self.old) at into.old result into.new }
+        ensures bytes { sees self.new ≡ sees self.old }
+        ensures keeps { IsOverSame self.old self.new }
+        ensures waits { IsWaiting result → self.new ≡ self.old }
+        ensures noted { ReadsOver self.old at (length into.old) result self.new }
+    {
         if !self.has(at, into.len()) {
             return Got::Trap;
         }
@@ -86,7 +93,15 @@ impl<'a> LinearMem for Overlay<'a> {
     }
 
     #[inline(always)]
-    fn quick_load(&mut self, at: u64, into: &mut [u8]) -> bool {
+    fn quick_load(&mut self, at: u64, into: &mut [u8]) -> bool
+        ensures loads { IsTrue result
+            → Loads (IsReadyOver self.old) (sees self.old) at into.old Value into.new }
+        ensures bytes { sees self.new ≡ sees self.old }
+        ensures keeps { IsOverSame self.old self.new }
+        ensures nothing_read { IsFalse result → into.new ≡ into.old }
+        ensures nothing_done { IsFalse result → self.new ≡ self.old }
+        ensures noted { IsTrue result → ReadsOver self.old at (length into.old) Value self.new }
+    {
         if into.is_empty() || !is_on_one_page(at, into.len()) || !self.has(at, into.len()) {
             return false;
         }
@@ -120,6 +135,7 @@ impl<'a> LinearMem for Overlay<'a> {
       place = refl;
       page_limit = refl;
       lent = refl;
+      reads = λ number is. is;
       stays = λ h. h;
     } };
 
@@ -128,6 +144,7 @@ impl<'a> LinearMem for Overlay<'a> {
       place = second.place ∙ first.place;
       page_limit = second.page_limit ∙ first.page_limit;
       lent = second.lent ∙ first.lent;
+      reads = λ number is. second.reads number (first.reads number is);
       stays = λ h. second.stays (first.stays h);
     } };
 

@@ -7,7 +7,7 @@ ghost use Rattle.wh_host_model.specs.Space.States.{page_at};
 ghost use Rattle.wh_model.specs.Execution.Store.{bytes_at, written};
 ghost use Rattle.wh_space.specs.Steps.{page_limit};
 ghost use Rattle.wh_overlay.specs.LaidPages.{IsAmong, IsWrittenAt, grown_by};
-ghost use Rattle.wh_overlay.specs.Over.{AreAtHand, CanRead, CanWrite, HasFrameFor, HasGrown, IsOverSame, IsWholeOver, frames_lacking, sees};
+ghost use Rattle.wh_overlay.specs.Over.{AreAtHand, CanRead, CanWrite, HasFrameFor, HasGrown, IsOverSame, IsWholeOver, NotesOver, frames_lacking, sees};
 
 use crate::upper::Upper;
 use std::marker::Model;
@@ -15,9 +15,9 @@ use wh_space::Memory;
 
 /// The memory of the instance at one place, of which others read at the same time: what it writes lies beside it.
 ///
-/// It reads and writes bytes that lie on one page. A page that was written lies beside the memory; it is copied there when it is
-/// written for the first time, if there is room and it is alone on its frame, or at hand and a frame is lent for it. All else waits
-/// until what was written is laid back.
+/// It reads and writes bytes that lie on one page. A page that was read is noted, if there is a mark for it. A page that was written
+/// lies beside the memory; it is copied there when it is written for the first time, if there is room and it is alone on its frame, or
+/// at hand and a frame is lent for it. All else waits until what was written is laid back.
 #[derive(Drop)]
 pub struct Overlay<'a> {
     lower: &'a Memory,
@@ -61,6 +61,7 @@ impl<'a> Overlay<'a> {
     /// The memory of the instance at this place, which may grow to so many pages of 65536 bytes at most, with nothing written.
     pub fn new(lower: &'a Memory, place: usize, page_limit: u32, upper: Upper) -> Overlay<'a>
         requires pages { upper.pages ≡ [] }
+        requires reads { upper.reads ≡ [] }
         requires grown { upper.grown ≡ 0 }
         requires taken { upper.taken ≡ 0 }
         ensures { result ≡ record {
@@ -148,13 +149,13 @@ impl<'a> Overlay<'a> {
     {
         let below = u64::from(self.lower.pages_at(self.place));
         if number >= below {
-            return number < below + 16 * u64::from(self.upper.grown());
+            return number < below + 16 * u64::from(self.upper.grown())
+                && self.upper.has_mark_for(number);
         }
-        let number = number as u32;
-        if let Some(_) = self.upper.find(number) {
+        if let Some(_) = self.upper.find(number as u32) {
             return true;
         }
-        self.lower.peek(self.place, number, 0, &mut [])
+        self.upper.has_mark_for(number) && self.lower.peek(self.place, number as u32, 0, &mut [])
     }
 
     // Whether a page of this number can be written.
@@ -188,7 +189,7 @@ impl<'a> Overlay<'a> {
         at.saturating_add(count as u64) <= self.bytes()
     }
 
-    // Reads bytes of a page, where that can be read; else the answer is false.
+    // Reads bytes of a page, where that can be read, and notes that; else the answer is false, and nothing is done.
     #[inline(always)]
     pub(crate) fn read(&mut self, number: u32, offset: usize, into: &mut [u8]) -> bool
         requires some { 1 ≤ length into.old }
@@ -199,7 +200,10 @@ impl<'a> Overlay<'a> {
         ensures read { IsTrue result → into.new
             ≡ bytes_at (sees self.old) (4096 * number + offset) (length into.old) }
         ensures left { IsFalse result → into.new ≡ into.old }
-        ensures same { self.new ≡ self.old }
+        ensures noted { IsTrue result → NotesOver self.old number self.new }
+        ensures same { IsFalse result → self.new ≡ self.old }
+        ensures sees { sees self.new ≡ sees self.old }
+        ensures lower { IsOverSame self.old self.new }
     {
         self.upper.invariant();
         self.lower.invariant();
@@ -207,14 +211,20 @@ impl<'a> Overlay<'a> {
             copy_from(self.upper.bytes(at), offset, into);
             return true;
         }
+        if !self.upper.has_mark_for(u64::from(number)) {
+            return false;
+        }
         if number >= self.lower.pages_at(self.place) {
             clear(into);
+            self.upper.note_read(number);
+            self.upper.invariant();
             return true;
         }
         if !self.lower.peek(self.place, number, offset, into) {
             return false;
         }
         self.upper.note_read(number);
+        self.upper.invariant();
         true
     }
 

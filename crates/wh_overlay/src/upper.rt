@@ -1,8 +1,8 @@
 // What an instance writes beside the memory of all.
 
-ghost use Rattle.std.specs.Prelude.{◌≡◌, ◌+◌, ◌-◌, ◌^◌, ◌<◌, ◌≤◌, ◌⊎◌, ◌++◌, ◌∷◌, [], cond, false, Some, IfOk, IfSome, IfNone, MatchBool, length, get_or, slice_get, slice_set, vec_capacity};
+ghost use Rattle.std.specs.Prelude.{◌≡◌, ◌+◌, ◌-◌, ◌^◌, ◌<◌, ◌≤◌, ◌++◌, ◌∷◌, ℕ, [], cond, false, Some, IfOk, IfSome, IfNone, MatchBool, length, get_or, slice_get, slice_set, vec_capacity};
 ghost use Rattle.wh_model.specs.Execution.Store.{written as overwritten};
-ghost use Rattle.wh_overlay.specs.LaidPages.{AreWrittenOnce, AreWhole, IsMarked, IsAmong, IsWrittenAt, UpperState};
+ghost use Rattle.wh_overlay.specs.LaidPages.{AreNoted, AreWrittenOnce, AreWhole, IsMarked, IsAmong, IsNoted, IsWrittenAt, NotesRead, UpperState};
 
 use std::alloc::{AllocError, Global};
 use std::marker::Model;
@@ -41,7 +41,7 @@ pub struct Upper {
 
 impl Model for Upper {
     ghost use Rattle.std.specs.Prelude.{◌-◌, ◌≤◌, length, vec_capacity};
-    ghost use Rattle.wh_overlay.specs.LaidPages.{IsMarked, UpperState as State};
+    ghost use Rattle.wh_overlay.specs.LaidPages.{AreNoted, IsMarked, UpperState as State};
     ghost use Rattle.wh_overlay.specs.Stored.{stored_upper};
 
     ghost Value = { State };
@@ -50,6 +50,7 @@ impl Model for Upper {
 
     ghost view = { λ u. record {
       pages = u.pages.items;
+      reads = u.reads.items;
       grown = u.grown;
       room = u.most_written - length u.pages.items;
       most = length u.marks.items;
@@ -59,7 +60,8 @@ impl Model for Upper {
 
     ghost invariant = { λ u. IsMarked u.pages.items u.marks.items
         × (u.most_written ≤ vec_capacity u.pages) × (u.most_written ≤ 65535)
-        × (length u.pages.items ≤ u.most_written) };
+        × (length u.pages.items ≤ u.most_written)
+        × AreNoted u.reads.items u.marks.items × (length u.marks.items ≤ vec_capacity u.reads) };
 }
 
 // The mark of a page.
@@ -82,23 +84,25 @@ fn overwrite(bytes: &mut [u8; 4096], offset: usize, given: &[u8])
     bytes[offset..offset + given.len()].copy_from_slice(given);
 }
 
-// Keeps the number of a page that was read for the first time, if there is room for it.
+// Keeps the number of a page that was read for the first time.
 #[inline(never)]
 fn keep_read(reads: &mut Vec<u32>, marks: &mut Vec<u32>, number: u32)
-    requires { number < length marks.old.items }
-    ensures { (marks.new ≡ marks.old)
-        ⊎ (marks.new.items ≡ slice_set marks.old.items number 1) }
+    requires new { (number < length marks.old.items) × (get_or marks.old.items number 0 ≡ 0) }
+    requires noted { AreNoted reads.old.items marks.old.items }
+    requires room { length marks.old.items ≤ vec_capacity reads.old }
+    ensures reads { reads.new.items ≡ reads.old.items ++ number ∷ [] }
+    ensures marks { marks.new.items ≡ slice_set marks.old.items number 1 }
+    ensures room { vec_capacity reads.new ≡ vec_capacity reads.old }
 {
-    if reads.len() < reads.capacity() {
-        reads.push_reserved(number);
-        marks[number as usize] = READ;
-    }
+    reads.push_reserved(number);
+    marks[number as usize] = READ;
 }
 
 // Takes the marks of these pages away.
 fn clear_written(marks: &mut Vec<u32>, pages: &[WrittenPage])
     requires { IsMarked pages.now marks.old.items }
     ensures marks { IsMarked [] marks.new.items }
+    ensures reads { (number : ℕ) → get_or marks.new.items number 0 ≡ 1 → get_or marks.old.items number 0 ≡ 1 }
     ensures long { length marks.new.items ≡ length marks.old.items }
 {
     for page in pages {
@@ -110,8 +114,10 @@ fn clear_written(marks: &mut Vec<u32>, pages: &[WrittenPage])
 
 // Takes those of pages away that were read, where none was written.
 fn clear_read(marks: &mut Vec<u32>, reads: &[u32])
-    requires { IsMarked [] marks.old.items }
+    requires marks { IsMarked [] marks.old.items }
+    requires reads { (number : ℕ) → get_or marks.old.items number 0 ≡ 1 → IsNoted reads.now number }
     ensures marks { IsMarked [] marks.new.items }
+    ensures noted { AreNoted [] marks.new.items }
     ensures long { length marks.new.items ≡ length marks.old.items }
 {
     for number in reads {
@@ -128,7 +134,7 @@ impl Upper {
     /// Where that room is refused.
     pub fn new(alloc: Global, written: u16, pages: usize) -> Result<Upper, AllocError>
         ensures { IfOk result (λ u.
-            u ≡ record { pages = []; grown = 0; room = written; most = pages; lent = 0; taken = 0 }) }
+            u ≡ record { pages = []; reads = []; grown = 0; room = written; most = pages; lent = 0; taken = 0 }) }
     {
         let most_written = written as usize;
         Ok(Upper {
@@ -205,13 +211,21 @@ impl Upper {
         (number as usize) < self.marks.len() && self.pages.len() < self.most_written
     }
 
+    /// Whether a page of this number can be noted as read.
+    #[inline(always)]
+    pub fn has_mark_for(&self, number: u64) -> bool
+        ensures { MatchBool result (number < self.now.most) (¬ (number < self.now.most)) }
+    {
+        number < self.marks.len() as u64
+    }
+
     /// Keeps that a page was read, so that it is marked as touched in the memory of all when what is written here is laid back.
     #[inline(always)]
     pub fn note_read(&mut self, number: u32)
-        ensures { self.new ≡ self.old }
+        requires { number < self.old.most }
+        ensures { NotesRead self.old number self.new }
     {
-        let at = number as usize;
-        if at < self.marks.len() && self.marks[at] == 0 {
+        if self.marks[number as usize] == 0 {
             keep_read(&mut self.reads, &mut self.marks, number);
         }
     }
@@ -265,6 +279,7 @@ impl Upper {
     pub fn clear(&mut self)
         ensures { self.new ≡ record self.old {
           pages = [];
+          reads = [];
           grown = 0;
           room = self.old.room + length self.old.pages;
           taken = 0;

@@ -1,10 +1,10 @@
 -- A host in its owner's hand.
-use Rattle.std.proofs.Common.{◌≡◌, Option, Some, refl, sym, ap, subst, ◌∙◌, List, ℕ}
+use Rattle.std.proofs.Common.{◌≡◌, Option, Some, refl, sym, ap, subst, ◌∙◌, List, ℕ, arith}
 use Rattle.std.proofs.lemmas.Option.{same_Some}
 use Rattle.std.specs.Prelude.{Result, Ok, Err, IfOk, OnErr}
 use Rattle.wh_host_model.specs.declared.plain.SwapError.{SwapError}
 use Rattle.wh_host.specs.Hosting.{HostState}
-use Rattle.wh_threads.specs.Counting.{IsZero, SharesState, charges_of, turns_of}
+use Rattle.wh_threads.specs.Counting.{IsZero, SharesState, all_charges, all_turns}
 use Rattle.wh_cell.specs.Knowing.{BackingState, KnownState, NoneOut, known_of}
 use Rattle.wh_cell.specs.LeftByOwner.{LeftState, left_as}
 use Rattle.wh_cell.specs.Locking.{BooksState, IsInStep, LockedState, now_of}
@@ -70,9 +70,9 @@ in_hand_counted {D} locked backing owner owner2 shares shares2 l l2 hand is same
     }
 
 -- and no count has changed
-pub books_on : {D : Type 0} (locked : Option (LockedState D)) (owner owner2 : LeftState D) (now : OwnedState D) (l l2 : LockedState D) → owned_of locked owner ≡ now
+pub books_on : {D : Type 0} (locked : Option (LockedState D)) (owner owner2 : LeftState D) (shares : SharesState) (now : OwnedState D) (l l2 : LockedState D) → owned_of locked owner shares ≡ now
     → locked ≡ Some l → l2.books ≡ l.books → books_in (Some l2) ≡ now.books
-books_on {D} locked owner owner2 now l l2 view is books =
+books_on {D} locked owner owner2 shares now l l2 view is books =
     books ∙ sym (ap (λ (z : Option (LockedState D)). books_in z) is) ∙ ap (λ (z : OwnedState D). z.books) view
 
 pub now_same : {D : Type 0} (l l2 : LockedState D) → l.host ≡ l2.host → l.known ≡ l2.known → now_of l ≡ now_of l2
@@ -90,8 +90,8 @@ in_hand_first {D} owner shares l b h d hosts devices agree knows none zero = rec
   agree = agree;
   knows = knows ∙ ap (λ z. left_as z d) (sym hosts) ∙ ap (λ z. left_as l.host z) (sym devices);
   sums = record {
-    turns = ap (λ (z : BooksState). z.turns) none ∙ sym zero.turns;
-    charges = ap (λ (z : BooksState). z.charges) none ∙ sym zero.charges;
+    turns = omega (arith, ap (λ (z : BooksState). z.turns) none, zero.turns, zero.own_turns);
+    charges = omega (arith, ap (λ (z : BooksState). z.charges) none, zero.charges, zero.own_charges);
     offers = ap (λ (z : BooksState). z.offers) none ∙ sym zero.offers;
     evictions = ap (λ (z : BooksState). z.evictions) none ∙ sym zero.evictions;
   };
@@ -99,14 +99,14 @@ in_hand_first {D} owner shares l b h d hosts devices agree knows none zero = rec
 
 -- the host that contracts see is the one that is locked
 pub same_host : {D : Type 0} (locked : Option (LockedState D)) (backing : Option (BackingState D)) (owner : LeftState D) (shares : SharesState) (now : OwnedState D) (l : LockedState D) → IsInHand locked backing owner shares
-    → owned_of locked owner ≡ now → locked ≡ Some l → l.host ≡ now.host
+    → owned_of locked owner shares ≡ now → locked ≡ Some l → l.host ≡ now.host
 same_host {D} locked backing owner shares now l hand view is =
     let same = same_Some hand.inside l (sym hand.has ∙ is) in
     sym (ap (λ (z : LockedState D). z.host) same) ∙ sym (ap (λ (z : LeftState D). z.host) hand.knows) ∙ ap (λ (z : OwnedState D). z.host) view
 
 -- so what is said of the one and the next is said of what contracts see
 pub on_owned : {D : Type 0} (P : HostState → HostState → Type 0) (locked : Option (LockedState D)) (backing : Option (BackingState D)) (owner : LeftState D) (shares : SharesState) (now : OwnedState D) (l : LockedState D) (h2 h3 : HostState)
-    → IsInHand locked backing owner shares → owned_of locked owner ≡ now → locked ≡ Some l → h2 ≡ h3 → P l.host h2 → P now.host h3
+    → IsInHand locked backing owner shares → owned_of locked owner shares ≡ now → locked ≡ Some l → h2 ≡ h3 → P l.host h2 → P now.host h3
 on_owned P locked backing owner shares now l h2 h3 hand view is same p =
     subst (λ h. P now.host h) same (subst (λ h. P h h2) (same_host locked backing owner shares now l hand view is) p)
 
@@ -114,9 +114,9 @@ on_owned P locked backing owner shares now l h2 h3 hand view is same p =
 pub known_owned : {D : Type 0} (held : D → List (List ℕ)) (keeps honest : D → Type 0) (faults : D → List SwapError) (now : OwnedState D) (l : LockedState D) (b : BackingState D)
     → left_of now ≡ now_of l → now.books ≡ l.books → l.known ≡ known_of b → NoneOut b.out → IsInStep held keeps honest faults l → IsSoundInHand held honest now
 known_owned {D} held keeps honest faults now l b is books agree none s =
-    let same : now ≡ record { host = l.host; device = l.known.device; books = l.books } =
-    ap (λ (z : LeftState D). (let o : OwnedState D = record { host = z.host; device = z.device; books = now.books } in o)) is
-    ∙ ap (λ (z : BooksState). (let o : OwnedState D = record { host = l.host; device = l.known.device; books = z } in o)) books in
+    let same : now ≡ record { host = l.host; device = l.known.device; books = l.books; own = now.own } =
+    ap (λ (z : LeftState D). (let o : OwnedState D = record { host = z.host; device = z.device; books = now.books; own = now.own } in o)) is
+    ∙ ap (λ (z : BooksState). (let o : OwnedState D = record { host = l.host; device = l.known.device; books = z; own = now.own } in o)) books in
     subst (IsSoundInHand held honest) (sym same) (record {
       some = s.some;
       device = s.device;
@@ -127,19 +127,19 @@ known_owned {D} held keeps honest faults now l b is books agree none s =
     })
 
 -- what its owner meets has come from what it left
-pub comes_on : {D : Type 0} (keeps honest : D → Type 0) (faults : D → List SwapError) (locked : Option (LockedState D)) (owner : LeftState D) (now : OwnedState D) (owner2 : LeftState D) (l : LockedState D)
-    → owned_of locked owner ≡ now → ComesOn keeps honest faults owner (now_of l) → owner2 ≡ now_of l → ComesOn keeps honest faults (left_of now) owner2
-comes_on {D} keeps honest faults locked owner now owner2 l view came knows =
+pub comes_on : {D : Type 0} (keeps honest : D → Type 0) (faults : D → List SwapError) (locked : Option (LockedState D)) (owner : LeftState D) (shares : SharesState) (now : OwnedState D) (owner2 : LeftState D) (l : LockedState D)
+    → owned_of locked owner shares ≡ now → ComesOn keeps honest faults owner (now_of l) → owner2 ≡ now_of l → ComesOn keeps honest faults (left_of now) owner2
+comes_on {D} keeps honest faults locked owner shares now owner2 l view came knows =
     subst (λ o. ComesOn keeps honest faults o owner2) (ap (λ (z : OwnedState D). left_of z) view) (subst (λ o. ComesOn keeps honest faults owner o) (sym knows) came)
 
 -- what the books had is what the counts had
 pub sums_before : {D : Type 0} (locked : Option (LockedState D)) (backing : Option (BackingState D)) (owner : LeftState D) (shares : SharesState) (now : OwnedState D) → IsInHand locked backing owner shares
-    → owned_of locked owner ≡ now → AreSums now.books shares
+    → owned_of locked owner shares ≡ now → AreSums now.books shares
 sums_before {D} locked backing owner shares now hand view =
     subst (λ z. AreSums z shares) (sym (ap (λ (z : Option (LockedState D)). books_in z) hand.has) ∙ ap (λ (z : OwnedState D). z.books) view) hand.sums
 
 -- what the books have when they have faced the counts
-pub sums_of : (books books2 : BooksState) (s s2 : SharesState) → books.turns ≡ turns_of s.tallies → books.charges ≡ charges_of s.tallies → books.offers ≡ s.offers → books.evictions ≡ s.evictions
+pub sums_of : (books books2 : BooksState) (s s2 : SharesState) → books.turns ≡ all_turns s → books.charges ≡ all_charges s → books.offers ≡ s.offers → books.evictions ≡ s.evictions
     → books2 ≡ books → s2 ≡ s → AreSums books2 s2
 sums_of books books2 s s2 turns charges offers evictions same same2 =
     rw (same, same2) (record { turns = turns; charges = charges; offers = offers; evictions = evictions })

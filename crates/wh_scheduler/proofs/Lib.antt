@@ -1,4 +1,5 @@
 mod InRounds
+pub mod OwnTurns
 mod InHand
 mod RunQueues
 mod Scans

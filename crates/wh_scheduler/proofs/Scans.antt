@@ -4,14 +4,14 @@ use Rattle.std.proofs.lemmas.Option.{same_Some}
 use Rattle.std.specs.Prelude.{Result, Ok, Err, IfOk, OnOk, OnErr}
 use Rattle.wh_host.specs.Backing.{KeepsBacking}
 use Rattle.wh_host.specs.Paging.{MovesOnly}
-use Rattle.wh_threads.specs.Counting.{SharesState, charges_of, turns_of}
+use Rattle.wh_threads.specs.Counting.{SharesState, all_charges, all_turns}
 use Rattle.wh_workers.specs.declared.crew.ServeError.{ServeError}
 use Rattle.wh_cell.specs.Counted.{countable, offers_of}
 use Rattle.wh_cell.specs.Knowing.{BackingState}
 use Rattle.wh_cell.specs.LeftByOwner.{LeftState}
 use Rattle.wh_cell.specs.Locking.{BooksState, LockedState, now_of}
 use Rattle.wh_cell.specs.Scanned.{IsScanned, ScansLocked}
-use Rattle.wh_scheduler.specs.InHand.{AreSums, IsInHand, OwnedState, owned_of}
+use Rattle.wh_scheduler.specs.InHand.{AreSums, IsInHand, OwnedState, own_of, owned_of}
 use Rattle.wh_scheduler.proofs.InHand.{in_hand}
 
 -- what came of it
@@ -47,8 +47,8 @@ came_sums hashes l s (Ok offered) l2 s2 came sums =
     let counted = came.0.counted in
     let only = came.2 in
     record {
-      turns = ap (λ (z : BooksState). z.turns) books ∙ sums.turns ∙ sym (ap (λ (z : SharesState). turns_of z.tallies) only);
-      charges = ap (λ (z : BooksState). z.charges) books ∙ sums.charges ∙ sym (ap (λ (z : SharesState). charges_of z.tallies) only);
+      turns = ap (λ (z : BooksState). z.turns) books ∙ sums.turns ∙ sym (ap (λ (z : SharesState). all_turns z) only);
+      charges = ap (λ (z : BooksState). z.charges) books ∙ sums.charges ∙ sym (ap (λ (z : SharesState). all_charges z) only);
       offers = counted.book_is ∙ ap (λ n. n + countable s.offers (offers_of offered)) sums.offers ∙ sym counted.count_is;
       evictions = ap (λ (z : BooksState). z.evictions) books ∙ sums.evictions ∙ sym (ap (λ (z : SharesState). z.evictions) only);
     }
@@ -66,18 +66,19 @@ came_books hashes l s (Err error) l2 s2 came sums = tt
 
 -- ---- in its owner's hand
 
-abbrev pub owned_now : {D : Type 0} → LockedState D → OwnedState D
-owned_now l = record { host = l.host; device = l.known.device; books = l.books }
+abbrev pub owned_now : {D : Type 0} → LockedState D → SharesState → OwnedState D
+owned_now l s = record { host = l.host; device = l.known.device; books = l.books; own = own_of s }
 
 pub owned_is : {D : Type 0} (locked : Option (LockedState D)) (backing : Option (BackingState D)) (owner : LeftState D) (shares : SharesState) (now : OwnedState D) (l : LockedState D) → IsInHand locked backing owner shares
-    → owned_of locked owner ≡ now → locked ≡ Some l → now ≡ owned_now l
+    → owned_of locked owner shares ≡ now → locked ≡ Some l → now ≡ owned_now l shares
 owned_is {D} locked backing owner shares now l hand view is =
     let knows = (in_hand locked backing owner shares l hand.behind hand is hand.has_behind).0 in
-    sym view ∙ (λ i. (let o : OwnedState D = owned_of (is i) (knows i) in o))
+    sym view ∙ (λ i. (let o : OwnedState D = owned_of (is i) (knows i) shares in o))
 
-pub owned_then : {D : Type 0} (l2 l3 : LockedState D) (owner2 : LeftState D) → l3.host ≡ l2.host → l3.known ≡ l2.known → l3.books ≡ l2.books → owner2 ≡ now_of l3 → owned_of (Some l3) owner2 ≡ owned_now l2
-owned_then {D} l2 l3 owner2 hosts known books knows =
-    ap (λ (z : LeftState D). owned_of (Some l3) z) knows ∙ (λ i. (let o : OwnedState D = record { host = hosts i; device = (known i).device; books = books i } in o))
+pub owned_then : {D : Type 0} (l2 l3 : LockedState D) (owner2 : LeftState D) (shares2 : SharesState) → l3.host ≡ l2.host → l3.known ≡ l2.known → l3.books ≡ l2.books → owner2 ≡ now_of l3 → owned_of (Some l3) owner2 shares2 ≡ owned_now l2 shares2
+owned_then {D} l2 l3 owner2 shares2 hosts known books knows =
+    ap (λ (z : LeftState D). owned_of (Some l3) z shares2) knows
+    ∙ (λ i. (let o : OwnedState D = record { host = hosts i; device = (known i).device; books = books i; own = own_of shares2 } in o))
 
 pub sums_now : {D : Type 0} (locked : Option (LockedState D)) (backing : Option (BackingState D)) (owner : LeftState D) (shares : SharesState) (l : LockedState D) → IsInHand locked backing owner shares
     → locked ≡ Some l → AreSums l.books shares
@@ -85,10 +86,16 @@ sums_now {D} locked backing owner shares l hand is =
     subst (λ (z : LockedState D). AreSums z.books shares) (same_Some hand.inside l (sym hand.has ∙ is)) hand.sums
 
 -- what is said of the host that was locked is said of the one in hand
-pub on_both : {D : Type 0} (P : OwnedState D → OwnedState D → Type 0) (now new : OwnedState D) (l l2 : LockedState D) → now ≡ owned_now l → new ≡ owned_now l2 → P (owned_now l) (owned_now l2) → P now new
-on_both {D} P now new l l2 is is2 p = subst (λ (o : OwnedState D). P o new) (sym is) (subst (λ (o : OwnedState D). P (owned_now l) o) (sym is2) p)
+pub on_both : {D : Type 0} (P : OwnedState D → OwnedState D → Type 0) (now new : OwnedState D) (l l2 : LockedState D) (s s2 : SharesState) → now ≡ owned_now l s → new ≡ owned_now l2 s2
+    → P (owned_now l s) (owned_now l2 s2) → P now new
+on_both {D} P now new l l2 s s2 is is2 p = subst (λ (o : OwnedState D). P o new) (sym is) (subst (λ (o : OwnedState D). P (owned_now l s) o) (sym is2) p)
 
 pub came_same : {D : Type 0} (hashes : List ℕ → ℕ) (l : LockedState D) (s : SharesState) (r : Result (Option ℕ) ServeError) (l2 : LockedState D) (s2 : SharesState) → Came hashes l s r l2 s2
-    → OnErr r (owned_now l2 ≡ owned_now l)
+    → OnErr r (owned_now l2 s2 ≡ owned_now l s)
 came_same hashes l s (Ok offered) l2 s2 came = tt
-came_same {D} hashes l s (Err error) l2 s2 came = ap (λ (z : LockedState D). owned_now z) came.1.0
+came_same {D} hashes l s (Err error) l2 s2 came = (λ i. (let o : OwnedState D = owned_now (came.1.0 i) (came.1.1 i) in o))
+
+-- and of the turns that the owner ran itself
+pub came_own : {D : Type 0} (hashes : List ℕ → ℕ) (l : LockedState D) (s : SharesState) (r : Result (Option ℕ) ServeError) (l2 : LockedState D) (s2 : SharesState) → Came hashes l s r l2 s2
+    → own_of s2 ≡ own_of s
+came_own hashes l s r l2 s2 came = ap own_of came.2

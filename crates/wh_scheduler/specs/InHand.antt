@@ -1,19 +1,30 @@
 -- A host between two runs of its calls, with its owner.
-use Rattle.std.specs.Prelude.{◌≡◌, ℕ, List, Option, Some, None}
+use Rattle.std.specs.Prelude.{◌≡◌, ◌⊎◌, ℕ, ◌+◌, List, Option, Some, None, slice_get, false, true}
+use Rattle.wh_host_model.specs.declared.plain.InstId.{InstId}
 use Rattle.wh_host_model.specs.Host.Worlds.{World}
 use Rattle.wh_reclaim.specs.Together.{AreTogether}
 use Rattle.wh_host.specs.Hosting.{HostState, IsHost}
+use Rattle.wh_host.specs.Paging.{IsAwaiting, IsGoing, Tells}
 use Rattle.wh_host.specs.Showing.{RepresentsReached}
-use Rattle.wh_threads.specs.Counting.{SharesState, charges_of, turns_of}
+use Rattle.wh_threads.specs.Counting.{SharesState, all_charges, all_turns}
 use Rattle.wh_cell.specs.Knowing.{BackingState, known_of}
 use Rattle.wh_cell.specs.LeftByOwner.{FitsHost, LeftState, left_as}
 use Rattle.wh_cell.specs.Locking.{BooksState, LockedState}
 
--- what contracts see of it: the host, its device, and how much was counted of each kind
+-- how many turns the owner ran itself, where no thread worked, and how many charges these took
+pub record OwnCount : Type 0 where
+  pub turns : ℕ
+  pub charges : ℕ
+
+abbrev pub own_of : SharesState → OwnCount
+own_of s = record { turns = s.owner.turns; charges = s.owner.charges }
+
+-- what contracts see of it: the host, its device, how much was counted of each kind, and how much of that by the owner
 pub record OwnedState (D : Type 0) : Type 0 where
   pub host : HostState
   pub device : Option D
   pub books : BooksState
+  pub own : OwnCount
 
 -- as its owner left it
 abbrev pub left_of : {D : Type 0} → OwnedState D → LeftState D
@@ -23,13 +34,18 @@ abbrev pub books_in : {D : Type 0} → Option (LockedState D) → BooksState
 books_in (Some l) = l.books
 books_in None = record { turns = 0; charges = 0; offers = 0; evictions = 0 }
 
-abbrev pub owned_of : {D : Type 0} → Option (LockedState D) → LeftState D → OwnedState D
-owned_of locked owner = record { host = owner.host; device = owner.device; books = books_in locked }
+abbrev pub owned_of : {D : Type 0} → Option (LockedState D) → LeftState D → SharesState → OwnedState D
+owned_of locked owner shares = record {
+  host = owner.host;
+  device = owner.device;
+  books = books_in locked;
+  own = own_of shares;
+}
 
--- the books are the sums of the counts of all threads, by kind
+-- the books are the sums of the counts of all threads, by kind: turns and charges those of the workers and of the owner
 pub record AreSums (books : BooksState) (s : SharesState) : Type 0 where
-  pub turns : books.turns ≡ turns_of s.tallies
-  pub charges : books.charges ≡ charges_of s.tallies
+  pub turns : books.turns ≡ all_turns s
+  pub charges : books.charges ≡ all_charges s
   pub offers : books.offers ≡ s.offers
   pub evictions : books.evictions ≡ s.evictions
 
@@ -54,3 +70,24 @@ pub record IsSoundInHand {D : Type 0} (held : D → List (List ℕ)) (honest : D
   pub led : honest device → RepresentsReached o.host
   pub together : AreTogether o.host.space (held device)
   pub fits : FitsHost o.host o.books.charges
+
+-- ---- turns that the owner runs itself
+
+-- The owner ran so many turns more, and they took some charges: its own count has them, and so do the books, and nothing else was
+-- counted. So no worker's count has changed.
+pub record RunsHere (books : BooksState) (own : OwnCount) (turns : ℕ) (books2 : BooksState) (own2 : OwnCount) : Type 0 where
+  pub taken : ℕ
+  pub books_are : books2 ≡ record books { turns = books.turns + turns; charges = books.charges + taken }
+  pub own_is : own2 ≡ record { turns = own.turns + turns; charges = own.charges + taken }
+
+-- no call of this instance can go on, or it waits for a frame
+abbrev pub RestsOrWaits : HostState → InstId → Type 0
+RestsOrWaits h id = Tells h false (λ w. IsGoing w id) ⊎ Tells h true (λ w. IsAwaiting w id)
+
+-- each of these instances is so in the host
+abbrev pub EachIs : (HostState → InstId → Type 0) → HostState → List InstId → Type 0
+EachIs P h ids = (i : ℕ) (id : InstId) → slice_get ids i ≡ Some id → P h id
+
+-- no call of it can go on
+abbrev pub Rests : HostState → InstId → Type 0
+Rests h id = Tells h false (λ w. IsGoing w id)

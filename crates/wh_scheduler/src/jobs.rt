@@ -353,8 +353,6 @@ impl<D: SwapDev + Drop, T: Ledger, C: Ledger, O: Ledger, E: Ledger, B: CellAgree
                 self.schedule.turn_lock.dispatch();
                 return Next::Turns(id, count);
             }
-            // While the calling thread runs the turns none is out here: one is due, a step waits for a frame, or none can go on.
-            // So nobody is waited for.
             let rings = self.schedule.turn_completed.notifications();
             match self.refill(rt) {
                 Choice::Rest => return Next::End,

@@ -2,6 +2,7 @@
 //! step is made ready.
 #![tactic(auto)]
 
+mod here;
 mod jobs;
 mod owned;
 mod round_room;
@@ -13,6 +14,7 @@ mod spin_backoff;
 mod turn_job;
 mod turn_lock;
 
+pub use here::{HereEnd, TurnsHere};
 pub use jobs::{ReclaimJob, Schedule, TurnSupply};
 pub use owned::OwnedHost;
 pub use round_room::{Aim, RoundRoom};

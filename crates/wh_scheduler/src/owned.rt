@@ -1,6 +1,6 @@
 //! A host in the hand of its owner: what is asked of it between two runs of its calls, and the runs.
 
-ghost use Rattle.std.specs.Prelude.{◌≡◌, ◌+◌, ◌/◌, ◌≤◌, ◌<◌, Some, IfOk, IfSome, OnErr, OnOk};
+ghost use Rattle.std.specs.Prelude.{◌≡◌, ◌+◌, ◌-◌, ◌/◌, ◌^◌, ◌≤◌, ◌<◌, ◌⊎◌, Some, IfOk, IfSome, OnErr, OnOk};
 ghost use Rattle.crossbeam_channel.specs.Claims.{view};
 ghost use Rattle.wh_host_model.specs.Space.Stores.{Epochs};
 ghost use Rattle.wh_reclaim.specs.Together.{AreTogether};
@@ -19,8 +19,10 @@ ghost use Rattle.wh_cell.specs.LeftByOwner.{HasNoCharge, left_as};
 ghost use Rattle.wh_cell.specs.Locking.{now_of};
 ghost use Rattle.wh_cell.specs.Owning.{ComesOn};
 ghost use Rattle.wh_cell.specs.Scanned.{IsScanned};
-ghost use Rattle.wh_scheduler.specs.InHand.{AreSums, IsSoundInHand, left_of};
+ghost use Rattle.wh_scheduler.specs.InHand.{AreSums, EachIs, IsSoundInHand, Rests, RestsOrWaits, RunsHere, left_of, own_of};
+ghost use Rattle.wh_scheduler.specs.declared.here.HereEnd.TheVariants.{Frame, Most, Rest};
 
+use crate::here::{TurnsHere, turns_here};
 use crate::scanning::scan_there;
 use crate::serving::{RunConfig, run_calls};
 use std::alloc::{AllocError, Global};
@@ -29,7 +31,7 @@ use std::sync::Wait;
 use std::sync::ledger::Ledger;
 use std::thread::Threads;
 use wh_cell::{Backing, CellAgreements, CellParts, HostCell, Locked, Owner, Parts};
-use wh_host::{Host, HostError, Request, Roll, Transcript};
+use wh_host::{BeginEpoch, Host, HostError, Request, Roll, Transcript};
 use wh_host_model::InstId;
 use wh_kernels::PageHash;
 use wh_swap::SwapDev;
@@ -70,7 +72,7 @@ impl<D: SwapDev, T: Ledger, C: Ledger, O: Ledger, E: Ledger, B: CellAgreements> 
 
     ghost coded = { stored_owned D.code };
 
-    ghost view = { λ o. owned_of o.locked o.owner };
+    ghost view = { λ o. owned_of o.locked o.owner o.shares };
 
     ghost invariant = { λ o. IsInHand o.locked o.backing o.owner o.shares };
 }
@@ -184,6 +186,7 @@ impl<D: SwapDev, T: Ledger, C: Ledger, O: Ledger, E: Ledger, B: CellAgreements> 
             × (result.0.now.offers ≡ self.now.books.offers)
             × (result.0.now.evictions ≡ self.now.books.evictions) }
         ensures sums { AreSums self.now.books result.1.now }
+        ensures own { own_of result.1.now ≡ self.now.own }
     {
         let (locked, _) = self.both();
         (locked.books(), &self.shares)
@@ -222,6 +225,7 @@ impl<D: SwapDev, T: Ledger, C: Ledger, O: Ledger, E: Ledger, B: CellAgreements> 
         ensures backing { KeepsBacking self.old.host.space self.new.host.space }
         ensures device { self.new.device ≡ self.old.device }
         ensures books { self.new.books ≡ self.old.books }
+        ensures own { self.new.own ≡ self.old.own }
     {
         let Some(locked) = &mut self.locked else {
             unreachable!();
@@ -236,12 +240,33 @@ impl<D: SwapDev, T: Ledger, C: Ledger, O: Ledger, E: Ledger, B: CellAgreements> 
         ensures backing { KeepsBacking self.old.host.space self.new.host.space }
         ensures device { self.new.device ≡ self.old.device }
         ensures books { self.new.books ≡ self.old.books }
+        ensures own { self.new.own ≡ self.old.own }
+    {
+        let _ = self.ask(BeginEpoch);
+    }
+
+    /// Runs at most `most` turns of the calls of `ids`, in that order again and again, each of at most `quantum` charges, and in the
+    /// calling thread: on the host in hand, under no lock and through no channel. No page is offered for them, and none is moved.
+    ///
+    /// Returns how many were run, and why there were no more. The owner's own count has them, and so do the books; no worker's count
+    /// changes.
+    pub fn run_here(&mut self, ids: &[InstId], most: u64, quantum: u32) -> TurnsHere
+        ensures came { ComesOn D.keeps D.honest D.faults (left_of self.old) (left_of self.new) }
+        ensures few { result.turns ≤ most }
+        ensures runs { RunsHere self.old.books self.old.own result.turns self.new.books
+            self.new.own }
+        ensures rest { result.end ≡ Rest → EachIs Rests self.new.host ids.now }
+        ensures frame { result.end ≡ Frame → EachIs RestsOrWaits self.new.host ids.now }
+        ensures most { result.end ≡ Most → (result.turns ≡ most)
+            ⊎ (self.new.own.turns ≡ 2 ^ 64 - 1) }
+        ensures device { self.new.device ≡ self.old.device }
     {
         let Some(locked) = &mut self.locked else {
             unreachable!();
         };
-        locked.epoch();
+        let ran = turns_here(locked, &mut self.shares, ids, most, quantum);
         locked.sync_owner(&mut self.owner);
+        ran
     }
 }
 
@@ -263,7 +288,7 @@ impl<
     ///
     /// # Errors
     /// `Memory` where room was refused, and `NoThread` where the scanner couldn't be started. Nothing was done then.
-    pub fn scan<H: PageHash + Drop + Send + 'static, R: Threads + Wait>(
+    pub fn scan<H: PageHash + Drop + Send + 'static, R: Threads + Wait + Copy + Send + 'static>(
         &mut self,
         rt: &R,
         alloc: Global,
@@ -278,19 +303,21 @@ impl<
         ensures err { OnErr result (self.new ≡ self.old) }
         ensures backing { KeepsBacking self.old.host.space self.new.host.space }
         ensures device { self.new.device ≡ self.old.device }
+        ensures own { self.new.own ≡ self.old.own }
     {
         let Some(locked) = self.locked.take() else {
             unreachable!();
         };
-        let (answer, back) = scan_there(rt, alloc, locked, hasher, &mut self.shares);
+        let (answer, back) = scan_there(*rt, alloc, locked, hasher, &mut self.shares);
         let mut back = back;
         back.sync_owner(&mut self.owner);
         self.locked = Some(back);
         answer
     }
 
-    /// Runs the calls of `ids` until none can go on, as `run_calls` does, on a cell that the host lies in meanwhile. Whatever
-    /// it answers, the host came by work from the one before.
+    /// Runs the calls of `ids` until none can go on, as `run_calls` does, on a cell that the host lies in meanwhile: workers do, in
+    /// threads of their own, and the owner's own count doesn't change. Whatever it answers, the host came by work from the one
+    /// before.
     ///
     /// # Errors
     /// Those of `run_calls`.
@@ -309,8 +336,8 @@ impl<
         ensures dispatched { IfOk result (λ s. AreTurns s.turns run_config.quantum (view s.slip).sent) }
         ensures once { IfOk result (λ s. OnOk s.end
             (SameMessages (view s.slip).sent (view s.slip).received)) }
-        ensures grown { IfOk result (λ s. AreRun self.old.books.turns (view s.slip).received
-            self.new.books.turns) }
+        ensures grown { IfOk result (λ s. AreRun self.old.books.turns s.left
+            (view s.slip).received self.new.books.turns) }
         ensures turns { IfOk result (λ s. OnOk s.end
             (self.new.books.turns ≡ self.old.books.turns + s.turns)) }
         ensures owed { IfOk result (λ s. OnOk s.end
@@ -318,6 +345,7 @@ impl<
         ensures err { OnErr result (self.new.books.turns ≡ self.old.books.turns) }
         ensures offers { self.old.books.offers ≤ self.new.books.offers }
         ensures evictions { self.old.books.evictions ≤ self.new.books.evictions }
+        ensures own { self.new.own ≡ self.old.own }
     {
         let Some(locked) = self.locked.take() else {
             unreachable!();
@@ -368,7 +396,7 @@ fn run_between<
     ensures dispatched { IfOk result.0 (λ s. AreTurns s.turns run_config.quantum (view s.slip).sent) }
     ensures once { IfOk result.0 (λ s. OnOk s.end
         (SameMessages (view s.slip).sent (view s.slip).received)) }
-    ensures grown { IfOk result.0 (λ s. AreRun (turns_of shares.old.tallies)
+    ensures grown { IfOk result.0 (λ s. AreRun (turns_of shares.old.tallies) s.left
         (view s.slip).received (turns_of shares.new.tallies)) }
     ensures turns { IfOk result.0 (λ s. OnOk s.end
         (turns_of shares.new.tallies ≡ turns_of shares.old.tallies + s.turns)) }
@@ -377,6 +405,7 @@ fn run_between<
     ensures err { OnErr result.0 (shares.new.tallies ≡ shares.old.tallies) }
     ensures offers { shares.old.offers ≤ shares.new.offers }
     ensures evictions { shares.old.evictions ≤ shares.new.evictions }
+    ensures owner { shares.new.owner ≡ shares.old.owner }
 {
     let (locked, backing) = parts;
     match HostCell::from_parts(alloc, locked, backing) {

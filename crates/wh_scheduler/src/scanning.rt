@@ -50,9 +50,9 @@ pub fn scan_there<
     E: Ledger + Send + 'static,
     B: CellAgreements + Send + 'static,
     H: PageHash + Drop + Send + 'static,
-    R: Threads + Wait,
+    R: Threads + Wait + Copy + Send + 'static,
 >(
-    rt: &R,
+    rt: R,
     alloc: Global,
     locked: Locked<D, T, C, O, E, B>,
     hasher: H,

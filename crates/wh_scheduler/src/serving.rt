@@ -1,4 +1,4 @@
-//! A call of `run_calls`: turns on a cell, by the calling thread first; workers, a scanner and a reclaimer where they are wanted.
+//! A call of `run_calls`: turns on a cell by workers, with a scanner and a reclaimer where they are wanted.
 
 ghost use Rattle.std.specs.Prelude.{◌≡◌, ◌+◌, ◌/◌, ◌<◌, ◌≤◌, IfOk, OnErr, OnOk};
 ghost use Rattle.crossbeam_channel.specs.Claims.{view};
@@ -106,18 +106,17 @@ fn staff_of<
     Ok(Staff { jobs, supply })
 }
 
-/// Runs the calls of `ids` until none can go on. The calling thread dispatches the turns, and runs up to 31 itself. Where more
-/// come, or a step waits for a frame, `run_config.workers` run the further ones, each in a thread of its own, and those of several
-/// instances that compute for long at once, by as many threads; beside them a scanner offers pages, and a reclaimer makes steps
-/// ready that wait for frames.
+/// Runs the calls of `ids` until none can go on. The calling thread dispatches the turns, and runs none: `run_config.workers` do,
+/// each in a thread of its own, and those of several instances that compute for long at once, by as many threads; beside them a
+/// scanner offers pages, and a reclaimer makes steps ready that wait for frames.
 ///
 /// Returns what was dispatched and run, however it ended. Where it ended well each dispatched turn was received once, the
 /// workers' counts have grown by so many, and for each 64 turns a page was offered. No count gets smaller.
 ///
 /// # Errors
-/// `Memory` where room was refused: no turn was run then. `Served::end` says so where there was no room for the crew or not all
-/// workers could be started, and the first turns alone were run; or pages couldn't be offered that are owed. It is `NoThread` too
-/// where a step waited for a frame and the reclaimer couldn't be started: no further turn was dispatched then, and calls may be left
+/// `Memory` where room was refused: no turn was run then. `Served::end` says so where there was no room for the crew, and that or
+/// `NoThread` where not all workers could be started, and no turn was run; or pages couldn't be offered that are owed. It is
+/// `NoThread` too where a step waited for a frame and the reclaimer couldn't be started: no further turn was dispatched then, and calls may be left
 /// that can go on.
 pub fn run_calls<
     D: SwapDev + Drop + Send + 'static,
@@ -138,8 +137,8 @@ pub fn run_calls<
 ) -> Result<Served, ServeError>
     requires { (0 < run_config.workers) × (run_config.workers ≤ 64) }
     ensures dispatched { IfOk result (λ s. AreTurns s.turns run_config.quantum (view s.slip).sent) }
-    ensures grown { IfOk result (λ s. AreRun (turns_of shares.old.tallies) (view s.slip).received
-        (turns_of shares.new.tallies)) }
+    ensures grown { IfOk result (λ s. AreRun (turns_of shares.old.tallies) s.left
+        (view s.slip).received (turns_of shares.new.tallies)) }
     ensures once { IfOk result (λ s. OnOk s.end
         (SameMessages (view s.slip).sent (view s.slip).received)) }
     ensures turns { IfOk result (λ s. OnOk s.end
@@ -149,6 +148,7 @@ pub fn run_calls<
     ensures err { OnErr result (shares.new.tallies ≡ shares.old.tallies) }
     ensures offers { shares.old.offers ≤ shares.new.offers }
     ensures evictions { shares.old.evictions ≤ shares.new.evictions }
+    ensures owner { shares.new.owner ≡ shares.old.owner }
 {
     let Ok(staff) = staff_of(rt, alloc, cell, ids, run_config) else {
         return Err(ServeError::Memory);

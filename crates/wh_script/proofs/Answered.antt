@@ -26,6 +26,7 @@ use Rattle.wh_script.specs.Answering.{HasDrained, Complains, GetsReplies, is_obe
 use Rattle.wh_script.specs.Speaking.{AsksReport, EndsOutOfMemory, IsLineText, prints_replies, prints_report}
 use Rattle.wh_script.proofs.Speaking.{adds_none, adds_more}
 use Rattle.wh_script.proofs.Drained.{no_guest_then}
+use Rattle.wh_script.proofs.DrainedLines.{drained_in_memory}
 
 -- ---- which lines ask for a report
 
@@ -48,7 +49,7 @@ by_verb (release inst) e = absurd (others_apart _ _ (λ same. omega (arith, same
 heads : (x y : List ℕ) (xs ys : List (List ℕ)) → x ∷ xs ≡ y ∷ ys → x ≡ y
 heads x y xs ys e = cc
 
-one_command : (line : List ℕ) (command : Command) → AsksCommand line command → AsksCommand line report → command ≡ report
+pub one_command : (line : List ℕ) (command : Command) → AsksCommand line command → AsksCommand line report → command ≡ report
 one_command line command asks other = by_verb command (heads (verb command) (verb report) asks.0 other.0 (sym asks.1 ∙ other.1))
 
 invoke_apart : (inst export : List ℕ) (fuel : ℕ) (args : List ℤ) → invoke inst export fuel args ≡ report → ⊥
@@ -150,16 +151,16 @@ gets_well settings files m1 _ number command _ is_wanting well all = well
 
 -- the text of a drain, and behind it what the command gets
 says_both : (settings : Settings) (number : ℕ) (command : Command) (line : List ℕ) (m : ScriptState) (lines replies : List Reply) (text mid text2 : List ℕ) → IsRead line
-    → AsksCommand line command → AddsLines lines text mid → AddsReplies settings number command m replies mid text2
+    → AsksCommand line command → ¬ (EndsOutOfMemory number lines) → AddsLines lines text mid → AddsReplies settings number command m replies mid text2
     → (more : List ℕ) × IsLineText settings number line m (lines ++ replies) more × (text2 ≡ text ++ more)
-says_both settings number command line m lines replies text mid text2 read asks drained (adds_replies adds wants) =
+says_both settings number command line m lines replies text mid text2 read asks enough drained (adds_replies adds wants) =
     only_replies settings number line m (lines ++ replies) text text2
     (λ other. (lines, ap (λ xs. lines ++ xs) (wants (one_command line command asks other.asks)))) (adds_more lines replies text mid text2 drained adds)
-says_both settings number command line m lines replies text mid text2 read asks drained (adds_report {shown = shown} is none shows at) =
+says_both settings number command line m lines replies text mid text2 read asks enough drained (adds_report {shown = shown} is none shows at) =
     let asked : AsksReport line = record { is_read = read; asks = subst (λ c. AsksCommand line c) is asks } in
     let all : lines ++ replies ≡ lines = ap (λ xs. lines ++ xs) none ∙ append-nil lines in (
       replies_text (lines ++ replies) ++ shown,
-      prints_report asked shows,
+      prints_report asked (λ (ends : EndsOutOfMemory number (lines ++ replies)). enough (subst (EndsOutOfMemory number) all ends)) shows,
       at ∙ ap (λ xs. xs ++ shown) drained ∙ append_assoc text (replies_text lines) shown ∙ ap (λ (xs : List Reply). text ++ (replies_text xs ++ shown)) (sym all),
     )
 
@@ -168,7 +169,7 @@ pub drained_obeyed : {D : Type 0} (files : Files) (number : ℕ) (command : Comm
 drained_obeyed files number command e e1 e2 text mid text2 faults drained obeys line read asks settings m s =
     let d = drained settings m s in
     let o = obeys settings d.1 d.4.0 in
-    let t = says_both settings number command line o.1 d.0 o.0 text mid text2 read asks d.3 o.3 in (
+    let t = says_both settings number command line o.1 d.0 o.0 text mid text2 read asks (drained_in_memory faults m d.1 d.0 number d.2) d.3 o.3 in (
       d.0 ++ o.0,
       o.1,
       t.0,

@@ -69,7 +69,7 @@ module _ (settings : Settings) (files : Files) where
 
   calls_alone : (script before after : Option (List ℕ)) → StopsAtCallsAmid settings files [] script before after → StopsAtCalls settings files script before after
   unfolding partial_alone
-  calls_alone script before after p = (p.0, p.1, p.2, record { partial = partial_alone p.0 p.1 p.3.partial; some_open = p.3.some_open }, p.4)
+  calls_alone script before after p = (p.0, p.1, p.2, record { partial = partial_alone p.0 p.1 p.3.partial; may_go = p.3.may_go }, p.4)
 
   scan_alone : (script before after : Option (List ℕ)) → StopsAtScanAmid settings files [] script before after → StopsAtScan settings files script before after
   scan_alone script before after p = (p.0, p.1, p.2, p.3, p.4, partial_alone p.0 p.2 p.5, p.6)

@@ -3,10 +3,13 @@ pub mod Coming
 pub mod Written
 pub mod Speaking
 pub mod Rows
+pub mod Blamed
 pub mod Drained
+pub mod DrainedLines
 pub mod Asked
 pub mod Within
 pub mod Answered
+pub mod OfHost
 pub mod Obeyed
 pub mod Stopped
 pub mod Runs

@@ -15,7 +15,7 @@ use Rattle.wh_engine.specs.Obeying.{IsNamed, IsModuleNamed, TakesModule, TakesIn
 use Rattle.wh_engine.specs.RepresentedScript.{ScriptHostState, RepresentsScript}
 use Rattle.wh_script.specs.Answering.{is_obeyed, is_wanting, adds_replies, adds_report, Obeys}
 use Rattle.wh_script.proofs.Speaking.{adds_none, adds_one}
-use Rattle.wh_script.proofs.Rows.{shows_report}
+use Rattle.wh_script.proofs.Rows.{reports_script}
 
 -- whatever script the engine represents, this is so of what it has made
 abbrev pub KnowsOf : {D : Type 0} → ScriptHostState D → (ScriptState → Type 0) → Type 0
@@ -119,8 +119,7 @@ scanned files number e e2 text text2 stays is = obeys_one files number scan e e2
 
 pub reported : {D : Type 0} (files : Files) (number : ℕ) (e : ScriptHostState D) (text text2 : List ℕ) (shows : ReportState) → ReportsHost e.host.host shows → text2 ≡ text ++ report_text shows → Obeys files number report e text e text2
 reported files number e text text2 shows reports is settings m s =
-    let shown = shows_report e shows text text2 reports is settings m s in
-    ([], m, is_obeyed is_reported, adds_report refl refl shown.1 shown.2, s)
+    ([], m, is_obeyed is_reported, adds_report refl refl (reports_script e shows settings m reports s) is, s)
 
 pub only_drained : {D : Type 0} (files : Files) (number : ℕ) (e : ScriptHostState D) (text : List ℕ) → Obeys files number drain e text e text
 only_drained files number e text settings m s = ([], m, is_obeyed is_drained, adds_replies (adds_none text) (λ asked. absurd (cc asked)), s)

@@ -8,8 +8,7 @@ use Rattle.wh_script_model.specs.ScriptState.{NamedInstance, ScriptState}
 use Rattle.wh_host.specs.Reporting.{ReportState, ReportsHost, all_sharers, report_of, row_in, rows_in, shared_frames}
 use Rattle.wh_replies.specs.ReportTexts.{report_text, row_of, rows_text}
 use Rattle.wh_script_laws.specs.Following.{AreSame, IsFollowed, is_there, is_gone, Knows, IsAtSameFault}
-use Rattle.wh_engine.specs.RepresentedScript.{ScriptHostState}
-use Rattle.wh_script.specs.Answering.{AddsReport}
+use Rattle.wh_engine.specs.RepresentedScript.{ScriptHostState, RepresentsScript}
 use Rattle.wh_script.specs.Reports.{AreRowsOf, no_rows, row_left_out, row_shown, IsReportOf, row_texts}
 
 module _ (settings : Settings) (w : World) (num : w.space.tax.num ≡ settings.num) (den : w.space.tax.den ≡ settings.den) where
@@ -56,6 +55,8 @@ is_report settings w m places known =
           ∙ ap (λ n. frames_text settings.frames used ++ slots_text n taken ++ shared_text (shared_frames s) (all_sharers s) ++ row_texts rows.0) known.slots;
     }
 
-pub shows_report : {D : Type 0} (e : ScriptHostState D) (report : ReportState) (text text2 : List ℕ) → ReportsHost e.host.host report → text2 ≡ text ++ report_text report → AddsReport e text text2
-shows_report e report text text2 reports is settings m s =
-    (report_text report, subst (λ r. IsReportOf settings m (report_text r)) (sym (reports s.stands.world s.stands.is.0)) (is_report settings s.stands.world m _ s.stands.knows), is)
+-- the report of the host on which an engine represents a script
+pub reports_script : {D : Type 0} (e : ScriptHostState D) (report : ReportState) (settings : Settings) (m : ScriptState) → ReportsHost e.host.host report → RepresentsScript settings e m
+    → IsReportOf settings m (report_text report)
+reports_script e report settings m reports s =
+    subst (λ r. IsReportOf settings m (report_text r)) (sym (reports s.stands.world s.stands.is.0)) (is_report settings s.stands.world m _ s.stands.knows)

@@ -4,7 +4,7 @@ use Rattle.std.specs.Io.KnownBytes.{Appends, Consumes, IsAtEnd, prepend_known}
 use Rattle.wh_script_model.specs.Lines.{lines_of}
 use Rattle.wh_script_model.specs.Settings.{Settings}
 use Rattle.wh_script_model.specs.Texts.{Reply}
-use Rattle.wh_script_model.specs.ScriptState.{ScriptState, empty_script, SomeCallIsOpen}
+use Rattle.wh_script_model.specs.ScriptState.{ScriptState, empty_script}
 use Rattle.wh_script_model.specs.Answers.{Files}
 use Rattle.wh_script_model.specs.Failing.{AnswersLineAmid, AnswersLinesAmid}
 use Rattle.wh_engine.specs.declared.fault.RunFault.{RunFault}
@@ -135,25 +135,26 @@ module _ {D : Type 0} (settings : Settings) (files : Files) (a b before mid : Op
   stops_scan : (line : List ℕ) → AreFirstLines a (so_far.0 ++ line ∷ []) → AsksScan line → StopsAtScanAmid settings files (since ++ met) a before mid
   stops_scan line first asks = (so_far.0, line, so_far.3, first, asks, partial, so_far.7)
 
-  stops_open : SomeCallIsOpen so_far.2 → StopsAtCallsAmid settings files (since ++ met) a before mid
+  stops_open : WasOpen e → StopsAtCallsAmid settings files (since ++ met) a before mid
   unfolding partial
-  stops_open open_call = (so_far.0, so_far.3, first_lines a b so_far.0 so_far.4, record { partial = partial; some_open = open_call }, so_far.7)
+  stops_open was =
+      (so_far.0, so_far.3, first_lines a b so_far.0 so_far.4, record { partial = partial; may_go = was.1 settings so_far.2 so_far.8.0 }, so_far.7)
 
   pub stops : (left : Option (List ℕ)) (fault : RunFault) → StopsOnlyOpen e fault → ScriptRunsAmid settings files (since ++ met) a left before mid (Err (script_fault fault))
   stops left run.Memory only = stops_here
-  stops left run.Threads only = inl (stops_open (only settings so_far.2 so_far.8.0))
-  stops left run.Transcript only = stops_open (only settings so_far.2 so_far.8.0)
+  stops left run.Threads only = inl (stops_open only)
+  stops left run.Transcript only = stops_open only
 
   open_or_scan : (line : List ℕ) → AreFirstLines a (so_far.0 ++ line ∷ []) → WasOpen e ⊎ AsksScan line
       → StopsAtCallsAmid settings files (since ++ met) a before mid ⊎ StopsAtScanAmid settings files (since ++ met) a before mid
-  open_or_scan line first (inl open_call) = inl (stops_open (open_call settings so_far.2 so_far.8.0))
+  open_or_scan line first (inl open_call) = inl (stops_open open_call)
   open_or_scan line first (inr asks) = inr (stops_scan line first asks)
 
   stops_or : (left : Option (List ℕ)) (line : List ℕ) → AreFirstLines a (so_far.0 ++ line ∷ []) → (fault : RunFault) → StopsOpenOr (AsksScan line) e fault
       → ScriptRunsAmid settings files (since ++ met) a left before mid (Err (script_fault fault))
   stops_or left line first run.Memory only = stops_here
   stops_or left line first run.Threads only = open_or_scan line first only
-  stops_or left line first run.Transcript only = stops_open (only settings so_far.2 so_far.8.0)
+  stops_or left line first run.Transcript only = stops_open only
 
   -- at a line
   pub stops_at_line : (c : Option (List ℕ)) (kind : Line) (held : List ℕ) → kind ≢ End → ReadsLine b c kind held → (left : Option (List ℕ)) (fault : RunFault)

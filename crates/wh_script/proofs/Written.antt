@@ -1,5 +1,5 @@
 -- Known bytes that grow, piece by piece.
-use Rattle.std.proofs.Common.{◌≡◌, ℕ, List, [], ◌++◌, take, drop, Option, Some, None, sym, ap, ◌∙◌, append-nil, append_assoc, length, ◌-◌}
+use Rattle.std.proofs.Common.{◌≡◌, ◌<◌, ◌≤◌, ◌⊎◌, inl, inr, ℕ, ◌+◌, Bool, true, List, [], ◌++◌, take, drop, Option, Some, None, sym, ap, ◌∙◌, append-nil, append_assoc, length, ◌-◌, arith, length-append, length-take}
 use Rattle.std.proofs.lemmas.List.{take-append-drop, take_rest}
 use Rattle.std.specs.Io.KnownBytes.{Appends, Keeps}
 
@@ -21,7 +21,14 @@ appends_more (Some us) (Some vs) (Some ws) xs ys p q = q ∙ ap (λ zs. zs ++ ys
 
 -- a piece of what is left was written
 pub writes_piece : (a b c : Option (List ℕ)) (all done rest left : List ℕ) (n : ℕ) → all ≡ done ++ rest → left ≡ take (length rest - n) (drop n rest) → Appends a b done → Appends b c (take n rest)
-    → (more : List ℕ) × (all ≡ more ++ left) × Appends a c more
+    → (all ≡ (done ++ take n rest) ++ left) × Appends a c (done ++ take n rest)
 writes_piece a b c all done rest left n e l p q =
     let whole : rest ≡ take n rest ++ left = sym (take-append-drop n rest) ∙ ap (λ xs. take n rest ++ xs) (sym (l ∙ take_rest rest n)) in
-    (done ++ take n rest, e ∙ ap (λ xs. done ++ xs) whole ∙ sym (append_assoc done (take n rest) left), appends_more a b c done (take n rest) p q)
+    (e ∙ ap (λ xs. done ++ xs) whole ∙ sym (append_assoc done (take n rest) left), appends_more a b c done (take n rest) p q)
+
+-- a call has failed, or each has written some
+pub watches_piece : (before after : Bool) (tried n : ℕ) (done rest : List ℕ) → 0 < n → n ≤ length rest → after ≡ before → (before ≡ true) ⊎ (tried ≤ length done)
+    → (after ≡ true) ⊎ (tried + 1 ≤ length (done ++ take n rest))
+watches_piece before after tried n done rest some within same (inl failed) = inl (same ∙ failed)
+watches_piece before after tried n done rest some within same (inr far) =
+    inr (let piece = length-take n rest in omega (arith, some, within, far, piece, length-append done (take n rest)))

@@ -1,12 +1,16 @@
 -- What a line gets, and for which script the engine stands then.
-use Rattle.std.specs.Prelude.{◌≡◌, ℕ, true, List, [], ◌∷◌, ◌++◌, ⊤}
+use Rattle.std.specs.Prelude.{◌≡◌, ℕ, ◌+◌, true, List, [], ◌∷◌, ◌++◌, Option, ⊤, ◌⊎◌}
 use Rattle.wh_script_model.specs.Settings.{Settings}
 use Rattle.wh_script_model.specs.Commands.{Command, invoke, report, AsksCommand}
-use Rattle.wh_script_model.specs.Texts.{Reply, error}
+use Rattle.wh_script_model.specs.Texts.{Reply, error, reply_text}
 use Rattle.wh_script_model.specs.ScriptState.{ScriptState}
 use Rattle.wh_script_model.specs.Answers.{Files, IsObeyed, IsRead}
 use Rattle.wh_script_model.specs.Failing.{DrainsAmid, AnswersLineAmid}
 use Rattle.wh_script_laws.specs.Printed.{AllArePrinted, IsWellMade}
+use Rattle.wh_host.specs.Reporting.{ReportState, ReportsHost}
+use Rattle.wh_replies.specs.ReportTexts.{report_text}
+use Rattle.wh_cell.specs.Counted.{countable, offers_of}
+use Rattle.wh_cell.specs.Scanned.{IsScanned}
 use Rattle.wh_engine.specs.RepresentedScript.{ScriptHostState, RepresentsScript}
 use Rattle.wh_engine.specs.Printing.{AddsLines}
 use Rattle.wh_script.specs.Reports.{IsReportOf}
@@ -62,11 +66,34 @@ Obeys files number command e text e2 text2 =
     → (replies : List Reply) × (m2 : ScriptState) × GetsReplies settings files m number command replies m2
     × AddsReplies settings number command m2 replies text text2 × RepresentsScript settings e2 m2
 
--- the report stands behind the text, whatever script the engine represents
+-- ---- what the host does for them
+
+-- all pages of the host were offered, each under this hash, and as many offers were counted
+abbrev pub HasOffered : {D : Type 0} → (hashes : List ℕ → ℕ) → ScriptHostState D → ScriptHostState D → Type 0
+HasOffered hashes e e2 =
+    (offered : Option ℕ) × IsScanned hashes e.host.host offered e2.host.host
+    × (e2.host.books ≡ record e.host.books {
+      offers = e.host.books.offers + countable e.host.books.offers (offers_of offered);
+    })
+
+-- the report of the host stands behind the text: its heads, and a row for each of its instances, by number
 abbrev pub AddsReport : {D : Type 0} → ScriptHostState D → List ℕ → List ℕ → Type 0
-AddsReport e text text2 =
-    (settings : Settings) (m : ScriptState) → RepresentsScript settings e m
-    → (shown : List ℕ) × IsReportOf settings m shown × (text2 ≡ text ++ shown)
+AddsReport e text text2 = (shown : ReportState) × ReportsHost e.host.host shown × (text2 ≡ text ++ report_text shown)
+
+-- the same behind a drain: of the host that it left, and behind its lines
+abbrev pub HasOfferedThen : {D : Type 0} → (hashes : List ℕ → ℕ) → ScriptHostState D → Type 0
+HasOfferedThen {D} hashes e2 = (e : ScriptHostState D) × HasOffered hashes e e2
+
+abbrev pub AddsReportThen : {D : Type 0} → ScriptHostState D → List ℕ → Type 0
+AddsReportThen e text2 = (text : List ℕ) × AddsReport e text text2
+
+-- this reply stands at the end of the text
+abbrev pub EndsSaying : Reply → List ℕ → Type 0
+EndsSaying reply text2 = (text : List ℕ) × (text2 ≡ text ++ reply_text reply)
+
+-- that memory ran out for the line of this number
+abbrev pub SaysMemoryRanOut : (number : ℕ) → List ℕ → Type 0
+SaysMemoryRanOut number text2 = EndsSaying (error 5 number) text2
 
 -- ---- lines
 

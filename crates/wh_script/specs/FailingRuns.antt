@@ -3,7 +3,7 @@ use Rattle.std.specs.Prelude.{◌≡◌, ℕ, ◌+◌, true, List, [], ◌∷◌
 use Rattle.std.specs.Io.KnownBytes.{Appends}
 use Rattle.wh_script_model.specs.Settings.{Settings}
 use Rattle.wh_script_model.specs.Texts.{Reply}
-use Rattle.wh_script_model.specs.ScriptState.{ScriptState, empty_script, SomeCallIsOpen}
+use Rattle.wh_script_model.specs.ScriptState.{ScriptState, empty_script, SomeCallMayGo}
 use Rattle.wh_script_model.specs.Answers.{Files, replies_text}
 use Rattle.wh_script_model.specs.Failing.{DrainsAmid, AnswersLineAmid, AnswersLinesAmid, AnswersScriptAmid}
 use Rattle.wh_script.specs.declared.fault.ScriptFault.{ScriptFault}
@@ -51,11 +51,11 @@ pub record IsPartialAmid (settings : Settings) (files : Files) (faults : List �
   pub answers : AnswersLinesAmid true settings files earlier empty_script 1 lines replies made
   pub says : LinesSayAmid settings files earlier empty_script 1 lines replies text made
 
--- and behind them an instance has an open call
+-- and behind them an instance has an open call and stands for no fault
 pub record IsPartialAtCallAmid (settings : Settings) (files : Files) (faults : List ℕ) (lines : List (List ℕ)) (text : List ℕ)
     : Type 0 where
   pub partial : IsPartialAmid settings files faults lines text
-  pub some_open : SomeCallIsOpen partial.made
+  pub may_go : SomeCallMayGo partial.made
 
 -- ---- runs
 

@@ -1,8 +1,10 @@
 pub mod Causes
+pub mod Blame
 pub mod Coming
 pub mod Reports
 pub mod Speaking
 pub mod Starting
+pub mod RunBy
 pub mod Answering
 pub mod Runs
 pub mod FailingRuns

@@ -4,7 +4,7 @@ use Rattle.std.specs.Io.KnownBytes.{Appends}
 use Rattle.wh_script_model.specs.Lines.{lines_of}
 use Rattle.wh_script_model.specs.Settings.{Settings}
 use Rattle.wh_script_model.specs.Texts.{Reply}
-use Rattle.wh_script_model.specs.ScriptState.{ScriptState, empty_script, SomeCallIsOpen}
+use Rattle.wh_script_model.specs.ScriptState.{ScriptState, empty_script, SomeCallMayGo}
 use Rattle.wh_script_model.specs.Drains.{Drains}
 use Rattle.wh_script_model.specs.Answers.{Files, AnswersLine, AnswersLines, AnswersScript, replies_text}
 use Rattle.wh_script.specs.declared.fault.ScriptFault.{ScriptFault}
@@ -73,10 +73,10 @@ pub record IsPartial (settings : Settings) (files : Files) (lines : List (List �
   pub answers : AnswersLines true settings files empty_script 1 lines replies made
   pub says : LinesSay settings files empty_script 1 lines replies text made
 
--- and behind them an instance has an open call
+-- and behind them an instance has an open call and stands for no fault
 pub record IsPartialAtCall (settings : Settings) (files : Files) (lines : List (List ℕ)) (text : List ℕ) : Type 0 where
   pub partial : IsPartial settings files lines text
-  pub some_open : SomeCallIsOpen partial.made
+  pub may_go : SomeCallMayGo partial.made
 
 -- ---- runs
 
@@ -101,9 +101,9 @@ StopsAtScan settings files script before after =
 -- What a run did, from the script to what the reader has left, and from the writer's bytes before to those after, by
 -- how it ended. To the end: what answers the script was written. Where the writer failed: a beginning of what answers
 -- the first lines. Where the reader failed: what answers the lines that it gave. Where memory ran out: what answers
--- the first lines. Where a thread was wanted: what answers the first lines, behind which a call is open, or a line asks
--- for a scan. Where calls didn't run to their ends: what answers the first lines, behind which a call is open. It ends in
--- no other way.
+-- the first lines. Where a thread was wanted: what answers the first lines, behind which a call is open that stands for no
+-- fault, or a line asks for a scan. Where calls didn't run to their ends: what answers the first lines, behind which a call
+-- is open that stands for no fault. It ends in no other way.
 abbrev pub Runs : Settings → Files → Option (List ℕ) → Option (List ℕ) → Option (List ℕ) → Option (List ℕ)
     → Result Unit ScriptFault → Type 0
 Runs settings files script left before after (Ok _) =

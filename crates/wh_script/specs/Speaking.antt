@@ -28,5 +28,5 @@ pub data IsLineText (settings : Settings) (number : ℕ) (line : List ℕ) (m : 
     : List ℕ → Type 0 where
   prints_replies : (AsksReport line → EndsOutOfMemory number replies)
       → IsLineText settings number line m replies (replies_text replies)
-  prints_report : {report : List ℕ} → AsksReport line → IsReportOf settings m report
+  prints_report : {report : List ℕ} → AsksReport line → ¬ (EndsOutOfMemory number replies) → IsReportOf settings m report
       → IsLineText settings number line m replies (replies_text replies ++ report)

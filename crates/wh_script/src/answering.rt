@@ -1,13 +1,15 @@
 // What one line gets.
 
-ghost use Rattle.std.specs.Prelude.{◌≡◌, ℕ, List, [], OnOk, IfErr, string_bytes};
+ghost use Rattle.std.specs.Prelude.{◌≡◌, ◌⊎◌, ℕ, List, [], OnOk, IfErr, string_bytes};
 ghost use Rattle.wh_script_model.specs.Answers.{Files};
 ghost use Rattle.wh_script_model.specs.Commands as asked_of;
 ghost use Rattle.wh_commands.specs.ParsedCommands.{Says};
 ghost use Rattle.wh_engine.specs.Draining.{DeviceHoldsAmid, DeviceMayFail, DeviceStaysTrue, StopsOnlyOpen, StopsOpenOr};
-ghost use Rattle.wh_script.specs.Answering.{Answers, AnswersCommand};
+ghost use Rattle.wh_settings.specs.Hashing.{hashes_by};
+ghost use Rattle.wh_settings.specs.View.{hashing_of};
+ghost use Rattle.wh_script.specs.Answering.{AddsReportThen, Answers, AnswersCommand, HasOfferedThen, SaysMemoryRanOut};
 ghost use Rattle.wh_script.specs.Coming.{IsKind};
-ghost use Rattle.wh_script.specs.Speaking.{AsksScan};
+ghost use Rattle.wh_script.specs.Speaking.{AsksReport, AsksScan};
 
 use crate::files::Source;
 use crate::line_error::LineError;
@@ -52,6 +54,14 @@ impl<
             (λ met. (line : List ℕ) → IsKind kind held.now line → Answers (S.files source.now)
             number line self.old.script_host [] self.new.script_host (string_bytes self.new.text)
             met)) }
+        // Where the line asks for a scan, all pages of the host were offered under the hash of the settings; where it asks for a
+        // report, that of the host stands at the end of the text; but where memory ran out for the line.
+        ensures scans { OnOk result ((line : List ℕ) → IsKind kind held.now line → AsksScan line
+            → SaysMemoryRanOut number (string_bytes self.new.text) ⊎ HasOfferedThen
+            (hashes_by (hashing_of self.old.config.hash)) self.new.script_host) }
+        ensures shows { OnOk result ((line : List ℕ) → IsKind kind held.now line → AsksReport line
+            → SaysMemoryRanOut number (string_bytes self.new.text) ⊎ AddsReportThen
+            self.new.script_host (string_bytes self.new.text)) }
         ensures open { IfErr result (λ fault. (line : List ℕ) → IsKind kind held.now line
             → StopsOpenOr (AsksScan line) self.old.script_host fault) }
     {
@@ -87,6 +97,11 @@ impl<
             (λ met. (asked : asked_of.Command) → Says command.entry asked → AnswersCommand
             (S.files source.now) number asked self.old.script_host (string_bytes self.old.text)
             self.new.script_host (string_bytes self.new.text) met)) }
+        // Behind the drain, as `obey` has it.
+        ensures scans { OnOk result (command.entry ≡ Command.Scan → HasOfferedThen
+            (hashes_by (hashing_of self.old.config.hash)) self.new.script_host) }
+        ensures shows { OnOk result (command.entry ≡ Command.Report → AddsReportThen
+            self.new.script_host (string_bytes self.new.text)) }
         ensures open { IfErr result (StopsOpenOr (command.entry ≡ Command.Scan)
             self.old.script_host) }
     {

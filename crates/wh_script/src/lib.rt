@@ -14,3 +14,4 @@ mod writing;
 pub use fault::ScriptFault;
 pub use files::{FileError, Source};
 pub use run::run_script;
+pub use session::SessionConfig;

@@ -1,6 +1,6 @@
 //! The lines of a script, one at a time, in memory of a fixed size.
 
-ghost use Rattle.std.specs.Prelude.{◌≡◌, ◌≢◌, ◌⊎◌, ℕ, ◌+◌, ◌<◌, ◌≤◌, false, List, [], ◌∷◌, ◌++◌, drop, length, IfOk, OnOk, IfErr, OnErr};
+ghost use Rattle.std.specs.Prelude.{◌≡◌, ◌≢◌, ◌⊎◌, ℕ, ◌+◌, ◌<◌, ◌≤◌, false, true, List, [], ◌∷◌, ◌++◌, drop, length, IfOk, OnOk, IfErr, OnErr};
 ghost use Rattle.std.specs.Bool.{MatchBool, OnTrue};
 ghost use Rattle.std.specs.List.{All};
 ghost use Rattle.std.specs.Io.KnownBytes.{Consumes, Keeps, IsAtEnd};
@@ -10,6 +10,7 @@ use crate::fault::ScriptFault;
 use memchr::memchr;
 use std::alloc::Global;
 use std::io::{ErrorKind, Read};
+use wh_streams::WatchedRead;
 
 /// The greatest length of a line, in bytes without its newline.
 pub const LONGEST_LINE: usize = 2200000;
@@ -78,16 +79,17 @@ impl Lines {
     /// # Errors
     /// `Script` where the reader fails; `Memory` only if room that was reserved is refused after all, or where the pieces of
     /// the line can't be counted.
-    pub fn read<R: Read>(&mut self, reader: &mut R) -> Result<Line, ScriptFault>
+    pub fn read<R: Read>(&mut self, reader: &mut WatchedRead<R>) -> Result<Line, ScriptFault>
         requires { IsInChunk self.old }
         // It is the first of the lines to come, and what is said of it is so.
-        ensures line { IfOk result (λ kind. ReadsLine (coming self.old (R.remaining reader.old))
-            (coming self.new (R.remaining reader.new)) kind self.new.line.items) }
+        ensures line { IfOk result (λ kind. ReadsLine (coming self.old (R.remaining reader.old.inner))
+            (coming self.new (R.remaining reader.new.inner)) kind self.new.line.items) }
         // Where the reader failed, no whole line was lost.
-        ensures failed { FailsAt (coming self.old (R.remaining reader.old)) (R.remaining reader.new)
+        ensures failed { FailsAt (coming self.old (R.remaining reader.old.inner)) (R.remaining reader.new.inner)
             result }
         ensures within { OnOk result (IsInChunk self.new) }
         ensures err { IfErr result (λ e. (e ≡ ScriptFault.Script) ⊎ (e ≡ ScriptFault.Memory)) }
+        ensures blames { IfErr result (λ e. e ≡ ScriptFault.Script → reader.new.has_failed ≡ true) }
     {
         self.line.clear();
         self.is_long = false;
@@ -120,19 +122,20 @@ impl Lines {
     }
 
     /// Returns whether more of the script is to come; some of it is in the chunk then.
-    fn has_more<R: Read>(&mut self, reader: &mut R) -> Result<bool, ScriptFault>
+    fn has_more<R: Read>(&mut self, reader: &mut WatchedRead<R>) -> Result<bool, ScriptFault>
         requires { IsInChunk self.old }
         ensures bytes { OnOk result
-            (Consumes (coming self.old (R.remaining reader.old))
-            (coming self.new (R.remaining reader.new)) []) }
+            (Consumes (coming self.old (R.remaining reader.old.inner))
+            (coming self.new (R.remaining reader.new.inner)) []) }
         ensures none { OnErr result
-            (Consumes (coming self.old (R.remaining reader.old)) (R.remaining reader.new) []) }
+            (Consumes (coming self.old (R.remaining reader.old.inner)) (R.remaining reader.new.inner) []) }
         ensures more { IfOk result
             (λ more. MatchBool more (self.new.next < self.new.end)
-            (IsAtEnd (coming self.new (R.remaining reader.new)))) }
+            (IsAtEnd (coming self.new (R.remaining reader.new.inner)))) }
         ensures within { OnOk result (IsInChunk self.new) }
         ensures line { (self.new.line ≡ self.old.line) × (self.new.is_long ≡ self.old.is_long) }
         ensures err { IfErr result (λ e. e ≡ ScriptFault.Script) }
+        ensures blames { OnErr result (reader.new.has_failed ≡ true) }
     {
         if self.next < self.end {
             return Ok(true);
@@ -142,19 +145,20 @@ impl Lines {
     }
 
     /// Reads more of the script. Returns false at its end.
-    fn fill<R: Read>(&mut self, reader: &mut R) -> Result<bool, ScriptFault>
+    fn fill<R: Read>(&mut self, reader: &mut WatchedRead<R>) -> Result<bool, ScriptFault>
         requires { IsInChunk self.old }
         ensures bytes { OnOk result
-            (Consumes (R.remaining reader.old) (R.remaining reader.new) (unread self.new)) }
-        ensures none { OnErr result (Keeps (R.remaining reader.old) (R.remaining reader.new)) }
+            (Consumes (R.remaining reader.old.inner) (R.remaining reader.new.inner) (unread self.new)) }
+        ensures none { OnErr result (Keeps (R.remaining reader.old.inner) (R.remaining reader.new.inner)) }
         ensures more { IfOk result
             (λ more. MatchBool more (self.new.next < self.new.end)
-            (IsAtEnd (R.remaining reader.new) × (unread self.new ≡ []))) }
+            (IsAtEnd (R.remaining reader.new.inner) × (unread self.new ≡ []))) }
         ensures within { OnOk result (IsInChunk self.new) }
         ensures line { (self.new.line ≡ self.old.line) × (self.new.is_long ≡ self.old.is_long) }
         ensures err { IfErr result (λ e. e ≡ ScriptFault.Script) }
+        ensures blames { OnErr result (reader.new.has_failed ≡ true) }
     {
-        for _ in 0..u64::MAX {
+        for _tried in 0..u64::MAX {
             match reader.read(&mut self.chunk) {
                 Ok(count) => {
                     self.next = 0;

@@ -8,7 +8,9 @@ ghost use Rattle.wh_commands.specs.ParsedCommands.{Says};
 ghost use Rattle.wh_params.specs.View.{view_params};
 ghost use Rattle.wh_engine.specs.Draining.{StaysSo, StopsServing};
 ghost use Rattle.wh_names.specs.NamePlaces.{place_of_name};
-ghost use Rattle.wh_script.specs.Answering.{AddsReport, IsNoInvoke, Obeys};
+ghost use Rattle.wh_settings.specs.Hashing.{hashes_by};
+ghost use Rattle.wh_settings.specs.View.{hashing_of};
+ghost use Rattle.wh_script.specs.Answering.{AddsReport, HasOffered, IsNoInvoke, Obeys};
 
 use crate::files::{FileError, Source};
 use crate::line_error::LineError;
@@ -19,10 +21,8 @@ use std::thread::Threads;
 use wh_cell::CellAgreements;
 use wh_commands::Command;
 use wh_engine::RunFault;
-use wh_kernels::{ConstantHash, FnvHash};
 use wh_params::Params;
 use wh_replies::{Reply, write_released, write_report};
-use wh_settings::HashKind;
 use wh_swap::SwapDev;
 
 impl<
@@ -38,7 +38,7 @@ impl<
     /// # Errors
     /// `Memory` where room for the reply is refused, and for a scan also where room for its thread is, or `Threads` where that
     /// can't be started.
-    pub fn obey<S: Source, X: Threads + Wait>(
+    pub fn obey<S: Source, X: Threads + Wait + Copy + Send + 'static>(
         &mut self,
         rt: &X,
         source: &S,
@@ -48,6 +48,12 @@ impl<
         ensures obeys { OnOk result ((asked : asked_of.Command) → Says command.entry asked
             → IsNoInvoke asked → Obeys (S.files source.now) number asked self.old.script_host
             (string_bytes self.old.text) self.new.script_host (string_bytes self.new.text)) }
+        // A scan offers all pages of the host under the hash of the settings, and a report is that of the host.
+        ensures scans { OnOk result (command.entry ≡ Command.Scan → HasOffered
+            (hashes_by (hashing_of self.old.config.hash)) self.old.script_host
+            self.new.script_host) }
+        ensures shows { OnOk result (command.entry ≡ Command.Report → AddsReport
+            self.new.script_host (string_bytes self.old.text) (string_bytes self.new.text)) }
         ensures config { self.new.config ≡ self.old.config }
         ensures device { self.new.script_host.host.device ≡ self.old.script_host.host.device }
         ensures err { IfErr result StopsServing }
@@ -230,10 +236,12 @@ impl<
     }
 
     /// `scan`.
-    fn scan<X: Threads + Wait>(&mut self, rt: &X) -> Result<(), RunFault>
+    fn scan<X: Threads + Wait + Copy + Send + 'static>(&mut self, rt: &X) -> Result<(), RunFault>
         ensures obeys { OnOk result ((files : Files) (number : ℕ) → Obeys files number asked_of.scan
             self.old.script_host (string_bytes self.old.text) self.new.script_host
             (string_bytes self.new.text)) }
+        ensures scans { OnOk result (HasOffered (hashes_by (hashing_of self.old.config.hash))
+            self.old.script_host self.new.script_host) }
         ensures config { self.new.config ≡ self.old.config }
         ensures device { self.new.script_host.host.device ≡ self.old.script_host.host.device }
         ensures err { IfErr result StopsServing }
@@ -242,18 +250,20 @@ impl<
         self.reply(Reply::ScanOk)
     }
 
-    // Offers all pages for sharing, each under its hash.
-    fn offer_pages<X: Threads + Wait>(&mut self, rt: &X) -> Result<(), RunFault>
+    // Offers all pages for sharing, each under its hash, which is that of the settings.
+    fn offer_pages<X: Threads + Wait + Copy + Send + 'static>(
+        &mut self,
+        rt: &X,
+    ) -> Result<(), RunFault>
         ensures stands { StaysSo self.old.script_host self.new.script_host }
+        ensures scans { OnOk result (HasOffered (hashes_by (hashing_of self.old.config.hash))
+            self.old.script_host self.new.script_host) }
         ensures config { self.new.config ≡ self.old.config }
         ensures device { self.new.script_host.host.device ≡ self.old.script_host.host.device }
         ensures text { self.new.text ≡ self.old.text }
         ensures err { IfErr result StopsServing }
     {
-        match self.config.hash {
-            HashKind::Fnv64 => self.script_host.scan(rt, self.alloc, FnvHash),
-            HashKind::Constant => self.script_host.scan(rt, self.alloc, ConstantHash),
-        }
+        self.script_host.scan(rt, self.alloc, self.config.hash)
     }
 
     /// `report`.
@@ -261,7 +271,7 @@ impl<
         ensures obeys { OnOk result ((files : Files) (number : ℕ) → Obeys files number
             asked_of.report self.old.script_host (string_bytes self.old.text) self.new.script_host
             (string_bytes self.new.text)) }
-        ensures shows { OnOk result (AddsReport self.old.script_host (string_bytes self.old.text)
+        ensures shows { OnOk result (AddsReport self.new.script_host (string_bytes self.old.text)
             (string_bytes self.new.text)) }
         ensures config { self.new.config ≡ self.old.config }
         ensures device { self.new.script_host.host.device ≡ self.old.script_host.host.device }

@@ -10,7 +10,7 @@ ghost use Rattle.wh_settings.specs.View.{settings_of};
 ghost use Rattle.wh_engine.specs.Draining.{AllRest, DeviceHoldsAmid, DeviceMayFail, DeviceStaysTrue, RunsEach, RunsTurns, StopsOnlyOpen, WasOpen};
 ghost use Rattle.wh_engine.specs.Obeying.{IsModuleNamed, IsNamed};
 ghost use Rattle.wh_engine.specs.RepresentedScript.{RepresentsScript};
-ghost use Rattle.wh_script.specs.Answering.{HasDrained, Complains};
+ghost use Rattle.wh_script.specs.Answering.{HasDrained, Complains, EndsSaying};
 ghost use Rattle.wh_script.specs.Causes.{cause_number};
 ghost use Rattle.wh_script.specs.Starting.{IsEmptyDevice};
 
@@ -22,7 +22,6 @@ use std::thread::Threads;
 use wh_cell::{CellAgreements, CellParts};
 use wh_engine::{RunFault, ScriptHost};
 use wh_host::Host;
-use wh_kernels::{ConstantHash, FnvHash};
 use wh_replies::{Reply, write_reply};
 use wh_scheduler::{OwnedHost, RunConfig};
 use wh_settings::{HashKind, Settings, Workers};
@@ -33,12 +32,12 @@ const LONGEST_REPLY: usize = 128;
 /// How the calls of a script are run: the same from its first line to its last.
 #[derive(Clone, Copy, Debug)]
 pub struct SessionConfig {
-    /// The greatest number of charges of a turn.
-    pub quantum: u32,
-    /// By which hash equal pages are looked for.
-    pub hash: HashKind,
-    /// How many threads run calls.
-    pub workers: Workers,
+    // The greatest number of charges of a turn.
+    pub(crate) quantum: u32,
+    // By which hash equal pages are looked for.
+    pub(crate) hash: HashKind,
+    // How many threads run calls.
+    pub(crate) workers: Workers,
 }
 
 /// What a script has made so far, with the host on which it runs, and the text of the replies to the present line.
@@ -133,15 +132,15 @@ impl<D: SwapDev, T: Ledger, C: Ledger, O: Ledger, E: Ledger, B: CellAgreements> 
     E,
     B,
 > {
-    // How calls are run: in turns of the session's quantum, by its workers, with this hash.
-    fn run_config<H>(&self, hasher: H) -> RunConfig<H>
+    // How calls are run: in turns of the session's quantum, by its workers, with its hash.
+    fn run_config(&self) -> RunConfig<HashKind>
         ensures quantum { result.quantum ≡ self.now.config.quantum }
         ensures workers { result.workers ≡ self.now.config.workers.number }
-        ensures hasher { result.hasher ≡ hasher }
+        ensures hasher { result.hasher ≡ self.now.config.hash }
         ensures few { result.workers ≤ 64 }
     {
         RunConfig {
-            hasher,
+            hasher: self.config.hash,
             quantum: self.config.quantum,
             workers: self.config.workers.count(),
         }
@@ -209,7 +208,8 @@ impl<
             (HasDrained self.old.script_host (string_bytes self.old.text) self.new.script_host
             (string_bytes self.new.text))) }
         ensures turns { OnOk result (RunsTurns self.old.config.quantum
-            self.old.script_host.host.books.turns self.new.script_host.host.books.turns) }
+            self.old.script_host.host.books self.old.script_host.host.own
+            self.new.script_host.host.books self.new.script_host.host.own) }
         ensures open { IfErr result (StopsOnlyOpen self.old.script_host) }
     {
         self.run(rt)?;
@@ -233,20 +233,13 @@ impl<
         ensures begins { (self.new.script_host ≡ self.old.script_host)
             ⊎ WasOpen self.old.script_host }
         ensures turns { OnOk result (RunsTurns self.old.config.quantum
-            self.old.script_host.host.books.turns self.new.script_host.host.books.turns) }
+            self.old.script_host.host.books self.old.script_host.host.own
+            self.new.script_host.host.books self.new.script_host.host.own) }
         ensures text { self.new.text ≡ self.old.text }
         ensures open { IfErr result (StopsOnlyOpen self.old.script_host) }
     {
-        match self.config.hash {
-            HashKind::Fnv64 => {
-                let run_config = self.run_config(FnvHash);
-                self.script_host.run(rt, self.alloc, run_config)
-            }
-            HashKind::Constant => {
-                let run_config = self.run_config(ConstantHash);
-                self.script_host.run(rt, self.alloc, run_config)
-            }
-        }
+        let run_config = self.run_config();
+        self.script_host.run(rt, self.alloc, run_config)
     }
 
     /// Drains, and then appends why the line `number` can't be obeyed.
@@ -268,6 +261,8 @@ impl<
             self.old.script_host.host.device self.new.script_host.host.device
             (Complains (error (cause_number cause) number) self.old.script_host
             (string_bytes self.old.text) self.new.script_host (string_bytes self.new.text))) }
+        ensures says { OnOk result (EndsSaying (error (cause_number cause) number)
+            (string_bytes self.new.text)) }
         ensures open { IfErr result (StopsOnlyOpen self.old.script_host) }
     {
         self.drain(rt)?;

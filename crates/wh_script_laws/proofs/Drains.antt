@@ -1,5 +1,5 @@
 -- Drains: where they begin, moves of pages, and what is said at the end.
-use Rattle.std.proofs.Common.{◌≡◌, ℕ, suc, ◌+◌, ◌-◌, ◌⊎◌, ⊎_elim, inl, inr, Bool, true, false, List, [], ◌∷◌, Option, Some, None, get_or, refl, sym, ap, subst, ◌∙◌}
+use Rattle.std.proofs.Common.{◌≡◌, ℕ, suc, ◌+◌, ◌-◌, ◌⊎◌, ⊎_elim, inl, inr, Bool, true, false, List, [], ◌∷◌, Option, Some, None, get_or, refl, sym, ap, subst, ◌∙◌, arith}
 use Rattle.std.specs.List.{AllZip, Contains}
 use Rattle.wh_model.specs.Execution.Replay.{Outcome, cancelled, Call}
 use Rattle.wh_host_model.specs.declared.Tax.{Tax}
@@ -14,10 +14,11 @@ use Rattle.wh_script_model.specs.Drains as drains
 use Rattle.wh_script_model.specs.Served.{IsTenantOf, GoesNoFurther}
 use Rattle.wh_host_model.proofs.Host.Holding.{memory_is_sound}
 use Rattle.wh_script_model.proofs.Serving.{served_as_alone}
-use Rattle.wh_script_laws.specs.Following.{AreSame, ComeFurther, IsFollowed, is_there, is_gone, FollowsScript, StaysWhole, IsAtSameFault, StandsAmid, device_fault}
+use Rattle.wh_script_laws.specs.Following.{AreSame, ComesFurther, ComeFurther, IsFollowed, is_there, is_gone, FollowsScript, FollowsSame, IsRunAmid, AreRunAmid, StaysWhole, IsAtSameFault, StandsAmid, device_fault}
 use Rattle.wh_script_laws.specs.Laws.{DrainsBegin, MovesFollow, DrainsEnd, PrintingFollows, StandsForDevice}
+use Rattle.wh_script_laws.proofs.Mixing.{zip_amid_so, zip_none}
 use Rattle.wh_script_laws.proofs.Sums.{claims_decide}
-use Rattle.wh_script_model.specs.Failing.{RunsAmid, gone_still, stands_still, runs_on, rests_alone, meets_fault}
+use Rattle.wh_script_model.specs.Failing.{LosesNothing, RunsAmid, ZipAmid, gone_still, stands_still, runs_on, rests_alone, meets_fault}
 use Rattle.wh_host_model.specs.SwapFaults.{swap_number}
 use Rattle.wh_script_model.proofs.Standing.{IsStuck, is_stuck, at_no_fault}
 
@@ -30,10 +31,53 @@ zip_so R S so [] (y ∷ ys) h = absurd h
 zip_so R S so (x ∷ xs) [] h = absurd h
 zip_so R S so (x ∷ xs) (y ∷ ys) h = (so x y h.0, zip_so R S so xs ys h.1)
 
+-- ---- calls that come no further
+
+pub open_or_not : (b : Bool) → (b ≡ true) ⊎ (b ≡ false)
+open_or_not true = inl refl
+open_or_not false = inr refl
+
+-- an open call wasn't cancelled
+pub not_cancelled : (o : Outcome) → is_open o ≡ true → ¬ (o ≡ cancelled)
+not_cancelled o open_yet e = let bad : true ≡ false = sym open_yet ∙ ap is_open e in absurd (cc bad)
+
+-- a call that comes no further
+pub comes_nowhere : (c : Call) → ComesTo c c
+comes_nowhere c =
+    ⊎_elim
+    (λ (open_yet : is_open c.outcome ≡ true). goes_on {outcome = c.outcome} {pieces = c.fragments} {charges = c.charges} open_yet (not_cancelled c.outcome open_yet))
+    (λ (closed : is_open c.outcome ≡ false). had_ended closed)
+    (open_or_not (is_open c.outcome))
+
+pub come_nowhere : (calls : List Call) → AllZip ComesTo calls calls
+come_nowhere [] = tt
+come_nowhere (c ∷ calls) = (comes_nowhere c, come_nowhere calls)
+
+loses_nothing : (c : Call) → LosesNothing c c
+loses_nothing c = record { fragments = omega arith; charges = omega arith }
+
+pub goes_nowhere : (c : Call) → ComesFurther c c
+goes_nowhere c = (comes_nowhere c, loses_nothing c)
+
+pub go_nowhere : (calls : List Call) → ComeFurther calls calls
+go_nowhere [] = tt
+go_nowhere (c ∷ calls) = (goes_nowhere c, go_nowhere calls)
+
+pub zip_both : {A B : Type 0} (R S : A → B → Type 0) (xs : List A) (ys : List B) → AllZip (λ a b. R a b × S a b) xs ys → AllZip R xs ys × AllZip S xs ys
+zip_both R S [] [] h = (tt, tt)
+zip_both R S [] (y ∷ ys) h = absurd h
+zip_both R S (x ∷ xs) [] h = absurd h
+zip_both R S (x ∷ xs) (y ∷ ys) h = let rest = zip_both R S xs ys h.1 in ((h.0.0, rest.0), (h.0.1, rest.1))
+
+-- they come to their outcomes, and none goes back
+pub both_further : (calls calls2 : List Call) → ComeFurther calls calls2 → AllZip ComesTo calls calls2 × AllZip LosesNothing calls calls2
+both_further = zip_both ComesTo LosesNothing
+
 -- ---- a drain begins
 
-begins_so : (w : World) (g : NamedInstance) (o : Option Tenant) → IsFollowed AreSame IsAtSameFault w g o → IsFollowed ComeFurther (StandsAmid []) w g o
-begins_so w g (Some t) (is_there of_one same stands) = is_there of_one of_one.calls (λ fault e. inr (stands ∙ e, same))
+begins_so : (w : World) (g : NamedInstance) (o : Option Tenant) → IsFollowed AreSame IsAtSameFault w g o → IsRunAmid w [] g o
+begins_so w g (Some t) (is_there of_one same stands) =
+    is_there of_one (subst (λ cs. ComeFurther g.calls cs) same (go_nowhere g.calls)) (λ fault e. inr (stands ∙ e, same))
 begins_so w g None (is_gone gone) = is_gone gone
 
 pub drains_begin : DrainsBegin
@@ -46,7 +90,7 @@ drains_begin settings w m places h = record {
   minima = h.minima;
   spreads = h.spreads;
   modules = h.modules;
-  instances = zip_so (IsFollowed AreSame IsAtSameFault w) (IsFollowed ComeFurther (StandsAmid []) w) (begins_so w) m.instances w.tenants h.instances;
+  instances = zip_none (IsFollowed AreSame IsAtSameFault w) (IsRunAmid w) (begins_so w) [] m.instances w.tenants h.instances;
   placed = h.placed;
 }
 
@@ -69,11 +113,14 @@ pub moved_followed : (come : List Call → List Call → Type 0) (stands : Named
 moved_followed come stands w w2 same g (Some t) (is_there of_one calls sound) = is_there (same_modules w w2 t g same of_one) calls sound
 moved_followed come stands w w2 same g None (is_gone gone) = is_gone gone
 
-moved_so : (come : List Call → List Call → Type 0) (stands : NamedInstance → Tenant → Type 0) (settings : Settings) (w : World) (s2 : Space) (m : ScriptState) (places : List ℕ)
+abbrev Follows : Type 1
+Follows = World → List NamedInstance → List (Option Tenant) → Type 0
+
+moved_so : (follows : Follows) (settings : Settings) (w : World) (s2 : Space) (m : ScriptState) (places : List ℕ)
+    → (follows w m.instances w.tenants → follows (record w { space = s2 }) m.instances w.tenants)
     → StaysWhole w.space s2 → (minima s2 ≡ minima w.space) × (spreads s2 ≡ spreads w.space)
-    → FollowsScript come stands settings w m places → FollowsScript come stands settings (record w { space = s2 }) m places
-moved_so come stands settings w s2 m places whole sums h =
-    let w2 : World = record w { space = s2 } in
+    → FollowsScript follows settings w m places → FollowsScript follows settings (record w { space = s2 }) m places
+moved_so follows settings w s2 m places so whole sums h =
     record {
       frames = whole.frames ∙ h.frames;
       slots = whole.slots ∙ h.slots;
@@ -83,21 +130,29 @@ moved_so come stands settings w s2 m places whole sums h =
       minima = sums.0 ∙ h.minima;
       spreads = sums.1 ∙ h.spreads;
       modules = h.modules;
-      instances = zip_so (IsFollowed come stands w) (IsFollowed come stands w2) (moved_followed come stands w w2 refl) m.instances w.tenants h.instances;
+      instances = so h.instances;
       placed = h.placed;
     }
+
+-- those that run are so while pages move
+pub moved_run : (faults : List ℕ) (w w2 : World) → w2.modules ≡ w.modules → (gs : List NamedInstance) (ts : List (Option Tenant)) → AreRunAmid faults w gs ts → AreRunAmid faults w2 gs ts
+moved_run faults w w2 same gs ts h =
+    zip_amid_so (IsRunAmid w) (IsRunAmid w2) (λ own. moved_followed ComeFurther (StandsAmid own) w w2 same) faults gs ts h
 
 pub moves_follow : MovesFollow
 moves_follow frames slots tax events w happens faults settings m places w2 moves whole =
     let s2 = moves.0 in
     let sound = memory_is_sound frames slots tax events w happens in
     let goal : World → Type 0 = λ v. StaysWhole w.space v.space
-    → (FollowsScript AreSame IsAtSameFault settings w m places → FollowsScript AreSame IsAtSameFault settings v m places)
-    × (FollowsScript ComeFurther (StandsAmid faults) settings w m places → FollowsScript ComeFurther (StandsAmid faults) settings v m places) in
-    let so : goal (record w { space = s2 }) = λ stays. (
-      λ h. moved_so AreSame IsAtSameFault settings w s2 m places stays
+    → (FollowsScript FollowsSame settings w m places → FollowsScript FollowsSame settings v m places)
+    × (FollowsScript (AreRunAmid faults) settings w m places → FollowsScript (AreRunAmid faults) settings v m places) in
+    let after : World = record w { space = s2 } in
+    let known : FollowsSame w m.instances w.tenants → FollowsSame after m.instances w.tenants =
+    zip_so (IsFollowed AreSame IsAtSameFault w) (IsFollowed AreSame IsAtSameFault after) (moved_followed AreSame IsAtSameFault w after refl) m.instances w.tenants in
+    let so : goal after = λ stays. (
+      λ h. moved_so FollowsSame settings w s2 m places known stays
           (claims_decide w.space s2 sound moves.1.1 h.none_out (stays.none_out ∙ h.none_out) (λ j. (moves.1.0 j).claim)) h,
-      λ h. moved_so ComeFurther (StandsAmid faults) settings w s2 m places stays
+      λ h. moved_so (AreRunAmid faults) settings w s2 m places (moved_run faults w after refl m.instances w.tenants) stays
           (claims_decide w.space s2 sound moves.1.1 h.none_out (stays.none_out ∙ h.none_out) (λ j. (moves.1.0 j).claim)) h,
     ) in
     subst goal (sym moves.2) so whole
@@ -180,28 +235,10 @@ run_guests (g ∷ gs) [] = []
 run_guests (g ∷ gs) (o ∷ ts) = run_guest g o ∷ run_guests gs ts
 
 -- whose calls have run so far as they can
-abbrev RunSoFar : List ℕ → World → Tenant → Type 0
-RunSoFar faults w t = (g : NamedInstance) → IsTenantOf w t g → StandsAmid faults g t → RunsAmid faults g (run_guest g (Some t))
-
-pub open_or_not : (b : Bool) → (b ≡ true) ⊎ (b ≡ false)
-open_or_not true = inl refl
-open_or_not false = inr refl
-
--- an open call wasn't cancelled
-pub not_cancelled : (o : Outcome) → is_open o ≡ true → ¬ (o ≡ cancelled)
-not_cancelled o open_yet e = let bad : true ≡ false = sym open_yet ∙ ap is_open e in absurd (cc bad)
-
--- a call that comes no further
-pub comes_nowhere : (c : Call) → ComesTo c c
-comes_nowhere c =
-    ⊎_elim
-    (λ (open_yet : is_open c.outcome ≡ true). goes_on {outcome = c.outcome} {pieces = c.fragments} {charges = c.charges} open_yet (not_cancelled c.outcome open_yet))
-    (λ (closed : is_open c.outcome ≡ false). had_ended closed)
-    (open_or_not (is_open c.outcome))
-
-pub come_nowhere : (calls : List Call) → AllZip ComesTo calls calls
-come_nowhere [] = tt
-come_nowhere (c ∷ calls) = (comes_nowhere c, come_nowhere calls)
+abbrev RunSoFar : World → Tenant → Type 0
+RunSoFar w t =
+    (own : List ℕ) (g : NamedInstance) → IsTenantOf w t g → ComeFurther g.calls (journal_calls (journal t)) → StandsAmid own g t
+    → RunsAmid own g (run_guest g (Some t))
 
 -- one has run
 pub record HasRun (faults : List ℕ) (w : World) (g g2 : NamedInstance) (o : Option Tenant) : Type 0 where
@@ -209,8 +246,8 @@ pub record HasRun (faults : List ℕ) (w : World) (g g2 : NamedInstance) (o : Op
   pub followed : IsFollowed AreSame IsAtSameFault w g2 o
   pub same : SameGuest g g2
 
-one_runs : (faults : List ℕ) (w : World) (g : NamedInstance) (o : Option Tenant) → ((t : Tenant) → o ≡ Some t → RunSoFar faults w t)
-    → IsFollowed ComeFurther (StandsAmid faults) w g o → HasRun faults w g (run_guest g o) o
+one_runs : (faults : List ℕ) (w : World) (g : NamedInstance) (o : Option Tenant) → ((t : Tenant) → o ≡ Some t → RunSoFar w t)
+    → IsRunAmid w faults g o → HasRun faults w g (run_guest g o) o
 one_runs faults w g None so_far (is_gone gone) =
     record { amid = gone_still gone; followed = is_gone gone; same = record { released = refl; params = refl } }
 one_runs faults w g (Some t) so_far (is_there of_one further stands) =
@@ -224,23 +261,23 @@ one_runs faults w g (Some t) so_far (is_there of_one further stands) =
       is_live = of_one.is_live;
       calls = come_nowhere calls;
     } in
-    record { amid = so_far t refl g of_one stands; followed = is_there run refl refl; same = record { released = refl; params = refl } }
+    record { amid = so_far t refl faults g of_one further stands; followed = is_there run refl refl; same = record { released = refl; params = refl } }
 
 -- all have
 pub record HaveRun (faults : List ℕ) (w : World) (gs run : List NamedInstance) (ts : List (Option Tenant)) : Type 0 where
-  pub amid : AllZip (RunsAmid faults) gs run
+  pub amid : ZipAmid RunsAmid faults gs run
   pub followed : AllZip (IsFollowed AreSame IsAtSameFault w) run ts
   pub same : AllZip SameGuest gs run
 
-all_run : (faults : List ℕ) (w : World) (gs : List NamedInstance) (ts : List (Option Tenant)) → ((i : ℕ) (t : Tenant) → get_or ts i None ≡ Some t → RunSoFar faults w t)
-    → AllZip (IsFollowed ComeFurther (StandsAmid faults) w) gs ts → HaveRun faults w gs (run_guests gs ts) ts
+all_run : (faults : List ℕ) (w : World) (gs : List NamedInstance) (ts : List (Option Tenant)) → ((i : ℕ) (t : Tenant) → get_or ts i None ≡ Some t → RunSoFar w t)
+    → AreRunAmid faults w gs ts → HaveRun faults w gs (run_guests gs ts) ts
 all_run faults w [] [] so_far h = record { amid = tt; followed = tt; same = tt }
 all_run faults w [] (o ∷ ts) so_far h = absurd h
 all_run faults w (g ∷ gs) [] so_far h = absurd h
 all_run faults w (g ∷ gs) (o ∷ ts) so_far h =
-    let first = one_runs faults w g o (so_far 0) h.0 in
-    let others = all_run faults w gs ts (λ i. so_far (suc i)) h.1 in
-    record { amid = (first.amid, others.amid); followed = (first.followed, others.followed); same = (first.same, others.same) }
+    let first = one_runs h.0 w g o (so_far 0) h.3 in
+    let others = all_run h.1 w gs ts (λ i. so_far (suc i)) h.4 in
+    record { amid = (h.0, h.1, h.2, first.amid, others.amid); followed = (first.followed, others.followed); same = (first.same, others.same) }
 
 -- ---- whom no turn brings further
 
@@ -260,11 +297,12 @@ served_so faults g t alone live none =
 
 -- who waits for a device has met one of the faults, or stands still
 stopped_so : (faults : List ℕ) (w : World) (g : NamedInstance) (t : Tenant) (fault : ℕ) → IsTenantOf w t g → IsStuck w t g → device_fault t.waiting_for ≡ Some fault
+    → AllZip LosesNothing g.calls (journal_calls (journal t))
     → Contains faults fault ⊎ ((g.at_fault ≡ Some fault) × (g.calls ≡ journal_calls (journal t))) → RunsAmid faults g (run_guest g (Some t))
-stopped_so faults w g t fault of_one stuck is (inl met) =
+stopped_so faults w g t fault of_one stuck is lost (inl met) =
     subst (λ (o : Option ℕ). RunsAmid faults g (record g { calls = journal_calls (journal t); at_fault = o })) (sym is)
-    (runs_on of_one.is_live of_one.calls stuck.replay (meets_fault stuck.call stuck.first stuck.needs met))
-stopped_so faults w g t fault of_one stuck is (inr still) =
+    (runs_on of_one.is_live of_one.calls stuck.replay (meets_fault stuck.call stuck.first stuck.needs lost met))
+stopped_so faults w g t fault of_one stuck is lost (inr still) =
     subst (λ (o : Option ℕ). RunsAmid faults g (record g { calls = journal_calls (journal t); at_fault = o })) (still.0 ∙ sym is)
     (subst (λ (cs : List Call). RunsAmid faults g (record g { calls = cs })) still.1 (stands_still of_one.is_live still.0))
 
@@ -278,12 +316,13 @@ drains_end frames slots tax events w happens faults settings m places h served =
     let alone = served_as_alone frames slots tax events w happens in
     let stuck = is_stuck frames slots tax events w happens in
     let rests = at_no_fault frames slots tax events w happens in
-    let so_far : (i : ℕ) (t : Tenant) → get_or w.tenants i None ≡ Some t → RunSoFar faults w t = λ i t there g of_one stands.
+    let so_far : (i : ℕ) (t : Tenant) → get_or w.tenants i None ≡ Some t → RunSoFar w t = λ i t there own g of_one further stands.
+    let lost = (both_further g.calls (journal_calls (journal t)) further).1 in
     ⊎_elim
-    (λ (no_further : GoesNoFurther t). served_so faults g t (alone i t g there no_further of_one) of_one.is_live (no_device t (rests i t there) no_further))
+    (λ (no_further : GoesNoFurther t). served_so own g t (alone i t g there no_further of_one) of_one.is_live (no_device t (rests i t there) no_further))
     (λ (device : StandsForDevice t).
     let is : device_fault t.waiting_for ≡ Some (swap_number device.0) = ap device_fault device.1 in
-    stopped_so faults w g t (swap_number device.0) of_one (stuck i t g device.0 there device.1 of_one) is (stands (swap_number device.0) is))
+    stopped_so own w g t (swap_number device.0) of_one (stuck i t g device.0 there device.1 of_one) is lost (stands (swap_number device.0) is))
     (served i t there) in
     let have = all_run faults w m.instances w.tenants so_far h.instances in (
       run,

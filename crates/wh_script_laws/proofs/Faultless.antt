@@ -14,8 +14,9 @@ use Rattle.wh_script_model.specs.Receiving.{ReceivesModule, module_is_kept, modu
 use Rattle.wh_script_model.specs.Answers as alone
 use Rattle.wh_script_model.specs.Answers.{Files, IsObeyed, module_name_is_taken, no_file, module_comes, no_such_module, instance_name_is_taken, instance_comes, no_such_instance, is_drained, is_scanned, is_reported, is_refueled, no_one_to_refuel, no_call_to_refuel, is_cancelled, no_one_to_cancel, no_call_to_cancel, is_retried, no_one_to_retry, no_fault_to_retry, is_released, no_one_to_release, AnswersLine, AnswersLines, AnswersScript}
 use Rattle.wh_script_model.specs.Failing as amid
-use Rattle.wh_script_model.specs.Failing.{rests_alone, meets_fault, RunsAmid, gone_still, stands_still, runs_on, DrainsAmid, AnswersLineAmid, AnswersLinesAmid, AnswersScriptAmid}
+use Rattle.wh_script_model.specs.Failing.{rests_alone, meets_fault, RunsAmid, AreMixed, ZipAmid, none_left, gone_still, stands_still, runs_on, DrainsAmid, AnswersLineAmid, AnswersLinesAmid, AnswersScriptAmid}
 use Rattle.wh_host_model.proofs.Host.Entries.{all_join}
+use Rattle.wh_script_laws.proofs.Mixing.{mixed_nothing}
 use Rattle.wh_script_laws.specs.Faultless.{NobodyStands, LinesLeaveNobody, FaultlessLines, FaultlessScripts}
 
 abbrev IsAtNoFault : NamedInstance → Type 0
@@ -41,7 +42,7 @@ amid_alone g _ none (gone_still gone) = drains.is_gone gone
 amid_alone g _ none (stands_still {fault = fault} live stands) = absurd (none-some fault (sym none ∙ stands))
 amid_alone g _ none (runs_on {calls = calls} live come replay (rests_alone rest)) =
     subst (λ (o : Option ℕ). RunsAlone g (record g { calls = calls; at_fault = o })) none (drains.has_run live come replay rest)
-amid_alone g _ none (runs_on live come replay (meets_fault c first needs met)) = let bad = met.1 in absurd (omega (arith, bad))
+amid_alone g _ none (runs_on live come replay (meets_fault c first needs lost met)) = let bad = met.1 in absurd (omega (arith, bad))
 
 alone_amid : (g g2 : NamedInstance) → IsAtNoFault g → RunsAlone g g2 → RunsAmid [] g g2
 alone_amid g _ none (drains.is_gone gone) = gone_still gone
@@ -52,17 +53,19 @@ alone_for_none : (g g2 : NamedInstance) → IsAtNoFault g → RunsAlone g g2 →
 alone_for_none g _ none (drains.is_gone gone) = none
 alone_for_none g _ none (drains.has_run live come replay rest) = none
 
-all_alone : (gs hs : List NamedInstance) → AllByRecursion IsAtNoFault gs → AllZip (RunsAmid []) gs hs → AllZip RunsAlone gs hs
-all_alone [] [] none x = tt
-all_alone [] (h ∷ hs) none x = absurd x
-all_alone (g ∷ gs) [] none x = absurd x
-all_alone (g ∷ gs) (h ∷ hs) none x = (amid_alone g h none.0 x.0, all_alone gs hs none.1 x.1)
+all_alone : (faults : List ℕ) (gs hs : List NamedInstance) → faults ≡ [] → AllByRecursion IsAtNoFault gs → ZipAmid RunsAmid faults gs hs → AllZip RunsAlone gs hs
+all_alone faults [] [] e none x = tt
+all_alone faults [] (h ∷ hs) e none x = absurd x
+all_alone faults (g ∷ gs) [] e none x = absurd x
+all_alone faults (g ∷ gs) (h ∷ hs) e none x =
+    let nothing = mixed_nothing x.0 x.1 (subst (AreMixed x.0 x.1) e x.2) in
+    (amid_alone g h none.0 (subst (λ own. RunsAmid own g h) nothing.0 x.3), all_alone x.1 gs hs nothing.1 none.1 x.4)
 
-all_amid : (gs hs : List NamedInstance) → AllByRecursion IsAtNoFault gs → AllZip RunsAlone gs hs → AllZip (RunsAmid []) gs hs
+all_amid : (gs hs : List NamedInstance) → AllByRecursion IsAtNoFault gs → AllZip RunsAlone gs hs → ZipAmid RunsAmid [] gs hs
 all_amid [] [] none x = tt
 all_amid [] (h ∷ hs) none x = absurd x
 all_amid (g ∷ gs) [] none x = absurd x
-all_amid (g ∷ gs) (h ∷ hs) none x = (alone_amid g h none.0 x.0, all_amid gs hs none.1 x.1)
+all_amid (g ∷ gs) (h ∷ hs) none x = ([], [], none_left, alone_amid g h none.0 x.0, all_amid gs hs none.1 x.1)
 
 all_for_none : (gs hs : List NamedInstance) → AllByRecursion IsAtNoFault gs → AllZip RunsAlone gs hs → AllByRecursion IsAtNoFault hs
 all_for_none [] [] none x = tt
@@ -87,7 +90,7 @@ drained_alone w w2 lines none x = record {
   invoked = x.invoked;
   starts = x.starts;
   calls = x.calls;
-  each_runs = all_alone w.instances x.run none x.each_runs;
+  each_runs = all_alone [] w.instances x.run refl none x.each_runs;
   print_starts = x.print_starts;
   print_calls = x.print_calls;
   lines_are = x.lines_are;

@@ -1,3 +1,4 @@
+pub mod Mixing
 pub mod Sums
 pub mod Drains
 pub mod Turning
@@ -22,3 +23,4 @@ pub mod DeterminedOrder
 pub mod Determined
 pub mod Faultless
 pub mod WorkedFaults
+pub mod Stopping

@@ -8,8 +8,8 @@ use Rattle.wh_host_model.specs.Host.Worlds.{Tenant, World, journal, journal_call
 use Rattle.wh_host_model.specs.Owners.{Entry, first_open}
 use Rattle.wh_script_model.specs.ScriptState.{NamedInstance}
 use Rattle.wh_host_model.proofs.Host.Holding.{journals_are_in_order}
-use Rattle.wh_script_laws.specs.Following.{AreSame, IsFollowed, is_there, IsAtSameFault}
-use Rattle.wh_script_laws.specs.Laws.{OpenIsKnown}
+use Rattle.wh_script_laws.specs.Following.{AreSame, device_fault, IsFollowed, is_there, IsAtSameFault}
+use Rattle.wh_script_laws.specs.Laws.{GoingIsKnown, OpenIsKnown}
 use Rattle.wh_script_laws.proofs.Journals.{first_is, ordered}
 
 there_at : (w : World) (gs : List NamedInstance) (ts : List (Option Tenant)) (i : ℕ) (t : Tenant) → AllZip (IsFollowed AreSame IsAtSameFault w) gs ts → get_or ts i None ≡ Some t
@@ -38,3 +38,12 @@ open_is_known frames slots tax events w happens settings m places i t known ther
     let g = there_at w m.instances w.tenants i t known.instances there in
     let c = known_so w g.0 t (journals_are_in_order frames slots tax events w happens i t there) some g.2 in
     (i, g.0, c.0, g.1, c.1, c.2)
+
+faultless_so : (w : World) (g : NamedInstance) (t : Tenant) → IsFollowed AreSame IsAtSameFault w g (Some t) → device_fault t.waiting_for ≡ None → g.at_fault ≡ None
+faultless_so w g t (is_there of_one same faultless) none = faultless ∙ none
+
+pub going_is_known : GoingIsKnown
+going_is_known frames slots tax events w happens settings m places i t known there some none =
+    let g = there_at w m.instances w.tenants i t known.instances there in
+    let c = known_so w g.0 t (journals_are_in_order frames slots tax events w happens i t there) some g.2 in
+    (i, g.0, c.0, g.1, c.1, c.2, faultless_so w g.0 t g.2 none)

@@ -13,7 +13,7 @@ use Rattle.wh_host_model.specs.Owners.{is_open, first_open}
 use Rattle.wh_script_model.specs.Drains.{ComesTo, status_by, call_status, PrintsStart, has_none, has_one, PrintStarts, PrintsCall, is_refused, is_taken, PrintCalls}
 use Rattle.wh_script_model.proofs.Once.{end_closed}
 use Rattle.wh_script_laws.proofs.Ended.{ended_as_said, run_ended, run_start, run_starts_first, start_still_ended}
-use Rattle.wh_script_model.specs.Failing.{DrainsAmid, RunsAmid, gone_still, stands_still, runs_on}
+use Rattle.wh_script_model.specs.Failing.{DrainsAmid, RunsAmid, ZipAmid, gone_still, stands_still, runs_on}
 use Rattle.wh_script_laws.specs.Printed.{HasEndedSo, StartsFirst, when_released, HasStart, IsPrinted, WasPrinted, IsReleased, AllArePrinted, IsWellMade}
 
 -- ---- places of lists
@@ -153,21 +153,21 @@ said_gone g place c last_printed gone is =
 
 -- ---- calls run
 
-run_at : (faults : List ℕ) (gs run : List NamedInstance) (j : ℕ) (r : NamedInstance) → AllZip (RunsAmid faults) gs run → slice_get run j ≡ Some r
-    → (g : NamedInstance) × (slice_get gs j ≡ Some g) × RunsAmid faults g r
+run_at : (faults : List ℕ) (gs run : List NamedInstance) (j : ℕ) (r : NamedInstance) → ZipAmid RunsAmid faults gs run → slice_get run j ≡ Some r
+    → (own : List ℕ) × (g : NamedInstance) × (slice_get gs j ≡ Some g) × RunsAmid own g r
 run_at faults [] [] j r all e = absurd (none-some r e)
 run_at faults [] (x ∷ run) j r all e = absurd all
 run_at faults (g ∷ gs) [] j r all e = absurd all
-run_at faults (g ∷ gs) (x ∷ run) zero r all e = (g, refl, subst (RunsAmid faults g) (same_Some x r e) all.0)
-run_at faults (g ∷ gs) (x ∷ run) (suc j) r all e = run_at faults gs run j r all.1 e
+run_at faults (g ∷ gs) (x ∷ run) zero r all e = (all.0, g, refl, subst (RunsAmid all.0 g) (same_Some x r e) all.3)
+run_at faults (g ∷ gs) (x ∷ run) (suc j) r all e = run_at all.1 gs run j r all.4 e
 
-ran_at : (faults : List ℕ) (gs run : List NamedInstance) (j : ℕ) (g : NamedInstance) → AllZip (RunsAmid faults) gs run → slice_get gs j ≡ Some g
-    → (r : NamedInstance) × (slice_get run j ≡ Some r) × RunsAmid faults g r
+ran_at : (faults : List ℕ) (gs run : List NamedInstance) (j : ℕ) (g : NamedInstance) → ZipAmid RunsAmid faults gs run → slice_get gs j ≡ Some g
+    → (own : List ℕ) × (r : NamedInstance) × (slice_get run j ≡ Some r) × RunsAmid own g r
 ran_at faults [] [] j g all e = absurd (none-some g e)
 ran_at faults [] (x ∷ run) j g all e = absurd all
 ran_at faults (y ∷ gs) [] j g all e = absurd all
-ran_at faults (y ∷ gs) (x ∷ run) zero g all e = (x, refl, subst (λ k. RunsAmid faults k x) (same_Some y g e) all.0)
-ran_at faults (y ∷ gs) (x ∷ run) (suc j) g all e = ran_at faults gs run j g all.1 e
+ran_at faults (y ∷ gs) (x ∷ run) zero g all e = (all.0, x, refl, subst (λ k. RunsAmid all.0 k x) (same_Some y g e) all.3)
+ran_at faults (y ∷ gs) (x ∷ run) (suc j) g all e = ran_at all.1 gs run j g all.4 e
 
 run_places : (faults : List ℕ) (g r : NamedInstance) → RunsAmid faults g r → KeepsPlaces g.calls r.calls
 run_places faults g _ (gone_still gone) = places_stay g.calls
@@ -180,46 +180,46 @@ gone_before faults g _ (gone_still gone) released = refl
 gone_before faults g _ (stands_still live stands) released = refl
 gone_before faults g _ (runs_on live come replay rest) released = absurd (cc (live, released))
 
-pub runs_well : (faults : List ℕ) (m : ScriptState) (run : List NamedInstance) → IsWellMade m → AllZip (RunsAmid faults) m.instances run → IsWellMade (record m { instances = run })
+pub runs_well : (faults : List ℕ) (m : ScriptState) (run : List NamedInstance) → IsWellMade m → ZipAmid RunsAmid faults m.instances run → IsWellMade (record m { instances = run })
 runs_well faults m run h all = record {
   there = record {
     starts = λ j r e.
         let d = run_at faults m.instances run j r all e in
-        let c = h.there.starts j d.0 d.1 in
-        run_places faults d.0 r d.2 0 c.0 c.1;
+        let c = h.there.starts j d.1 d.2 in
+        run_places d.0 d.1 r d.3 0 c.0 c.1;
     calls = λ n i place v at outcome.
         let d = h.there.calls n i place v at outcome in
         let r = ran_at faults m.instances run i d.0 all d.2 in
-        let c = run_places faults d.0 r.0 r.2 place d.1 d.3 in
-        (r.0, c.0, r.1, c.1);
+        let c = run_places r.0 d.0 r.1 r.3 place d.1 d.3 in
+        (r.1, c.0, r.2, c.1);
   };
   gone = record {
     starts = λ j r c e released has first.
         let d = run_at faults m.instances run j r all e in
-        let same = gone_before faults d.0 r d.2 released in
-        h.gone.starts j r c (d.1 ∙ ap Some (sym same)) released has first;
+        let same = gone_before d.0 d.1 r d.3 released in
+        h.gone.starts j r c (d.2 ∙ ap Some (sym same)) released has first;
     calls = λ n i place v r c at outcome e released first.
         let d = run_at faults m.instances run i r all e in
-        let same = gone_before faults d.0 r d.2 released in
-        h.gone.calls n i place v r c at outcome (d.1 ∙ ap Some (sym same)) released first;
+        let same = gone_before d.0 d.1 r d.3 released in
+        h.gone.calls n i place v r c at outcome (d.2 ∙ ap Some (sym same)) released first;
   };
   ended = record {
     taken = record {
       starts = λ j r c e anyone has first.
           let d = run_at faults m.instances run j r all e in
-          let before = h.there.starts j d.0 d.1 in
-          let kept = run_start faults d.0 r d.2 in
+          let before = h.there.starts j d.1 d.2 in
+          let kept = run_start d.0 d.1 r d.3 in
           subst (HasEndedSo r 0 c) (sym kept.1)
-          (run_ended faults d.0 r 0 before.0 c d.0.last_printed d.2 before.1 first (h.ended.taken.starts j d.0 before.0 d.1 tt (kept.0 has) before.1));
+          (run_ended d.0 d.1 r 0 before.0 c d.1.last_printed d.3 before.1 first (h.ended.taken.starts j d.1 before.0 d.2 tt (kept.0 has) before.1));
       calls = λ n i place v r c at outcome e anyone first.
           let d = run_at faults m.instances run i r all e in
           let before = h.there.calls n i place v at outcome in
-          let same : before.0 ≡ d.0 = same_Some before.0 d.0 (sym before.2 ∙ d.1) in
-          let here : slice_get d.0.calls place ≡ Some before.1 = subst (λ (x : NamedInstance). slice_get x.calls place ≡ Some before.1) same before.3 in
-          run_ended faults d.0 r place before.1 c v.last_printed d.2 here first (h.ended.taken.calls n i place v d.0 before.1 at outcome d.1 tt here);
+          let same : before.0 ≡ d.1 = same_Some before.0 d.1 (sym before.2 ∙ d.2) in
+          let here : slice_get d.1.calls place ≡ Some before.1 = subst (λ (x : NamedInstance). slice_get x.calls place ≡ Some before.1) same before.3 in
+          run_ended d.0 d.1 r place before.1 c v.last_printed d.3 here first (h.ended.taken.calls n i place v d.1 before.1 at outcome d.2 tt here);
     };
     refused = h.ended.refused;
-    starts_first = λ j r e. let d = run_at faults m.instances run j r all e in run_starts_first faults d.0 r d.2 (h.ended.starts_first j d.0 d.1);
+    starts_first = λ j r e. let d = run_at faults m.instances run j r all e in run_starts_first d.0 d.1 r d.3 (h.ended.starts_first j d.1 d.2);
   };
 }
 
@@ -405,4 +405,4 @@ drained_guest faults m m2 lines i g2 drains at =
     let there : slice_get drains.instances i ≡ Some g2 = ap (λ (x : ScriptState). slice_get x.instances i) (sym drains.after) ∙ at in
     let last_printed = said_at drains.run drains.instances drains.starts i g2 drains.print_starts there in
     let ran = run_at faults m.instances drains.run i last_printed.0 drains.each_runs last_printed.2 in
-    (ran.0, ran.1, said_name last_printed.0 g2 last_printed.1 last_printed.3 ∙ run_name faults ran.0 last_printed.0 ran.2)
+    (ran.1, ran.2, said_name last_printed.0 g2 last_printed.1 last_printed.3 ∙ run_name ran.0 ran.1 last_printed.0 ran.3)

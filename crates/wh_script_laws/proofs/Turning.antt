@@ -23,10 +23,12 @@ use Rattle.wh_script_model.specs.Drains.{ComesTo, had_ended, goes_on}
 use Rattle.wh_script_model.specs.Served.{IsTenantOf}
 use Rattle.wh_host_model.proofs.Host.Holding.{memory_is_sound, journals_are_in_order}
 use Rattle.wh_host_model.proofs.Host.Opening.{Apart, apart_none, apart_then, apart_steps, proceeds_apart}
-use Rattle.wh_script_laws.specs.Following.{ComeFurther, IsFollowed, is_there, IsPlaced, StandsAmid, device_fault}
+use Rattle.wh_script_model.specs.Failing.{LosesNothing}
+use Rattle.wh_script_laws.specs.Following.{ComesFurther, ComeFurther, is_there, IsPlaced, IsRunAmid, AreRunAmid, StandsAmid, device_fault}
 use Rattle.wh_script_laws.specs.Laws.{TurnsFollow}
+use Rattle.wh_script_laws.proofs.Mixing.{zip_amid_set}
 use Rattle.wh_script_laws.proofs.Sums.{claims_decide}
-use Rattle.wh_script_laws.proofs.Drains.{comes_nowhere, come_nowhere, moved_followed, not_cancelled, zip_so}
+use Rattle.wh_script_laws.proofs.Drains.{both_further, goes_nowhere, go_nowhere, moved_followed, not_cancelled, zip_so}
 
 -- ---- calls come further, and further still
 
@@ -35,12 +37,20 @@ comes_then a b c (had_ended closed) y = y
 comes_then a b c (goes_on open_yet alive) (had_ended closed) = goes_on open_yet alive
 comes_then a b c (goes_on open_yet alive) (goes_on open_then alive_then) = goes_on open_yet alive_then
 
-come_then : (xs ys zs : List Call) → AllZip ComesTo xs ys → AllZip ComesTo ys zs → AllZip ComesTo xs zs
+loses_then : (a b c : Call) → LosesNothing a b → LosesNothing b c → LosesNothing a c
+loses_then a b c x y =
+    let p = x.fragments in
+    let q = y.fragments in
+    let r = x.charges in
+    let s = y.charges in
+    record { fragments = omega arith; charges = omega arith }
+
+come_then : (xs ys zs : List Call) → ComeFurther xs ys → ComeFurther ys zs → ComeFurther xs zs
 come_then [] [] zs x y = y
 come_then [] (b ∷ ys) zs x y = absurd x
 come_then (a ∷ xs) [] zs x y = absurd x
 come_then (a ∷ xs) (b ∷ ys) [] x y = absurd y
-come_then (a ∷ xs) (b ∷ ys) (c ∷ zs) x y = (comes_then a b c x.0 y.0, come_then xs ys zs x.1 y.1)
+come_then (a ∷ xs) (b ∷ ys) (c ∷ zs) x y = ((comes_then a b c x.0.0 y.0.0, loses_then a b c x.0.1 y.0.1), come_then xs ys zs x.1 y.1)
 
 -- ---- the open calls
 
@@ -58,18 +68,18 @@ open_ones {inst = inst} (has_started {os = os} a b c d f g) = each_open inst os 
 open_ones (has_died a b c d) = tt
 
 -- behind calls that have ended, the first open one has come further, and so have the others
-behind : (before os : List Entry) (e e2 : Entry) (es es2 : List Entry) → os ≡ e ∷ es → ComesTo e.call e2.call
-    → AllZip ComesTo (journal_calls es) (journal_calls es2)
-    → AllZip ComesTo (journal_calls (before ++ os)) (journal_calls (before ++ e2 ∷ es2))
+behind : (before os : List Entry) (e e2 : Entry) (es es2 : List Entry) → os ≡ e ∷ es → ComesFurther e.call e2.call
+    → ComeFurther (journal_calls es) (journal_calls es2)
+    → ComeFurther (journal_calls (before ++ os)) (journal_calls (before ++ e2 ∷ es2))
 behind [] os e e2 es es2 are first others =
-    subst (λ xs. AllZip ComesTo (journal_calls xs) (journal_calls (e2 ∷ es2))) (sym are) (first, others)
+    subst (λ xs. ComeFurther (journal_calls xs) (journal_calls (e2 ∷ es2))) (sym are) (first, others)
 behind (b ∷ before) os e e2 es es2 are first others =
-    let rest = behind before os e e2 es es2 are first others in (comes_nowhere b.call, rest)
+    let rest = behind before os e e2 es es2 are first others in (goes_nowhere b.call, rest)
 
 all_dead : (es : List Entry) → AllByRecursion IsOpenYet es
-    → AllZip ComesTo (journal_calls es) (journal_calls (map (λ w. ended_by w dead) es ++ []))
+    → ComeFurther (journal_calls es) (journal_calls (map (λ w. ended_by w dead) es ++ []))
 all_dead [] h = tt
-all_dead (e ∷ es) h = (goes_on h.0 (λ e. absurd (cc e)), all_dead es h.1)
+all_dead (e ∷ es) h = ((goes_on h.0 (λ e. absurd (cc e)), record { fragments = omega arith; charges = omega arith }), all_dead es h.1)
 
 -- ---- what a turn leaves
 
@@ -113,7 +123,7 @@ record TurnLeaves (s s2 : Space) (t t2 : Tenant) : Type 0 where
   of : t2.of ≡ t.of
   params : t2.params ≡ t.params
   inst : t2.inst ≡ t.inst
-  further : AllZip ComesTo (journal_calls (journal t)) (journal_calls (journal t2))
+  further : ComeFurther (journal_calls (journal t)) (journal_calls (journal t2))
   still : StandsStill t t2
   apart : Apart t.place s s2
   sound : IsSound s2
@@ -124,22 +134,29 @@ left_as_it_was s t sound = record {
   of = refl;
   params = refl;
   inst = refl;
-  further = come_nowhere (journal_calls (journal t));
+  further = go_nowhere (journal_calls (journal t));
   still = λ fault e. (e, refl);
   apart = apart_none t.place s;
   sound = sound;
 }
 
 -- the first open call has come further
-goes_further : (e : Entry) (k n : ℕ) → IsOpenYet e → ComesTo e.call (gone_further e k n).call
-goes_further e k n open_yet = goes_on open_yet (not_cancelled e.call.outcome open_yet)
+grown_so : (e : Entry) (k n : ℕ) → LosesNothing e.call (gone_further e k n).call
+grown_so e k n = record { fragments = omega arith; charges = omega arith }
 
-further_behind : (t : Tenant) (e e2 : Entry) (es : List Entry) → t.open_calls ≡ e ∷ es → ComesTo e.call e2.call
-    → AllZip ComesTo (journal_calls (journal t)) (journal_calls (t.ended ++ e2 ∷ es))
-further_behind t e e2 es are first = behind t.ended t.open_calls e e2 es es are first (come_nowhere (journal_calls es))
+goes_further : (e : Entry) (k n : ℕ) → IsOpenYet e → ComesFurther e.call (gone_further e k n).call
+goes_further e k n open_yet = (goes_on open_yet (not_cancelled e.call.outcome open_yet), grown_so e k n)
+
+-- to its end
+ends_further : (e : Entry) (k n : ℕ) (o : Outcome) → IsOpenYet e → ¬ (o ≡ cancelled) → ComesFurther e.call (ended_by (gone_further e k n) o).call
+ends_further e k n o open_yet alive = (goes_on open_yet alive, record { fragments = omega arith; charges = omega arith })
+
+further_behind : (t : Tenant) (e e2 : Entry) (es : List Entry) → t.open_calls ≡ e ∷ es → ComesFurther e.call e2.call
+    → ComeFurther (journal_calls (journal t)) (journal_calls (t.ended ++ e2 ∷ es))
+further_behind t e e2 es are first = behind t.ended t.open_calls e e2 es es are first (go_nowhere (journal_calls es))
 
 closed_leaves : (s0 s : Space) (t t2 : Tenant) (e e2 : Entry) (es : List Entry) (r : Rest) → t.open_calls ≡ e ∷ es
-    → AllByRecursion IsOpenYet t.open_calls → ComesTo e.call e2.call → Apart t.place s0 s → IsSound s → Closes s t e2 es r t2
+    → AllByRecursion IsOpenYet t.open_calls → ComesFurther e.call e2.call → Apart t.place s0 s → IsSound s → Closes s t e2 es r t2
     → TurnLeaves s0 s t t2
 closed_leaves s0 s t t2 e e2 es r are open_ones first apart sound (faces_next lives faces) = record {
   place = refl;
@@ -168,7 +185,7 @@ turn_leaves q s s2 t t2 answer sound open_ones (is_idle none) = left_as_it_was s
 turn_leaves q s s2 t t2 answer sound open_ones (has_ended {e = e} {es = es} {o = o} {k = k} {n = n} {r = r} are goes alone pins closes) =
     let steps = alone.steps in
     let is = subst (AllByRecursion IsOpenYet) are open_ones in
-    closed_leaves s s2 t t2 e (ended_by (gone_further e k n) o) es r are open_ones (goes_on is.0 (never_cancelled goes)) (apart_then (proceeds_apart t e goes) (apart_steps steps)) steps.sound closes
+    closed_leaves s s2 t t2 e (ended_by (gone_further e k n) o) es r are open_ones (ends_further e k n o is.0 (never_cancelled goes)) (apart_then (proceeds_apart t e goes) (apart_steps steps)) steps.sound closes
 turn_leaves q s s2 t t2 answer sound open_ones (has_no_fuel {e = e} {es = es} {k = k} {n = n} are goes alone pins) =
     let steps = alone.steps in
     let is = subst (AllByRecursion IsOpenYet) are open_ones in
@@ -238,9 +255,9 @@ stands_yet faults g t t2 still stands fault e =
     (λ (yet : (g.at_fault ≡ Some fault) × (g.calls ≡ journal_calls (journal t))). inr (yet.0, yet.1 ∙ so.1))
     (stands fault so.0)
 
-turned_followed : (faults : List ℕ) (w w2 : World) (s s2 : Space) (t t2 : Tenant) (g : NamedInstance) → w2.modules ≡ w.modules → TurnLeaves s s2 t t2
-    → IsFollowed ComeFurther (StandsAmid faults) w g (Some t) → IsFollowed ComeFurther (StandsAmid faults) w2 g (Some t2)
-turned_followed faults w w2 s s2 t t2 g same leaves (is_there same_one further stands) =
+turned_followed : (w w2 : World) (s s2 : Space) (t t2 : Tenant) → w2.modules ≡ w.modules → TurnLeaves s s2 t t2
+    → (faults : List ℕ) (g : NamedInstance) → IsRunAmid w faults g (Some t) → IsRunAmid w2 faults g (Some t2)
+turned_followed w w2 s s2 t t2 same leaves faults g (is_there same_one further stands) =
     let on = come_then g.calls (journal_calls (journal t)) (journal_calls (journal t2)) further leaves.further in
     let of_one2 : IsTenantOf w2 t2 g = record {
       loaded = same_one.loaded;
@@ -249,14 +266,14 @@ turned_followed faults w w2 s s2 t t2 g same leaves (is_there same_one further s
       params = same_one.params ∙ sym leaves.params;
       inst = same_one.inst ∙ sym leaves.inst;
       is_live = same_one.is_live;
-      calls = on;
+      calls = (both_further g.calls (journal_calls (journal t2)) on).0;
     } in
     is_there of_one2 on (stands_yet faults g t t2 leaves.still stands)
 
 -- each instance of a script is that of the host, and lies at its place
 pub record AreFollowed (faults : List ℕ) (w : World) (m : ScriptState) (places : List ℕ) : Type 0 where
   pub modules : AllZip (λ (named : NamedModule) (loaded : Loaded). named.m ≡ loaded.m) m.modules w.modules
-  pub instances : AllZip (IsFollowed ComeFurther (StandsAmid faults) w) m.instances w.tenants
+  pub instances : AreRunAmid faults w m.instances w.tenants
   pub placed : AllZip IsPlaced places w.tenants
 
 -- they are so on another host, on which the same is promised at each place
@@ -278,7 +295,7 @@ turn_followed frames slots tax events w happens faults m places id q answer w2 h
     record {
       are = record {
         modules = h.modules;
-        instances = zip_set (IsFollowed ComeFurther (StandsAmid faults) w) (IsFollowed ComeFurther (StandsAmid faults) after) t t2 (moved_followed ComeFurther (StandsAmid faults) w after refl) (λ g. turned_followed faults w after w.space s2 t t2 g refl leaves) m.instances w.tenants id.number there.0 h.instances;
+        instances = zip_amid_set (IsRunAmid w) (IsRunAmid after) t t2 (λ own. moved_followed ComeFurther (StandsAmid own) w after refl) (turned_followed w after w.space s2 t t2 refl leaves) faults m.instances w.tenants id.number there.0 h.instances;
         placed = zip_set IsPlaced IsPlaced t t2 (λ place o at. at) (λ place at. leaves.place ∙ at) places w.tenants id.number there.0 h.placed;
       };
       claims = λ j.

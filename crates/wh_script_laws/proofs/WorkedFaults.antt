@@ -3,7 +3,7 @@ use Rattle.std.proofs.Common.{◌≡◌, ◌≤◌, ℕ, ◌+◌, ◌*◌, inl, 
 use Rattle.std.proofs.lemmas.Bool.{false≢true}
 use Rattle.std.proofs.lemmas.List.{length-replicate}
 use Rattle.std.proofs.lemmas.Option.{none-some}
-use Rattle.std.specs.List.{Contains}
+use Rattle.std.specs.List.{AllZip, Contains}
 use Rattle.wh_model.specs.declared.ValType.TheVariants.{I32}
 use Rattle.wh_model.specs.declared.StoreOp.TheVariants.{I32Store8}
 use Rattle.wh_model.specs.Format.Syntax.{store, nothing, plain}
@@ -30,7 +30,7 @@ use Rattle.wh_script_model.specs.ScriptState.{NamedInstance, call_accepted, Invo
 use Rattle.wh_script_model.specs.Drains.{had_ended, goes_on, all_ended, has_none, as_before, anew, is_taken}
 use Rattle.wh_script_model.specs.Receiving.{MeetsNoLimit, MeetsNoBar, new_instance, is_admitted, is_invoked}
 use Rattle.wh_script_model.specs.Answers.{instance_comes, is_cancelled, is_retried, no_fault_to_retry}
-use Rattle.wh_script_model.specs.Failing.{NeedsBytes, for_a_step, rests_alone, meets_fault, stands_still, runs_on, DrainsAmid}
+use Rattle.wh_script_model.specs.Failing.{NeedsBytes, for_a_step, LosesNothing, rests_alone, meets_fault, none_left, one_own, stands_still, runs_on, DrainsAmid}
 use Rattle.wh_script_model.specs.WorkedScripts.{only_module, some_params, IsObeyedHere}
 use Rattle.wh_script_model.proofs.Beginning.{type_with, body_of}
 use Rattle.wh_script_model.proofs.Sevens.{the_start, returned_isnt, names_one}
@@ -226,6 +226,12 @@ stuck = with_guest (guest_with (call_for 0 pending ∷ []) (Some 2)) (said_last 
 met : Contains {X = ℕ} (2 ∷ []) 2
 met = (0, omega arith, refl)
 
+lost_by : (c : Call) → LosesNothing c c
+lost_by c = record { fragments = omega arith; charges = omega arith }
+
+lost : AllZip LosesNothing (the_start ∷ call_for 0 pending ∷ []) (the_start ∷ call_for 0 pending ∷ [])
+lost = (lost_by the_start, (lost_by (call_for 0 pending), tt))
+
 first_drain : DrainsAmid (2 ∷ []) (with_guest (guest_with (call_for 0 pending ∷ []) None) (said_last None ∷ [])) (call_is (call 1) (wants_frame 2 0) ∷ []) stuck
 first_drain = record {
   run = guest_with (call_for 0 pending ∷ []) (Some 2) ∷ [];
@@ -233,7 +239,7 @@ first_drain = record {
   invoked = _;
   starts = [];
   calls = _;
-  each_runs = (runs_on refl (had_ended refl, (goes_on refl pending_isnt_cancelled, tt)) replays_first (meets_fault (call_for 0 pending) refl needs met), tt);
+  each_runs = (2 ∷ [], [], one_own none_left, runs_on refl (had_ended refl, (goes_on refl pending_isnt_cancelled, tt)) replays_first (meets_fault (call_for 0 pending) refl needs lost met), tt);
   print_starts = ([], [], _, [], refl, refl, has_none refl refl, (refl, refl));
   print_calls = (_, _, _, _, refl, refl, is_taken refl refl refl (anew (none-some _)), (refl, refl));
   lines_are = refl;
@@ -259,7 +265,7 @@ last_drain = record {
   invoked = _;
   starts = [];
   calls = _;
-  each_runs = (runs_on refl (had_ended refl, (goes_on refl (returned_isnt [] replay.cancelled refl), tt)) replays_done (rests_alone (all_ended refl)), tt);
+  each_runs = ([], [], none_left, runs_on refl (had_ended refl, (goes_on refl (returned_isnt [] replay.cancelled refl), tt)) replays_done (rests_alone (all_ended refl)), tt);
   print_starts = ([], [], _, [], refl, refl, has_none refl refl, (refl, refl));
   print_calls = (_, _, _, _, refl, refl, is_taken refl refl refl (anew was_done), (refl, refl));
   lines_are = refl;
@@ -273,7 +279,7 @@ still_drain = record {
   invoked = _;
   starts = [];
   calls = _;
-  each_runs = (stands_still refl refl, tt);
+  each_runs = ([], [], none_left, stands_still refl refl, tt);
   print_starts = ([], [], _, [], refl, refl, has_none refl refl, (refl, refl));
   print_calls = ([], [], _, _, refl, refl, is_taken refl refl refl (as_before refl), (refl, refl));
   lines_are = refl;
@@ -288,7 +294,7 @@ cancelled_drain = record {
   invoked = _;
   starts = [];
   calls = _;
-  each_runs = (runs_on refl (had_ended refl, (had_ended refl, tt)) replays_cancelled (rests_alone (all_ended refl)), tt);
+  each_runs = ([], [], none_left, runs_on refl (had_ended refl, (had_ended refl, tt)) replays_cancelled (rests_alone (all_ended refl)), tt);
   print_starts = ([], [], _, [], refl, refl, has_none refl refl, (refl, refl));
   print_calls = (_, _, _, _, refl, refl, is_taken refl refl refl (anew was_cancelled_so), (refl, refl));
   lines_are = refl;

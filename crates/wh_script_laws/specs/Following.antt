@@ -9,15 +9,19 @@ use Rattle.wh_host_model.specs.Host.Worlds.{Suspension, for_device, Tenant, Load
 use Rattle.wh_script_model.specs.Settings.{Settings}
 use Rattle.wh_script_model.specs.ScriptState.{NamedModule, NamedInstance, ScriptState, live_sum}
 use Rattle.wh_script_model.specs.Drains.{ComesTo}
+use Rattle.wh_script_model.specs.Failing.{LosesNothing, ZipAmid}
 use Rattle.wh_script_model.specs.Served.{IsTenantOf}
 
 -- how the calls that a script knows and those of a journal go together: they are the same, or those of the journal have
--- come further
+-- come further, and none has gone back
 abbrev pub AreSame : List Call → List Call → Type 0
 AreSame known calls = known ≡ calls
 
+abbrev pub ComesFurther : Call → Call → Type 0
+ComesFurther c c2 = ComesTo c c2 × LosesNothing c c2
+
 abbrev pub ComeFurther : List Call → List Call → Type 0
-ComeFurther = AllZip ComesTo
+ComeFurther = AllZip ComesFurther
 
 -- the number of the fault of a device for which a call stands, if it does
 abbrev pub device_fault : Option Suspension → Option ℕ
@@ -28,8 +32,8 @@ device_fault other = None
 abbrev pub IsAtSameFault : NamedInstance → Tenant → Type 0
 IsAtSameFault g t = g.at_fault ≡ device_fault t.waiting_for
 
--- while calls of the device had these faults: it stands for one of them, or for the same as before, where it was, or for
--- none
+-- while calls of the device had these faults for it: it stands for one of them, or for the same as before, where it was,
+-- or for none
 abbrev pub StandsAmid : (faults : List ℕ) → NamedInstance → Tenant → Type 0
 StandsAmid faults g t =
     (fault : ℕ) → device_fault t.waiting_for ≡ Some fault
@@ -50,7 +54,7 @@ IsPlaced place (Some t) = t.place ≡ place
 -- The host has the modules of the script and its instances, each by its number, at these places; it has as many frames
 -- and slots as the settings say, and their tax on idle pages, and promised what the instances were given; and no page is
 -- on its way.
-pub record FollowsScript (come : List Call → List Call → Type 0) (stands : NamedInstance → Tenant → Type 0)
+pub record FollowsScript (follows : World → List NamedInstance → List (Option Tenant) → Type 0)
     (settings : Settings) (w : World) (m : ScriptState) (places : List ℕ) : Type 0 where
   pub frames : length w.space.pool.frames ≡ settings.frames
   pub slots : length w.space.slots.uses ≡ settings.slots
@@ -60,16 +64,25 @@ pub record FollowsScript (come : List Call → List Call → Type 0) (stands : N
   pub minima : minima w.space ≡ live_sum (λ p. p.min) m.instances
   pub spreads : spreads w.space ≡ live_sum (λ p. (p.max - p.min) + 1) m.instances
   pub modules : AllZip (λ (named : NamedModule) (loaded : Loaded). named.m ≡ loaded.m) m.modules w.modules
-  pub instances : AllZip (IsFollowed come stands w) m.instances w.tenants
+  pub instances : follows w m.instances w.tenants
   pub placed : AllZip IsPlaced places w.tenants
 
 -- and each instance's calls are as the script knows them
-abbrev pub Knows : Settings → World → ScriptState → List ℕ → Type 0
-Knows = FollowsScript AreSame IsAtSameFault
+abbrev pub FollowsSame : World → List NamedInstance → List (Option Tenant) → Type 0
+FollowsSame w = AllZip (IsFollowed AreSame IsAtSameFault w)
 
--- or have come further, while calls of the device had these faults
+abbrev pub Knows : Settings → World → ScriptState → List ℕ → Type 0
+Knows = FollowsScript FollowsSame
+
+-- or have come further, while calls of the device had these faults, each of them for one instance at most
+abbrev pub IsRunAmid : World → (own : List ℕ) → NamedInstance → Option Tenant → Type 0
+IsRunAmid w own = IsFollowed ComeFurther (StandsAmid own) w
+
+abbrev pub AreRunAmid : (faults : List ℕ) → World → List NamedInstance → List (Option Tenant) → Type 0
+AreRunAmid faults w = ZipAmid (IsRunAmid w) faults
+
 abbrev pub RunsKnown : (faults : List ℕ) → Settings → World → ScriptState → List ℕ → Type 0
-RunsKnown faults = FollowsScript ComeFurther (StandsAmid faults)
+RunsKnown faults = FollowsScript (AreRunAmid faults)
 
 -- no page begins or ends its way, there are as many frames and slots as before, and the tax is what it was
 pub record StaysWhole (s s2 : Space) : Type 0 where

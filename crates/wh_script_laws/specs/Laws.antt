@@ -1,6 +1,5 @@
 -- How what a script has made follows what happens on the host.
 use Rattle.std.specs.Prelude.{◌≡◌, ◌≢◌, ◌⊎◌, ℕ, Bool, true, false, List, [], ◌∷◌, ◌++◌, slice_get, Option, Some, None, ℤ}
-use Rattle.std.specs.List.{AllZip}
 use Rattle.wh_host_model.specs.declared.plain.InstId.{InstId}
 use Rattle.wh_host_model.specs.declared.plain.SwapError.{SwapError}
 use Rattle.wh_host_model.specs.declared.plain.TurnEnd.{TurnEnd}
@@ -11,13 +10,13 @@ use Rattle.wh_host_model.specs.Host.Happens.{IsTurn, LoadAnswer, IsLoad, AdmitAn
 use Rattle.wh_script_model.specs.Settings.{Settings}
 use Rattle.wh_script_model.specs.Commands.{Command, refuel, cancel, retry, release}
 use Rattle.wh_script_model.specs.Texts.{CallStatus, Reply}
-use Rattle.wh_script_model.specs.ScriptState.{NamedModule, NamedInstance, Invoked, ScriptState, empty_script, HasInstance, SomeCallIsOpen}
+use Rattle.wh_script_model.specs.ScriptState.{NamedModule, NamedInstance, Invoked, ScriptState, empty_script, HasInstance, SomeCallIsOpen, SomeCallMayGo}
 use Rattle.wh_script_model.specs.Drains.{PrintsStart, PrintStarts, PrintsCall, PrintCalls}
 use Rattle.wh_script_model.specs.Served.{GoesNoFurther}
 use Rattle.wh_script_model.specs.Receiving.{ReceivesModule, ReceivesInstance, ReceivesCall}
 use Rattle.wh_script_model.specs.Answers.{Files, IsObeyed, AnswersScript}
-use Rattle.wh_script_model.specs.Failing.{RunsAmid}
-use Rattle.wh_script_laws.specs.Following.{Knows, RunsKnown, StaysWhole}
+use Rattle.wh_script_model.specs.Failing.{RunsAmid, ZipAmid}
+use Rattle.wh_script_laws.specs.Following.{device_fault, Knows, RunsKnown, StaysWhole}
 use Rattle.wh_script_laws.specs.Printed.{AllArePrinted, IsWellMade, is_final}
 use Rattle.wh_script_laws.specs.OutOfMemory.{NoneIsOutOfMemory}
 use Rattle.wh_script_laws.specs.Replies.{SaysModule, admit_reply, invoke_outcome, refuel_reply, cancel_reply, retry_reply, release_reply}
@@ -130,7 +129,7 @@ abbrev pub DrainsEnd : Type 0
 DrainsEnd =
     AfterEvents (λ w. (faults : List ℕ) (settings : Settings) (m : ScriptState) (places : List ℕ)
     → RunsKnown faults settings w m places → AllServed w
-    → (run : List NamedInstance) × AllZip (RunsAmid faults) m.instances run
+    → (run : List NamedInstance) × ZipAmid RunsAmid faults m.instances run
     × Knows settings w (record m { instances = run }) places)
 
 -- and where somebody has an open call, the script knows one
@@ -138,6 +137,13 @@ abbrev pub OpenIsKnown : Type 0
 OpenIsKnown =
     AfterEvents (λ w. (settings : Settings) (m : ScriptState) (places : List ℕ) (i : ℕ) (t : Tenant)
     → Knows settings w m places → tenant w i ≡ Some t → t.open_calls ≢ [] → SomeCallIsOpen m)
+
+-- one that stands for no fault, where that doesn't
+abbrev pub GoingIsKnown : Type 0
+GoingIsKnown =
+    AfterEvents (λ w. (settings : Settings) (m : ScriptState) (places : List ℕ) (i : ℕ) (t : Tenant)
+    → Knows settings w m places → tenant w i ≡ Some t → t.open_calls ≢ [] → device_fault t.waiting_for ≡ None
+    → SomeCallMayGo m)
 
 -- to say how calls are changes nothing of that
 abbrev pub PrintingFollows : Type 0
@@ -156,7 +162,7 @@ BeginsWell = IsWellMade empty_script
 abbrev pub RunsWell : Type 0
 RunsWell =
     (faults : List ℕ) (m : ScriptState) (run : List NamedInstance) → IsWellMade m
-    → AllZip (RunsAmid faults) m.instances run → IsWellMade (record m { instances = run })
+    → ZipAmid RunsAmid faults m.instances run → IsWellMade (record m { instances = run })
 
 -- where it is said how they are: then it was said of all of them
 abbrev pub SaysWell : Type 0

@@ -6,3 +6,4 @@ pub mod Determined
 pub mod Faultless
 pub mod WorkedFaults
 pub mod Laws
+pub mod Failures

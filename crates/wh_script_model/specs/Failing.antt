@@ -1,7 +1,7 @@
 -- The answers to a script while calls of the swap device fail. An instance may come to stand for a fault of one, its
 -- present call being where it asks for bytes, and goes on from there. Which one meets which fault depends on the order of
 -- turns; nothing else does.
-use Rattle.std.specs.Prelude.{◌≡◌, ℕ, ◌+◌, ◌<◌, Bool, true, false, List, [], ◌∷◌, ◌++◌, length, Option, Some, None, ℤ}
+use Rattle.std.specs.Prelude.{◌≡◌, ℕ, ◌+◌, ◌<◌, ◌≤◌, Bool, true, false, List, [], ◌∷◌, ◌++◌, length, Option, Some, None, ℤ}
 use Rattle.std.specs.List.{AllZip, Contains}
 use Rattle.wh_model.specs.declared.memory.Need.{Need}
 use Rattle.wh_model.specs.Execution.Asking.{Asks}
@@ -29,12 +29,18 @@ pub data NeedsBytes (inst : Instance) (c : Call) : Standing → Type 0 where
   for_a_step : {at : Config} (need : Need) → c.charges < c.fuel → IsNext inst at → Asks inst at need
       → NeedsBytes inst c (running at)
 
--- Where the calls of an instance rest, and for which fault the first open one stands, while calls of the device have had
--- these faults: they rest as they do alone; or the first open one needs bytes, and stands for one of the faults.
-pub data RestsAmid (faults : List ℕ) (inst : Instance) (calls : List Call) (z : Standing) : Option ℕ → Type 0 where
-  rests_alone : AreAtRest inst calls z → RestsAmid faults inst calls z None
-  meets_fault : {fault : ℕ} (c : Call) → first_open calls ≡ Some c → NeedsBytes inst c z → Contains faults fault
-      → RestsAmid faults inst calls z (Some fault)
+-- a call has no fewer pieces and charges than it had
+pub record LosesNothing (c c2 : Call) : Type 0 where
+  pub fragments : c.fragments ≤ c2.fragments
+  pub charges : c.charges ≤ c2.charges
+
+-- Where the calls of an instance rest that were these before, and for which fault the first open one stands, while calls
+-- of the device have had these faults: they rest as they do alone; or the first open one needs bytes, and stands for one
+-- of the faults, and none has gone back.
+pub data RestsAmid (faults : List ℕ) (inst : Instance) (before calls : List Call) (z : Standing) : Option ℕ → Type 0 where
+  rests_alone : AreAtRest inst calls z → RestsAmid faults inst before calls z None
+  meets_fault : {fault : ℕ} (c : Call) → first_open calls ≡ Some c → NeedsBytes inst c z → AllZip LosesNothing before calls
+      → Contains faults fault → RestsAmid faults inst before calls z (Some fault)
 
 -- The calls of an instance come as far as they can meanwhile, one after the other, as its journal says. Who stood for a
 -- fault before may stand where it stood.
@@ -43,8 +49,23 @@ pub data RunsAmid (faults : List ℕ) (g : NamedInstance) : NamedInstance → Ty
   stands_still : {fault : ℕ} → g.is_released ≡ false → g.at_fault ≡ Some fault → RunsAmid faults g g
   runs_on : {calls : List Call} {z : Standing} {at_fault : Option ℕ}
       → g.is_released ≡ false → AllZip ComesTo g.calls calls → Replay g.m (given_of g.params) calls z
-      → RestsAmid faults g.inst calls z at_fault
+      → RestsAmid faults g.inst g.calls calls z at_fault
       → RunsAmid faults g (record g { calls = calls; at_fault = at_fault })
+
+-- ---- all of them
+
+-- the first two lists make the third, the one being mixed into the other
+pub data AreMixed : (own others all : List ℕ) → Type 0 where
+  none_left : AreMixed [] [] []
+  one_own : {fault : ℕ} {own others all : List ℕ} → AreMixed own others all → AreMixed (fault ∷ own) others (fault ∷ all)
+  one_other : {fault : ℕ} {own others all : List ℕ} → AreMixed own others all → AreMixed own (fault ∷ others) (fault ∷ all)
+
+-- Side by side, each pair with faults of its own: they are split among the pairs, and none is given to two.
+abbrev pub ZipAmid : {A B : Type 0} → (List ℕ → A → B → Type 0) → (faults : List ℕ) → List A → List B → Type 0
+ZipAmid R faults [] [] = Unit {0}
+ZipAmid R faults (x ∷ xs) (y ∷ ys) =
+    (own others : List ℕ) × AreMixed own others faults × R own x y × ZipAmid R others xs ys
+ZipAmid R faults xs ys = ⊥
 
 -- a drain meanwhile, with the lines that it prints
 pub record DrainsAmid (faults : List ℕ) (w : ScriptState) (lines : List Reply) (w2 : ScriptState) : Type 0 where
@@ -53,7 +74,7 @@ pub record DrainsAmid (faults : List ℕ) (w : ScriptState) (lines : List Reply)
   pub invoked : List Invoked
   pub starts : List Reply
   pub calls : List Reply
-  pub each_runs : AllZip (RunsAmid faults) w.instances run
+  pub each_runs : ZipAmid RunsAmid faults w.instances run
   pub print_starts : PrintStarts run starts instances
   pub print_calls : PrintCalls instances 1 w.invoked calls invoked
   pub lines_are : lines ≡ starts ++ calls

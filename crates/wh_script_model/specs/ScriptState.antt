@@ -111,3 +111,9 @@ abbrev pub SomeCallIsOpen : ScriptState → Type 0
 SomeCallIsOpen m =
     (i : ℕ) × (g : NamedInstance) × (c : Call) × (slice_get m.instances i ≡ Some g) × (g.is_released ≡ false)
     × (first_open g.calls ≡ Some c)
+
+-- and stands for no fault of a device
+abbrev pub SomeCallMayGo : ScriptState → Type 0
+SomeCallMayGo m =
+    (i : ℕ) × (g : NamedInstance) × (c : Call) × (slice_get m.instances i ≡ Some g) × (g.is_released ≡ false)
+    × (first_open g.calls ≡ Some c) × (g.at_fault ≡ None)

@@ -2,6 +2,7 @@
 #![tactic(auto)]
 
 mod error;
+mod hashing;
 mod laws;
 mod numbers;
 mod reading;

@@ -22,18 +22,6 @@ worker_grew was now seat from tally had got all at set ran is = omega (
   sum_by-append message_turns had got,
 )
 
--- the same for a worker that went on from messages which it had received already
-pub worker_went_on : (was now : List Tally) (seat : ℕ) (from begun tally : Tally) (had got : ℕ) → slice_get was seat ≡ Some from
-    → begun ≡ from → now ≡ slice_set was seat tally → tally.turns + had ≡ begun.turns + got
-    → turns_of now + had ≡ turns_of was + got
-worker_went_on was now seat from begun tally had got at same set ran = omega (
-  arith,
-  ap turns_of set,
-  ap (λ (t : Tally). t.turns) same,
-  ran,
-  turns_seat was seat from tally at,
-)
-
 -- what stands at a place already, put there, changes nothing
 put_again : {X : Type 0} (xs : List X) (seat : ℕ) (x : X) → slice_get xs seat ≡ Some x → slice_set xs seat x ≡ xs
 put_again xs seat x at =

@@ -1,5 +1,6 @@
 mod Agreeing
 pub mod Grown
+mod Gates
 mod Handing
 pub mod Runs
 mod Tallies

@@ -31,14 +31,14 @@ pub quanta_more : (q : ℕ) (messages : List Message) (m : Message) → HasQuant
 quanta_more q [] m is all = (is, tt)
 quanta_more q (x ∷ xs) m is all = (all.0, quanta_more q xs m is all.1)
 
-pub last_none : (v : Traffic) → DispatchesLast v v
+pub last_none : (v : Traffic Message) → DispatchesLast v v
 last_none v = record { parts = refl; received = refl; turns = refl; numbers = refl; quanta = λ q all. all }
 
-pub last_more : (u v w : Traffic) → DispatchesLast u v → w ≡ record v { sent = v.sent ++ Last ∷ [] } → DispatchesLast u w
+pub last_more : (u v w : Traffic Message) → DispatchesLast u v → w ≡ record v { sent = v.sent ++ Last ∷ [] } → DispatchesLast u w
 last_more u v w were is = record {
-  parts = ap (λ (x : Traffic). x.parts) is ∙ were.parts;
-  received = ap (λ (x : Traffic). x.received) is ∙ were.received;
-  turns = ap (λ (x : Traffic). turns_in x.sent) is ∙ turns_in_last v.sent ∙ were.turns;
-  numbers = ap (λ (x : Traffic). flat_map turn_numbers x.sent) is ∙ numbers_last v.sent ∙ were.numbers;
+  parts = ap (λ (x : Traffic Message). x.parts) is ∙ were.parts;
+  received = ap (λ (x : Traffic Message). x.received) is ∙ were.received;
+  turns = ap (λ (x : Traffic Message). turns_in x.sent) is ∙ turns_in_last v.sent ∙ were.turns;
+  numbers = ap (λ (x : Traffic Message). flat_map turn_numbers x.sent) is ∙ numbers_last v.sent ∙ were.numbers;
   quanta = λ q all. rw is (quanta_more q v.sent Last tt (were.quanta q all));
 }

@@ -7,7 +7,7 @@ use Rattle.wh_threads.specs.declared.channel.Message.{Message}
 use Rattle.wh_threads.specs.declared.channel.Message.TheVariants.{Turns, Last}
 use Rattle.wh_threads.specs.declared.channel.Traffic.{Traffic}
 
-abbrev pub traffic : ℕ → List Message → List Message → Traffic
+abbrev pub traffic : {M : Type 0} → ℕ → List M → List M → Traffic M
 traffic parts sent received = record { parts = parts; sent = sent; received = received }
 
 -- into so many parts the right to know the whole is cut
@@ -15,22 +15,22 @@ abbrev pub all_parts : ℕ
 all_parts = 128
 
 -- a pass without a part has dispatched and received nothing
-abbrev pub IdleIsEmpty : List Traffic → Type 0
-IdleIsEmpty views =
-    (pass : ℕ) (v : Traffic) → get_elem? views pass ≡ some v → v.parts ≡ 0 → (v.sent ≡ []) × (v.received ≡ [])
+abbrev pub IdleIsEmpty : {M : Type 0} → List (Traffic M) → Type 0
+IdleIsEmpty {M} views =
+    (pass : ℕ) (v : Traffic M) → get_elem? views pass ≡ some v → v.parts ≡ 0 → (v.sent ≡ []) × (v.received ≡ [])
 
 -- The rule: what all passes dispatched is what they received and what the channel holds, whatever weight each message
 -- is given.
-abbrev pub Balanced : List Message → List Traffic → Type 0
-Balanced held views =
+abbrev pub Balanced : {M : Type 0} → List M → List (Traffic M) → Type 0
+Balanced {M} held views =
     (sum_by (λ v. v.parts) views ≡ 128)
-    × ((weight : Message → ℕ) → sum_by (λ v. sum_by weight v.sent) views
+    × ((weight : M → ℕ) → sum_by (λ v. sum_by weight v.sent) views
     ≡ sum_by (λ v. sum_by weight v.received) views + sum_by weight held)
     × IdleIsEmpty views
 
 -- the same messages, each as often, in some order: with any weights of messages they weigh the same
-abbrev pub SameMessages : List Message → List Message → Type 0
-SameMessages sent received = (weight : Message → ℕ) → sum_by weight sent ≡ sum_by weight received
+abbrev pub SameMessages : {M : Type 0} → List M → List M → Type 0
+SameMessages {M} sent received = (weight : M → ℕ) → sum_by weight sent ≡ sum_by weight received
 
 -- the numbers of the turns of a message, in order
 abbrev pub turn_numbers : Message → List ℕ
@@ -60,7 +60,7 @@ abbrev pub HaveQuantum : ℕ → List Message → Type 0
 HaveQuantum q messages = AllByRecursion (HasQuantum q) messages
 
 -- last signs were dispatched, and nothing else has changed
-pub record DispatchesLast (old new : Traffic) : Type 0 where
+pub record DispatchesLast (old new : Traffic Message) : Type 0 where
   pub parts : new.parts ≡ old.parts
   pub received : new.received ≡ old.received
   pub turns : turns_in new.sent ≡ turns_in old.sent
@@ -69,7 +69,7 @@ pub record DispatchesLast (old new : Traffic) : Type 0 where
 
 -- through a slip that had dispatched nothing, turns of q charges were dispatched, so many and numbered, and nothing was
 -- received
-pub record Dispatches (old : Traffic) (count q : ℕ) (new : Traffic) : Type 0 where
+pub record Dispatches (old : Traffic Message) (count q : ℕ) (new : Traffic Message) : Type 0 where
   pub parts : new.parts ≡ old.parts
   pub received : new.received ≡ old.received
   pub turns : turns_in new.sent ≡ count
@@ -77,6 +77,6 @@ pub record Dispatches (old : Traffic) (count q : ℕ) (new : Traffic) : Type 0 w
   pub quanta : HaveQuantum q new.sent
 
 -- a slip with one part came back, through which nothing was dispatched
-pub record TakesBack (old new : Traffic) : Type 0 where
+pub record TakesBack {M : Type 0} (old new : Traffic M) : Type 0 where
   pub parts : new.parts ≡ old.parts + 1
   pub sent : new.sent ≡ old.sent

@@ -1,5 +1,5 @@
 -- Which parts of the ledgers are lent.
-use Rattle.std.specs.Prelude.{◌≡◌, ℕ, ◌-◌, ◌<◌, ◌≤◌, length}
+use Rattle.std.specs.Prelude.{◌≡◌, ℕ, ◌+◌, ◌-◌, ◌<◌, ◌≤◌, length}
 use Rattle.wh_threads.specs.Counting.{LenderState, turns_of, charges_of}
 use Rattle.wh_threads.specs.declared.lender.Lender.TheInside.{Inside}
 
@@ -7,6 +7,7 @@ use Rattle.wh_threads.specs.declared.lender.Lender.TheInside.{Inside}
 abbrev pub lender_of : {T C O E : Type 0} → (turns charges offers evictions : ℕ) → Inside T C O E → LenderState
 lender_of turns charges offers evictions l = record {
   tallies = l.tallies.items;
+  owner = l.owner;
   offers = l.offers;
   evictions = l.evictions;
   workers_out = turns - l.turn_share.parts;
@@ -27,7 +28,7 @@ pub record AddsUp {T C O E : Type 0} (turns charges offers evictions : ℕ) (l :
   pub offer_parts : l.offer_share.parts ≤ offers
   pub eviction_parts : l.eviction_share.parts ≤ evictions
   pub together : turns - l.turn_share.parts ≡ charges - l.charge_share.parts
-  pub turns_are : l.turn_share.amount ≡ turns_of l.tallies.items
-  pub charges_are : l.charge_share.amount ≡ charges_of l.tallies.items
+  pub turns_are : l.turn_share.amount ≡ turns_of l.tallies.items + l.owner.turns
+  pub charges_are : l.charge_share.amount ≡ charges_of l.tallies.items + l.owner.charges
   pub offers_are : l.offer_share.amount ≡ l.offers
   pub evictions_are : l.eviction_share.amount ≡ l.evictions

@@ -2,7 +2,7 @@
 
 ghost use Rattle.std.specs.Prelude.{◌≡◌, ◌+◌, ◌-◌, ◌*◌, ◌≤◌, ◌^◌, ◌<◌, IfOk};
 ghost use Rattle.wh_threads.specs.Blanks.{IsBlankOf};
-ghost use Rattle.wh_threads.specs.Counting.{RanTurn, RanTurns, IsZero, turns_of, charges_of};
+ghost use Rattle.wh_threads.specs.Counting.{RanOwnTurn, RanTurn, RanTurns, IsZero, all_charges, all_turns};
 
 use crate::count::Count;
 use crate::helper::Helper;
@@ -65,6 +65,7 @@ impl<T: Ledger, C: Ledger, O: Ledger, E: Ledger> Books<T, C, O, E> {
         let (evictions, eviction_share) = Count::open(evictions);
         let all = Lender::whole(
             tallies,
+            Tally::none(),
             turn_share,
             charge_share,
             offer_share,
@@ -115,6 +116,20 @@ impl<T: Ledger, C: Ledger, O: Ledger, E: Ledger> Books<T, C, O, E> {
         worker.count(&mut self.turns, &mut self.charges, u64::from(many), taken);
     }
 
+    /// Counts one turn of the owner, which took so many charges. The owner has the shares of all threads: none works meanwhile.
+    pub fn own_turn(&mut self, shares: &mut Shares<T, C, O, E>, taken: u32)
+        requires room { shares.old.owner.turns < 2 ^ 64 - 1 }
+        ensures books { self.new ≡ record self.old {
+          turns = self.old.turns + 1;
+          charges = self.old.charges + taken;
+        } }
+        ensures shares { RanOwnTurn shares.old taken shares.new }
+    {
+        shares
+            .all
+            .count_own(&mut self.turns, &mut self.charges, taken);
+    }
+
     /// One offer of the scanner is counted.
     pub fn offer(&mut self, scanner: &mut Helper<O>)
         requires room { scanner.old.count < 2 ^ 64 - 1 }
@@ -146,8 +161,8 @@ impl<T: Ledger, C: Ledger, O: Ledger, E: Ledger> Books<T, C, O, E> {
 
     /// Whoever has the shares learns that the books are the sums of their counts. It changes nothing.
     pub fn agree(&mut self, shares: &mut Shares<T, C, O, E>)
-        ensures turns { self.old.turns ≡ turns_of shares.old.tallies }
-        ensures charges { self.old.charges ≡ charges_of shares.old.tallies }
+        ensures turns { self.old.turns ≡ all_turns shares.old }
+        ensures charges { self.old.charges ≡ all_charges shares.old }
         ensures offers { self.old.offers ≡ shares.old.offers }
         ensures evictions { self.old.evictions ≡ shares.old.evictions }
         ensures same { (self.new ≡ self.old) × (shares.new ≡ shares.old) }

@@ -30,19 +30,19 @@ pub enum Message {
 
 /// What a pass knows: what was dispatched and received through it, and how many of the 128 parts of the right to know
 /// the whole it has. It is a value of contracts alone.
-pub struct Traffic {
+pub struct Traffic<M> {
     /// Its parts.
     pub parts: u64,
     /// What was dispatched through it.
-    pub sent: LinkedList<Message>,
+    pub sent: LinkedList<M>,
     /// What was received through it.
-    pub received: LinkedList<Message>,
+    pub received: LinkedList<M>,
 }
 
 /// The rule of the channel: what was dispatched is what was received and what the channel holds.
 pub struct Balance;
 
-impl Protocol<Message, Traffic> for Balance {
+impl<M> Protocol<M, Traffic<M>> for Balance {
     ghost use Rattle.std.specs.Prelude.{[]};
     ghost use Rattle.wh_threads.specs.Handover.{traffic, Balanced};
 
@@ -54,7 +54,7 @@ impl Protocol<Message, Traffic> for Balance {
 // A pass with one part is cut off, and put back.
 struct OnePart;
 
-impl Split<Traffic> for OnePart {
+impl<M> Split<Traffic<M>> for OnePart {
     ghost use Rattle.std.specs.Prelude.{[], ◌-◌};
     ghost use Rattle.wh_threads.specs.Handover.{traffic};
 
@@ -63,7 +63,7 @@ impl Split<Traffic> for OnePart {
     ghost right = { λ v. traffic 1 [] [] };
 }
 
-impl Join<Traffic> for OnePart {
+impl<M> Join<Traffic<M>> for OnePart {
     ghost use Rattle.std.specs.Prelude.{[], ◌+◌, ◌++◌};
     ghost use Rattle.wh_threads.specs.Handover.{traffic};
 
@@ -75,11 +75,11 @@ impl Join<Traffic> for OnePart {
 // A message is dispatched.
 struct Sends;
 
-impl Outcome<Message, Traffic> for Sends {
+impl<M> Outcome<M, Traffic<M>> for Sends {
     ghost then = { λ v x w. w ≡ traffic v.parts (v.sent ++ x ∷ []) v.received };
 }
 
-impl Lesson<Message, Traffic> for Sends {
+impl<M> Lesson<M, Traffic<M>> for Sends {
     ghost use Rattle.std.specs.Prelude.{⊤};
 
     ghost fact = { λ _ _. ⊤ };
@@ -88,48 +88,54 @@ impl Lesson<Message, Traffic> for Sends {
 // A message is received.
 struct Receives;
 
-impl Outcome<Message, Traffic> for Receives {
+impl<M> Outcome<M, Traffic<M>> for Receives {
     ghost then = { λ v x w. w ≡ traffic v.parts v.sent (v.received ++ x ∷ []) };
 }
 
-impl Lesson<Message, Traffic> for Receives {
+impl<M> Lesson<M, Traffic<M>> for Receives {
     ghost use Rattle.std.specs.Prelude.{⊤};
 
     ghost fact = { λ _ _. ⊤ };
 }
 
 // A message is received through the pass that has all parts, which knows what the channel holds.
-struct ReceivesOfAll;
+pub struct ReceivesOfAll;
 
-impl Outcome<Message, Traffic> for ReceivesOfAll {
+impl<M> Outcome<M, Traffic<M>> for ReceivesOfAll {
     ghost then = { λ v x w. w ≡ traffic v.parts v.sent (v.received ++ x ∷ []) };
 }
 
-impl Lesson<Message, Traffic> for ReceivesOfAll {
+impl<M> Lesson<M, Traffic<M>> for ReceivesOfAll {
     ghost use Rattle.std.specs.Prelude.{ℕ, ◌≡◌, ◌+◌, sum_by};
-    ghost use Rattle.wh_threads.specs.declared.channel.Message.{Message};
 
-    ghost fact = { λ v held. (weight : Message → ℕ)
+    ghost fact = { λ v held. (weight : M → ℕ)
         → sum_by weight v.sent ≡ sum_by weight v.received + sum_by weight held };
 }
 
-/// The end through which messages are dispatched.
-pub type TurnSender = RuledSender<Message, Traffic, Balance>;
+/// The end through which turns are dispatched.
+pub type TurnSender = RuledSender<Message, Traffic<Message>, Balance>;
 
 /// An end through which they are received.
-pub type TurnReceiver = RuledReceiver<Message, Traffic, Balance>;
+pub type TurnReceiver = RuledReceiver<Message, Traffic<Message>, Balance>;
 
-/// A pass of the channel: who dispatches or receives a message notes it there. It takes no bytes.
-pub type Slip = Pass<Message, Traffic>;
+/// A pass of the channel of turns: who dispatches or receives a message notes it there. It takes no bytes.
+pub type Slip = Pass<Message, Traffic<Message>>;
 
 /// A channel that holds up to so many messages, with the slip that has all parts.
 ///
 /// # Errors
 /// Where room was refused.
-pub fn open_channel(
+pub fn open_channel<M: Drop>(
     alloc: Global,
     capacity: usize,
-) -> Result<(TurnSender, TurnReceiver, Slip), AllocError>
+) -> Result<
+    (
+        RuledSender<M, Traffic<M>, Balance>,
+        RuledReceiver<M, Traffic<M>, Balance>,
+        Pass<M, Traffic<M>>,
+    ),
+    AllocError,
+>
     requires { 0 < capacity }
     ensures ends { IfOk result (λ r. receives_on r.1 ≡ sends_on r.0) }
     ensures slip { IfOk result (λ r. IsSeatAt (sends_on r.0) r.2
@@ -139,7 +145,12 @@ pub fn open_channel(
 }
 
 /// Dispatches a message, and waits for room. False where no receiver is left: nothing was dispatched then.
-pub fn dispatch<R: Wait>(rt: &R, sender: &TurnSender, slip: &mut Slip, message: Message) -> bool
+pub fn dispatch<M: Drop, R: Wait>(
+    rt: &R,
+    sender: &RuledSender<M, Traffic<M>, Balance>,
+    slip: &mut Pass<M, Traffic<M>>,
+    message: M,
+) -> bool
     requires channel { IsSeatAt (sends_on sender.now) slip.old }
     requires part { 0 < (view slip.old).parts }
     ensures channel { IsSeatAt (sends_on sender.now) slip.new }
@@ -151,7 +162,11 @@ pub fn dispatch<R: Wait>(rt: &R, sender: &TurnSender, slip: &mut Slip, message: 
 }
 
 /// Waits for a message, and receives it. None where the channel was empty and no sender was left.
-pub fn receive<R: Wait>(rt: &R, receiver: &TurnReceiver, slip: &mut Slip) -> Option<Message>
+pub fn receive<M: Drop, R: Wait>(
+    rt: &R,
+    receiver: &RuledReceiver<M, Traffic<M>, Balance>,
+    slip: &mut Pass<M, Traffic<M>>,
+) -> Option<M>
     requires channel { IsSeatAt (receives_on receiver.now) slip.old }
     requires part { 0 < (view slip.old).parts }
     ensures channel { IsSeatAt (receives_on receiver.now) slip.new }
@@ -163,7 +178,11 @@ pub fn receive<R: Wait>(rt: &R, receiver: &TurnReceiver, slip: &mut Slip) -> Opt
 }
 
 /// Receives a message, if one is there already, and waits for none. None says nothing of the channel.
-pub fn receive_at_once<R: Wait>(rt: &R, receiver: &TurnReceiver, slip: &mut Slip) -> Option<Message>
+pub fn receive_at_once<M: Drop, R: Wait>(
+    rt: &R,
+    receiver: &RuledReceiver<M, Traffic<M>, Balance>,
+    slip: &mut Pass<M, Traffic<M>>,
+) -> Option<M>
     requires channel { IsSeatAt (receives_on receiver.now) slip.old }
     requires part { 0 < (view slip.old).parts }
     ensures channel { IsSeatAt (receives_on receiver.now) slip.new }
@@ -175,7 +194,10 @@ pub fn receive_at_once<R: Wait>(rt: &R, receiver: &TurnReceiver, slip: &mut Slip
 }
 
 /// A slip with one part, for a thread that receives. It begins with nothing received.
-pub fn pass_for(sender: &TurnSender, slip: &mut Slip) -> Slip
+pub fn pass_for<M: Drop>(
+    sender: &RuledSender<M, Traffic<M>, Balance>,
+    slip: &mut Pass<M, Traffic<M>>,
+) -> Pass<M, Traffic<M>>
     requires channel { IsSeatAt (sends_on sender.now) slip.old }
     requires parts { 1 < (view slip.old).parts }
     ensures channel { IsSeatAt (sends_on sender.now) slip.new
@@ -187,7 +209,11 @@ pub fn pass_for(sender: &TurnSender, slip: &mut Slip) -> Slip
 }
 
 /// A thread's slip comes back: what was dispatched and received through it was so through this one.
-pub fn put_back(sender: &TurnSender, slip: &mut Slip, other: Slip)
+pub fn put_back<M: Drop>(
+    sender: &RuledSender<M, Traffic<M>, Balance>,
+    slip: &mut Pass<M, Traffic<M>>,
+    other: Pass<M, Traffic<M>>,
+)
     requires channel { IsSeatAt (sends_on sender.now) slip.old
         × IsSeatAt (sends_on sender.now) other }
     requires part { 0 < (view slip.old).parts }
@@ -201,7 +227,11 @@ pub fn put_back(sender: &TurnSender, slip: &mut Slip, other: Slip)
 
 /// Once all parts are in one slip: a message that nobody has received. None only where each message was received as
 /// often as it was dispatched.
-pub fn left_over<R: Wait>(rt: &R, receiver: &TurnReceiver, slip: &mut Slip) -> Option<Message>
+pub fn left_over<M: Drop, R: Wait>(
+    rt: &R,
+    receiver: &RuledReceiver<M, Traffic<M>, Balance>,
+    slip: &mut Pass<M, Traffic<M>>,
+) -> Option<M>
     requires channel { IsSeatAt (receives_on receiver.now) slip.old }
     requires all { (view slip.old).parts ≡ all_parts }
     ensures channel { IsSeatAt (receives_on receiver.now) slip.new }

@@ -1,7 +1,10 @@
 // The thread of a scanner or of a reclaimer.
 
-ghost use Rattle.std.specs.Prelude.{◌≡◌, ◌-◌, ◌^◌, ◌<◌, ◌≤◌, ◌↔◌, IfOk, IfErr, IsTrue};
+ghost use Rattle.std.specs.Prelude.{◌≡◌, ◌-◌, ◌^◌, ◌<◌, ◌≤◌, IfOk, IfErr, false};
+ghost use Rattle.crossbeam_channel.specs.Ends.{receives_on};
+ghost use Rattle.wh_threads.specs.Gates.{IsTold};
 
+use crate::gate::{Gate, Told, Waiting};
 use crate::helper::Helper;
 use std::alloc::{AllocError, Global};
 use std::marker::Model;
@@ -48,30 +51,37 @@ pub trait Help<K: Ledger> {
 #[derive(Drop)]
 pub struct Helped<K: Ledger> {
     helper: Helper<K>,
+    told: Told,
 }
 
 impl<K: Ledger> Model for Helped<K> {
-    ghost use Rattle.wh_threads.specs.Counting.{HelperState};
+    ghost use Rattle.wh_threads.specs.Counting.{HelpedState};
 
-    ghost Value = { HelperState };
+    ghost Value = { HelpedState };
 
-    ghost view = { λ h. h.helper };
+    ghost view = { λ h. record {
+      helper = h.helper;
+      told = h.told.slip;
+      has_begun = h.told.has_begun;
+    } };
 }
 
 impl<K: Ledger> Helped<K> {
-    /// Whether it has counted nothing since it began.
-    pub fn is_idle(&self) -> bool
-        ensures { IsTrue result ↔ (self.now.count ≡ self.now.from) }
-    {
-        self.helper.count() == self.helper.from()
-    }
-
     // Who counted it.
     pub(crate) fn into_helper(self) -> Helper<K>
-        ensures { result ≡ self }
+        ensures { result ≡ self.helper }
     {
-        let Helped { helper } = self;
+        let (helper, _) = self.into_all();
         helper
+    }
+
+    // The same, with what it was told before it began.
+    pub(crate) fn into_all(self) -> (Helper<K>, Told)
+        ensures helper { result.0 ≡ self.helper }
+        ensures told { (result.1.slip ≡ self.told) × (result.1.has_begun ≡ self.has_begun) }
+    {
+        let Helped { helper, told } = self;
+        (helper, told)
     }
 }
 
@@ -85,17 +95,17 @@ pub struct Helps {
 impl<K: Ledger> Promise<Helped<K>> for Helps {
     ghost use Rattle.std.specs.Prelude.{◌≡◌};
 
-    ghost kept_by = { λ p r. r.from ≡ p.from };
+    ghost kept_by = { λ p r. r.helper.from ≡ p.from };
 }
 
 // Helps until it is told to stop, its count is as great as is wanted, or it has come to its end.
-fn help_until_told<K: Ledger, H: Help<K> + Drop, R: Wait + Drop>(
-    rt: R,
-    job: H,
-    stop: Arc<AtomicU64, Global>,
+fn help_until_told<K: Ledger, H: Help<K>, R: Wait>(
+    rt: &R,
+    job: &H,
+    stop: &AtomicU64,
     wanted: u64,
     helper: Helper<K>,
-) -> Helped<K>
+) -> Helper<K>
     ensures { result.from ≡ helper.from }
 {
     let mut helper = helper;
@@ -104,24 +114,44 @@ fn help_until_told<K: Ledger, H: Help<K> + Drop, R: Wait + Drop>(
         if helper.count() >= wanted || stop.load(Ordering::SeqCst) != 0 {
             break;
         }
-        match job.help(&rt, &mut helper) {
+        match job.help(rt, &mut helper) {
             HelpOutcome::Did => thread::yield_now(),
             HelpOutcome::Waits => {
                 let longest = Duration::from_secs(LONGEST_SLEEP_SECONDS);
-                job.bell().sleep(&rt, rings, longest);
+                job.bell().sleep(rt, rings, longest);
             },
             HelpOutcome::Ended => break,
         }
     }
-    Helped { helper }
+    helper
+}
+
+// Waits until the thread is told to begin, and then helps. Where it is told to stay it does nothing.
+fn help_once_told<K: Ledger, H: Help<K> + Drop, R: Wait + Drop>(
+    rt: R,
+    job: H,
+    stop: Arc<AtomicU64, Global>,
+    wanted: u64,
+    helper: Helper<K>,
+    waiting: Waiting,
+) -> Helped<K>
+    ensures from { result.helper.from ≡ helper.from }
+    ensures told { IsTold (receives_on waiting.receiver) result.told result.has_begun }
+    ensures idle { result.has_begun ≡ false → result.helper ≡ helper }
+{
+    let told = waiting.wait(&rt);
+    if !told.has_begun {
+        return Helped { helper, told };
+    }
+    let helper = help_until_told(&rt, &job, &*stop, wanted, helper);
+    Helped { helper, told }
 }
 
 /// Starts the thread of a scanner or of a reclaimer that has counted nothing yet. It helps until `stop` isn't 0, its
 /// count is at least `wanted`, or it has come to its end.
 ///
 /// # Errors
-/// Where no thread could be made: the helper comes back. It was told to stop before it began, by `flag`, which is to be
-/// the same as `stop`.
+/// Where no thread could be made: the helper comes back as it was.
 pub fn start_helper<
     K: Ledger + Send + 'static,
     H: Help<K> + Drop + Send + 'static,
@@ -130,25 +160,33 @@ pub fn start_helper<
     rt: R,
     job: H,
     stop: Arc<AtomicU64, Global>,
-    flag: &AtomicU64,
+    gate: Gate,
     wanted: u64,
     helper: Helper<K>,
-) -> Result<PromisedHandle<Helped<K>, Helps>, Helped<K>>
+) -> Result<PromisedHandle<Helped<K>, Helps>, Helper<K>>
     requires { helper.count ≡ helper.from }
     ensures ok { IfOk result (λ handle. handle.promise.from ≡ helper.from) }
-    ensures err { IfErr result (λ h. h.from ≡ helper.from) }
+    ensures err { IfErr result (λ h. h ≡ helper) }
 {
+    let (opener, waiting) = gate.split();
     let promise = Helps {
         from: helper.from(),
     };
     let run = move || -> Helped<K>
-        ensures { result.from ≡ helper.from }
-    { help_until_told(rt, job, stop, wanted, helper) };
+        ensures { (result.helper.from ≡ helper.from)
+            × IsTold (receives_on waiting.receiver) result.told result.has_begun
+            × (result.has_begun ≡ false → result.helper ≡ helper) }
+    { help_once_told(rt, job, stop, wanted, helper, waiting) };
     match thread::spawn_with(&rt, promise, run) {
-        Ok(handle) => Ok(handle),
+        Ok(handle) => {
+            opener.begin(&rt);
+            Ok(handle)
+        }
         Err(refused) => {
-            flag.store(1, Ordering::SeqCst);
-            Err((refused.value)())
+            let closed = opener.stay(&rt);
+            let (helper, told) = (refused.value)().into_all();
+            closed.check(told);
+            Err(helper)
         }
     }
 }

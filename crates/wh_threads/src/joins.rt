@@ -1,16 +1,18 @@
 // Threads that have returned give back what they had.
 
-ghost use Rattle.std.specs.Prelude.{◌≡◌, ◌+◌, ◌<◌, ◌≤◌, slice_get, slice_set, Some, false, true};
+ghost use Rattle.std.specs.Prelude.{◌≡◌, ◌+◌, ◌<◌, ◌≤◌, [], slice_get, slice_set, Some, false, true};
 ghost use Rattle.crossbeam_channel.specs.Claims.{view, IsSeatAt};
 ghost use Rattle.crossbeam_channel.specs.Ends.{sends_on, receives_on};
 ghost use Rattle.wh_threads.specs.Counting.{LenderState, turns_of};
-ghost use Rattle.wh_threads.specs.Handover.{TakesBack, turns_in};
+ghost use Rattle.wh_threads.specs.Handover.{TakesBack, traffic, turns_in};
 ghost use Rattle.wh_threads.specs.Working.{HasWorked};
 ghost use Rattle.wh_threads.specs.declared.tally.Tally.{Tally};
 
 use crate::channel::{Slip, TurnSender, put_back};
 use crate::help::{Helped, Helps};
+use crate::helper::Helper;
 use crate::lender::Lender;
+use crate::start::Unstarted;
 use crate::sweep::{Sweep, Sweeps, Swept};
 use crate::work::{WorkerResult, Works};
 use std::sync::ledger::Ledger;
@@ -46,27 +48,30 @@ impl<T: Ledger, C: Ledger, O: Ledger, E: Ledger> Lender<T, C, O, E> {
         self.take_worker(seat, worker);
     }
 
-    /// A worker for which no thread could be made, and which ran no turn.
+    /// Takes a worker back for which no thread could be made: it has counted nothing.
     pub fn take_refused_worker(
         &mut self,
         seat: usize,
-        reply: WorkerResult<T, C>,
+        unstarted: Unstarted<T, C>,
         sender: &TurnSender,
         slip: &mut Slip,
     )
         requires channel { IsSeatAt (sends_on sender.now) slip.old }
         requires part { 0 < (view slip.old).parts }
-        requires seat { slice_get self.old.tallies seat ≡ Some reply.worker.from }
-        requires worked { HasWorked (sends_on sender.now) reply.worker.from reply.worker
-            reply.slip }
-        requires idle { reply.worker.tally ≡ reply.worker.from }
+        requires seat { slice_get self.old.tallies seat ≡ Some unstarted.worker.from }
+        requires idle { unstarted.worker.tally ≡ unstarted.worker.from }
+        requires other { IsSeatAt (sends_on sender.now) unstarted.slip
+            × (view unstarted.slip ≡ traffic 1 [] []) }
         ensures channel { IsSeatAt (sends_on sender.now) slip.new }
         ensures back { TakesBack (view slip.old) (view slip.new) }
         ensures out { self.new.workers_out + 1 ≡ self.old.workers_out }
         ensures same { self.new ≡ record self.old { workers_out = self.new.workers_out } }
-        ensures turns { turns_in (view slip.new).received ≡ turns_in (view slip.old).received }
+        ensures received { (view slip.new).received ≡ (view slip.old).received }
     {
-        let (worker, other) = reply.into_parts();
+        let Unstarted {
+            worker,
+            slip: other,
+        } = unstarted;
         put_back(sender, slip, other);
         self.take_worker(seat, worker);
     }
@@ -84,14 +89,14 @@ impl<T: Ledger, C: Ledger, O: Ledger, E: Ledger> Lender<T, C, O, E> {
         self.take_scanner(handle.join(rt).into_helper());
     }
 
-    /// A scanner for which no thread could be made, and which offered nothing.
-    pub fn take_refused_scanner(&mut self, scanner: Helped<O>)
+    /// Takes a scanner back for which no thread could be made: it has counted nothing.
+    pub fn take_refused_scanner(&mut self, scanner: Helper<O>)
         requires from { scanner.from ≡ self.old.offers }
         requires idle { scanner.count ≡ scanner.from }
         ensures out { self.new.scanners_out + 1 ≡ self.old.scanners_out }
         ensures same { self.new ≡ record self.old { scanners_out = self.new.scanners_out } }
     {
-        self.take_scanner(scanner.into_helper());
+        self.take_scanner(scanner);
     }
 
     /// Waits for the thread of a scanner's sweep: its value, and whether the sweep was made. What was counted takes the place
@@ -120,19 +125,6 @@ impl<T: Ledger, C: Ledger, O: Ledger, E: Ledger> Lender<T, C, O, E> {
         (job, is_done)
     }
 
-    /// The value of a sweep for which no thread could be made, and which wasn't made; its scanner counted nothing.
-    pub fn take_refused_sweep<J: Sweep<O>>(&mut self, swept: Swept<O, J>) -> J
-        requires from { swept.helper.from ≡ self.old.offers }
-        requires idle { swept.helper.count ≡ swept.helper.from }
-        ensures job { result ≡ swept.job }
-        ensures out { self.new.scanners_out + 1 ≡ self.old.scanners_out }
-        ensures same { self.new ≡ record self.old { scanners_out = self.new.scanners_out } }
-    {
-        let (job, scanner) = swept.into_parts();
-        self.take_scanner(scanner);
-        job
-    }
-
     /// Waits for the reclaimer's thread. What it has counted takes the place of that with which it began.
     pub fn join_reclaimer<R: Threads>(&mut self, rt: &R, handle: PromisedHandle<Helped<E>, Helps>)
         requires { handle.promise.from ≡ self.old.evictions }
@@ -146,13 +138,13 @@ impl<T: Ledger, C: Ledger, O: Ledger, E: Ledger> Lender<T, C, O, E> {
         self.take_reclaimer(handle.join(rt).into_helper());
     }
 
-    /// A reclaimer for which no thread could be made, and which took nothing.
-    pub fn take_refused_reclaimer(&mut self, reclaimer: Helped<E>)
+    /// Takes a reclaimer back for which no thread could be made: it has counted nothing.
+    pub fn take_refused_reclaimer(&mut self, reclaimer: Helper<E>)
         requires from { reclaimer.from ≡ self.old.evictions }
         requires idle { reclaimer.count ≡ reclaimer.from }
         ensures out { self.new.reclaimers_out + 1 ≡ self.old.reclaimers_out }
         ensures same { self.new ≡ record self.old { reclaimers_out = self.new.reclaimers_out } }
     {
-        self.take_reclaimer(reclaimer.into_helper());
+        self.take_reclaimer(reclaimer);
     }
 }

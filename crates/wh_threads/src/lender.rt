@@ -1,6 +1,6 @@
 // The counts of all threads, and the parts of the ledgers that are lent to them.
 
-ghost use Rattle.std.specs.Prelude.{◌≡◌, ◌+◌, ◌-◌, ◌<◌, ◌≤◌, length, slice_get, slice_set, Some};
+ghost use Rattle.std.specs.Prelude.{◌≡◌, ◌+◌, ◌-◌, ◌^◌, ◌<◌, ◌≤◌, length, slice_get, slice_set, Some};
 ghost use Rattle.wh_threads.specs.Blanks.{IsWholeOf};
 ghost use Rattle.wh_threads.specs.Counting.{LenderState, HasAllParts, turns_of, charges_of};
 
@@ -11,10 +11,11 @@ use crate::worker::Worker;
 use std::marker::Model;
 use std::sync::ledger::{Ledger, Share};
 
-/// The counts of all threads, by kind: turns and charges by worker, offers, evictions. With them are the parts of the
-/// ledgers that no thread has. There are 64 seats for workers.
+/// The counts of all threads, by kind: turns and charges by worker, and those of the owner itself; offers; evictions. With them
+/// are the parts of the ledgers that no thread has. There are 64 seats for workers.
 pub struct Lender<T: Ledger, C: Ledger, O: Ledger, E: Ledger> {
     tallies: Vec<Tally>,
+    owner: Tally,
     offers: u64,
     evictions: u64,
     turn_share: Share<T>,
@@ -27,6 +28,7 @@ impl<T: Ledger, C: Ledger, O: Ledger, E: Ledger> Drop for Lender<T, C, O, E> {
     fn drop(self) {
         let Lender {
             tallies: _,
+            owner: _,
             offers: _,
             evictions: _,
             turn_share: _,
@@ -53,6 +55,7 @@ impl<T: Ledger, C: Ledger, O: Ledger, E: Ledger> Lender<T, C, O, E> {
     // All parts of the ledgers, and no count.
     pub(crate) fn whole(
         tallies: Vec<Tally>,
+        owner: Tally,
         turn_share: Share<T>,
         charge_share: Share<C>,
         offer_share: Share<O>,
@@ -60,12 +63,14 @@ impl<T: Ledger, C: Ledger, O: Ledger, E: Ledger> Lender<T, C, O, E> {
     ) -> Lender<T, C, O, E>
         requires seats { length tallies.items ≡ 64 }
         requires zero { (turns_of tallies.items ≡ 0) × (charges_of tallies.items ≡ 0) }
+        requires own { (owner.turns ≡ 0) × (owner.charges ≡ 0) }
         requires turns { IsWholeOf T.Ledger 64 turn_share }
         requires charges { IsWholeOf C.Ledger 64 charge_share }
         requires offers { IsWholeOf O.Ledger 1 offer_share }
         requires evictions { IsWholeOf E.Ledger 1 eviction_share }
         ensures { result ≡ record {
           tallies = tallies.items;
+          owner = owner;
           offers = 0;
           evictions = 0;
           workers_out = 0;
@@ -75,6 +80,7 @@ impl<T: Ledger, C: Ledger, O: Ledger, E: Ledger> Lender<T, C, O, E> {
     {
         Lender {
             tallies,
+            owner,
             offers: 0,
             evictions: 0,
             turn_share,
@@ -93,8 +99,8 @@ impl<T: Ledger, C: Ledger, O: Ledger, E: Ledger> Lender<T, C, O, E> {
         evictions: &mut Count<E>,
     )
         requires { HasAllParts self.old }
-        ensures turns { turns.old ≡ turns_of self.old.tallies }
-        ensures charges { charges.old ≡ charges_of self.old.tallies }
+        ensures turns { turns.old ≡ turns_of self.old.tallies + self.old.owner.turns }
+        ensures charges { charges.old ≡ charges_of self.old.tallies + self.old.owner.charges }
         ensures offers { offers.old ≡ self.old.offers }
         ensures evictions { evictions.old ≡ self.old.evictions }
         ensures same { self.new ≡ self.old }
@@ -105,6 +111,28 @@ impl<T: Ledger, C: Ledger, O: Ledger, E: Ledger> Lender<T, C, O, E> {
         charges.audit(&mut self.charge_share);
         offers.audit(&mut self.offer_share);
         evictions.audit(&mut self.eviction_share);
+    }
+
+    // Counts one turn of the owner, which took so many charges. No thread works meanwhile.
+    pub(crate) fn count_own(&mut self, turns: &mut Count<T>, charges: &mut Count<C>, taken: u32)
+        requires whole { HasAllParts self.old }
+        requires room { self.old.owner.turns < 2 ^ 64 - 1 }
+        ensures only { self.new ≡ record self.old { owner = self.new.owner } }
+        ensures turns { (self.new.owner.turns ≡ self.old.owner.turns + 1)
+            × (turns.new ≡ turns.old + 1) }
+        ensures charges { (self.new.owner.charges ≡ self.old.owner.charges + taken)
+            × (charges.new ≡ charges.old + taken) }
+    {
+        turns.add(&mut self.turn_share, 1);
+        charges.add(&mut self.charge_share, u64::from(taken));
+        self.owner = self.owner.with_turns(1, u64::from(taken));
+    }
+
+    /// What the owner itself has counted.
+    pub fn owner(&self) -> Tally
+        ensures { result ≡ self.now.owner }
+    {
+        self.owner
     }
 
     /// What the worker at this seat has counted.

@@ -7,9 +7,9 @@ mod books;
 mod changes;
 mod channel;
 mod count;
+mod gate;
 mod help;
 mod helper;
-mod here;
 mod joins;
 mod known;
 mod lender;
@@ -30,15 +30,15 @@ pub use channel::{
     pass_for, put_back, receive, receive_at_once,
 };
 pub use count::Count;
+pub use gate::{Gate, Sign, SignReceiver, SignSender, SignSlip};
 pub use help::{Help, HelpOutcome, Helped, Helps, start_helper};
 pub use helper::Helper;
-pub use here::run_here;
 pub use known::AgreedValue;
 pub use lender::Lender;
 pub use received_turns::ReceivedTurns;
 pub use series_room::SeriesRoom;
 pub use shares::Shares;
-pub use start::{Equipment, start_worker, stop};
+pub use start::{Equipment, Unstarted, start_worker, stop};
 pub use sweep::{Sweep, Sweeps, Swept, start_sweep};
 pub use tally::Tally;
 pub use work::{Turns, WorkerResult, Works, receive_turns};

@@ -83,23 +83,6 @@ impl SeriesRoom {
         Ok(SeriesRoom { orders })
     }
 
-    // Runs this series alone.
-    pub(crate) fn run_one<T: Ledger, C: Ledger, J: Turns<T, C>, R: Wait>(
-        &mut self,
-        rt: &R,
-        job: &J,
-        order: ReceivedTurns,
-        worker: &mut Worker<T, C>,
-    )
-        requires can { J.can }
-        requires room { worker.old.tally.turns + order.count < 2 ^ 64 }
-        ensures from { worker.new.from ≡ worker.old.from }
-        ensures turns { worker.new.tally.turns ≡ worker.old.tally.turns + order.count }
-    {
-        self.orders.push_reserved(order);
-        job.run_all(rt, &mut self.orders, worker);
-    }
-
     // Runs this series, and at once with it further ones that are there already, as many as the job can. Whether the last sign
     // came behind them.
     pub(crate) fn run_with_more<T: Ledger, C: Ledger, J: Turns<T, C>, R: Wait>(

@@ -34,6 +34,13 @@ impl<T: Ledger, C: Ledger, O: Ledger, E: Ledger> Shares<T, C, O, E> {
         self.all.tally(seat)
     }
 
+    /// What the owner itself has counted: turns that it ran where no thread worked.
+    pub fn owner(&self) -> Tally
+        ensures { result ≡ self.now.owner }
+    {
+        self.all.owner()
+    }
+
     /// How many pages were offered.
     pub fn offers(&self) -> u64
         ensures { result ≡ self.now.offers }

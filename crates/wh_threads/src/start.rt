@@ -1,14 +1,16 @@
 // Workers' threads are started.
 
-ghost use Rattle.std.specs.Prelude.{◌≡◌, ◌+◌, ◌<◌, [], IfOk, IfErr};
+ghost use Rattle.std.specs.Prelude.{◌≡◌, ◌+◌, ◌<◌, [], IfOk, IfErr, false};
 ghost use Rattle.crossbeam_channel.specs.Claims.{view, IsSeatAt};
 ghost use Rattle.crossbeam_channel.specs.Ends.{sends_on, receives_on};
+ghost use Rattle.wh_threads.specs.Gates.{IsTold};
 ghost use Rattle.wh_threads.specs.Handover.{traffic, DispatchesLast};
 ghost use Rattle.wh_threads.specs.Working.{HasWorked};
 
 use crate::channel::{Message, Slip, TurnReceiver, TurnSender, dispatch};
+use crate::gate::Gate;
 use crate::series_room::SeriesRoom;
-use crate::work::{Turns, WorkerResult, Works, work_with};
+use crate::work::{Turns, WorkerResult, Works, work_once_told};
 use crate::worker::Worker;
 use std::snapshot::Snapshot;
 use std::sync::Wait;
@@ -28,6 +30,17 @@ pub struct Equipment<T: Ledger, C: Ledger, J: Turns<T, C>> {
     pub slip: Slip,
     /// Where the series are that it runs at once.
     pub room: SeriesRoom,
+    /// Where it waits until its thread was made.
+    pub gate: Gate,
+}
+
+/// What a worker's thread would have owned, where none could be made.
+#[derive(Drop)]
+pub struct Unstarted<T: Ledger, C: Ledger> {
+    /// Its counts.
+    pub worker: Worker<T, C>,
+    /// What it has received: nothing.
+    pub slip: Slip,
 }
 
 /// Dispatches last signs, one for each of so many workers.
@@ -44,8 +57,10 @@ pub fn stop<R: Wait>(rt: &R, sender: &TurnSender, slip: &mut Slip, workers: usiz
     }
 }
 
-/// Starts a worker's thread. Where no thread can be made so many last signs are dispatched, and the worker does what it
-/// has to do here: that is to receive one of them. What it returns comes back.
+/// Starts a worker's thread.
+///
+/// # Errors
+/// Where no thread could be made: the worker comes back, which has received and counted nothing.
 pub fn start_worker<
     T: Ledger + Send + 'static,
     C: Ledger + Send + 'static,
@@ -54,22 +69,17 @@ pub fn start_worker<
 >(
     rt: R,
     with: Equipment<T, C, J>,
-    sender: &TurnSender,
-    slip: &mut Slip,
-    signs: usize,
-) -> Result<PromisedHandle<WorkerResult<T, C>, Works>, WorkerResult<T, C>>
+) -> Result<PromisedHandle<WorkerResult<T, C>, Works>, Unstarted<T, C>>
     requires can { J.can }
     requires channel { IsSeatAt (receives_on with.receiver) with.slip }
     requires new { view with.slip ≡ traffic 1 [] [] }
     requires begun { with.worker.tally ≡ with.worker.from }
-    requires slip { IsSeatAt (sends_on sender.now) slip.old × (0 < (view slip.old).parts) }
     ensures ok { IfOk result (λ handle. (handle.promise.from ≡ with.worker.from)
-        × (receives_on handle.promise.receiver.value ≡ receives_on with.receiver)
-        × (slip.new ≡ slip.old)) }
-    ensures err { IfErr result (λ reply.
-        HasWorked (receives_on with.receiver) with.worker.from reply.worker reply.slip) }
-    ensures slip { IsSeatAt (sends_on sender.now) slip.new }
-    ensures last { DispatchesLast (view slip.old) (view slip.new) }
+        × (receives_on handle.promise.receiver.value ≡ receives_on with.receiver)) }
+    ensures err { IfErr result (λ back. (back.worker.from ≡ with.worker.from)
+        × (back.worker.tally ≡ with.worker.from)) }
+    ensures slip { IfErr result (λ back. IsSeatAt (receives_on with.receiver) back.slip
+        × (view back.slip ≡ traffic 1 [] [])) }
 {
     let Equipment {
         job,
@@ -77,7 +87,9 @@ pub fn start_worker<
         worker,
         slip: mine,
         room,
+        gate,
     } = with;
+    let (opener, waiting) = gate.split();
     let promise = Works {
         from: worker.from(),
         receiver: Snapshot::of(&receiver),
@@ -85,13 +97,21 @@ pub fn start_worker<
     let run = move || -> WorkerResult<T, C>
         requires { J.can × IsSeatAt (receives_on receiver) mine × (view mine ≡ traffic 1 [] [])
             × (worker.tally ≡ worker.from) }
-        ensures { HasWorked (receives_on receiver) worker.from result.worker result.slip }
-    { work_with(rt, job, receiver, worker, mine, room) };
+        ensures { HasWorked (receives_on receiver) worker.from result.worker result.slip
+            × IsTold (receives_on waiting.receiver) result.told result.has_begun
+            × (result.has_begun ≡ false → (result.worker.tally ≡ worker.from)
+            × (view result.slip ≡ traffic 1 [] [])) }
+    { work_once_told(rt, job, receiver, worker, mine, room, waiting) };
     match thread::spawn_with(&rt, promise, run) {
-        Ok(handle) => Ok(handle),
+        Ok(handle) => {
+            opener.begin(&rt);
+            Ok(handle)
+        }
         Err(refused) => {
-            stop(&rt, sender, slip, signs);
-            Err((refused.value)())
+            let closed = opener.stay(&rt);
+            let (worker, slip, told) = (refused.value)().into_all();
+            closed.check(told);
+            Err(Unstarted { worker, slip })
         }
     }
 }

@@ -1,13 +1,14 @@
 // What a helper's thread does once, with a value that comes back.
 
 ghost use Rattle.std.specs.Prelude.{◌≡◌, ℕ, IfOk, IfErr};
+ghost use Rattle.crossbeam_channel.specs.Ends.{receives_on};
+ghost use Rattle.wh_threads.specs.Gates.{IsTold};
 ghost use Rattle.wh_threads.specs.Sweeping.{HasSwept};
 
+use crate::gate::{Gate, Told, Waiting};
 use crate::helper::Helper;
-use std::alloc::Global;
 use std::snapshot::Snapshot;
-use std::sync::Arc;
-use std::sync::atomic::{AtomicU64, Ordering};
+use std::sync::Wait;
 use std::sync::ledger::Ledger;
 use std::thread;
 use std::thread::{Promise, PromisedHandle, Threads};
@@ -28,27 +29,31 @@ pub trait Sweep<K: Ledger> {
 pub struct Swept<K: Ledger, J> {
     job: J,
     helper: Helper<K>,
-    is_done: bool,
+    told: Told,
 }
 
 impl<K: Ledger, J> Swept<K, J> {
     /// Whether the sweep was made.
     pub fn is_done(&self) -> bool
-        ensures { result ≡ self.now.is_done }
+        ensures { result ≡ self.now.told.has_begun }
     {
-        self.is_done
+        self.told.has_begun
     }
 
     // The value, and who counted.
     pub(crate) fn into_parts(self) -> (J, Helper<K>)
         ensures { (result.0 ≡ self.job) × (result.1 ≡ self.helper) }
     {
-        let Swept {
-            job,
-            helper,
-            is_done: _,
-        } = self;
+        let (job, helper, _) = self.into_all();
         (job, helper)
+    }
+
+    // The same, with what it was told before it began.
+    pub(crate) fn into_all(self) -> (J, Helper<K>, Told)
+        ensures { (result.0 ≡ self.job) × (result.1 ≡ self.helper) × (result.2 ≡ self.told) }
+    {
+        let Swept { job, helper, told } = self;
+        (job, helper, told)
     }
 }
 
@@ -64,66 +69,71 @@ pub struct Sweeps<J> {
 impl<K: Ledger, J: Sweep<K>> Promise<Swept<K, J>> for Sweeps<J> {
     ghost use Rattle.wh_threads.specs.Sweeping.{HasSwept};
 
-    ghost kept_by = { λ p r. HasSwept J.sweeps p.job.value p.from r.is_done r.job r.helper };
+    ghost kept_by = { λ p r. HasSwept J.sweeps p.job.value p.from r.told.has_begun r.job r.helper };
 }
 
-// Makes the sweep, unless it is told to stop before.
-fn sweep_unless_told<K: Ledger, J: Sweep<K>>(
+// Waits until the thread is told to begin, and then makes the sweep. Where it is told to stay it does nothing.
+fn sweep_once_told<K: Ledger, J: Sweep<K>, R: Wait + Drop>(
+    rt: R,
     job: J,
-    stop: Arc<AtomicU64, Global>,
     helper: Helper<K>,
+    waiting: Waiting,
 ) -> Swept<K, J>
     requires { helper.count ≡ helper.from }
-    ensures { HasSwept J.sweeps job helper.from result.is_done result.job result.helper }
+    ensures swept { HasSwept J.sweeps job helper.from result.told.has_begun result.job
+        result.helper }
+    ensures told { IsTold (receives_on waiting.receiver) result.told.slip result.told.has_begun }
 {
     let mut job = job;
     let mut helper = helper;
-    if stop.load(Ordering::SeqCst) != 0 {
-        return Swept {
-            job,
-            helper,
-            is_done: false,
-        };
+    let told = waiting.wait(&rt);
+    if told.has_begun {
+        job.sweep(&mut helper);
     }
-    job.sweep(&mut helper);
-    Swept {
-        job,
-        helper,
-        is_done: true,
-    }
+    Swept { job, helper, told }
 }
 
-/// Starts the thread of a sweep, by a helper that has counted nothing yet. It isn't made where `stop` isn't 0.
+/// Starts the thread of a sweep, by a helper that has counted nothing yet.
 ///
 /// # Errors
-/// Where no thread could be made: value and helper come back. The sweep was told to stop before it began, by `flag`, which is
-/// to be the same as `stop`.
-pub fn start_sweep<K: Ledger + Send + 'static, J: Sweep<K> + Drop + Send + 'static, R: Threads>(
-    rt: &R,
+/// Where no thread could be made: value and helper come back as they were.
+pub fn start_sweep<
+    K: Ledger + Send + 'static,
+    J: Sweep<K> + Drop + Send + 'static,
+    R: Threads + Wait + Copy + Send + 'static,
+>(
+    rt: R,
     job: J,
-    stop: Arc<AtomicU64, Global>,
-    flag: &AtomicU64,
+    gate: Gate,
     helper: Helper<K>,
-) -> Result<PromisedHandle<Swept<K, J>, Sweeps<J>>, Swept<K, J>>
+) -> Result<PromisedHandle<Swept<K, J>, Sweeps<J>>, (J, Helper<K>)>
     requires { helper.count ≡ helper.from }
     ensures ok { IfOk result (λ handle. (handle.promise.job.value ≡ job)
         × (handle.promise.from ≡ helper.from)) }
-    ensures err { IfErr result (λ swept.
-        HasSwept J.sweeps job helper.from swept.is_done swept.job swept.helper) }
+    ensures err { IfErr result (λ back. (back.0 ≡ job) × (back.1.from ≡ helper.from)
+        × (back.1.count ≡ helper.from)) }
 {
+    let (opener, waiting) = gate.split();
     let promise = Sweeps {
         job: Snapshot::of(&job),
         from: helper.from(),
     };
     let run = move || -> Swept<K, J>
         requires { helper.count ≡ helper.from }
-        ensures { HasSwept J.sweeps job helper.from result.is_done result.job result.helper }
-    { sweep_unless_told(job, stop, helper) };
-    match thread::spawn_with(rt, promise, run) {
-        Ok(handle) => Ok(handle),
+        ensures { HasSwept J.sweeps job helper.from result.told.has_begun result.job
+            result.helper
+            × IsTold (receives_on waiting.receiver) result.told.slip result.told.has_begun }
+    { sweep_once_told(rt, job, helper, waiting) };
+    match thread::spawn_with(&rt, promise, run) {
+        Ok(handle) => {
+            opener.begin(&rt);
+            Ok(handle)
+        }
         Err(refused) => {
-            flag.store(1, Ordering::SeqCst);
-            Err((refused.value)())
+            let closed = opener.stay(&rt);
+            let (job, helper, told) = (refused.value)().into_all();
+            closed.check(told);
+            Err((job, helper))
         }
     }
 }

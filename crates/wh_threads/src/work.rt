@@ -1,13 +1,15 @@
 // A worker's thread.
 
-ghost use Rattle.std.specs.Prelude.{◌≡◌, ◌+◌, ◌^◌, ◌<◌, ◌≤◌, ◌∷◌, ◌++◌, [], ℕ, IfSome, IfNone, IsTrue, ◌↔◌, vec_capacity};
+ghost use Rattle.std.specs.Prelude.{◌≡◌, ◌+◌, ◌^◌, ◌<◌, ◌≤◌, ◌∷◌, ◌++◌, [], ℕ, IfSome, IfNone, false, vec_capacity};
 ghost use Rattle.crossbeam_channel.specs.Claims.{view, IsSeatAt};
 ghost use Rattle.crossbeam_channel.specs.Ends.{receives_on};
+ghost use Rattle.wh_threads.specs.Gates.{IsTold};
 ghost use Rattle.wh_threads.specs.Handover.{traffic, turns_in};
 ghost use Rattle.wh_threads.specs.Working.{HasWorked, turns_due};
 ghost use Rattle.wh_threads.specs.declared.channel.Message.TheVariants.{Turns, Last};
 
 use crate::channel::{Message, Slip, TurnReceiver, receive};
+use crate::gate::{Told, Waiting};
 use crate::received_turns::ReceivedTurns;
 use crate::series_room::SeriesRoom;
 use crate::tally::Tally;
@@ -58,6 +60,7 @@ pub trait Turns<T: Ledger, C: Ledger> {
 pub struct WorkerResult<T: Ledger, C: Ledger> {
     worker: Worker<T, C>,
     slip: Slip,
+    told: Told,
 }
 
 impl<T: Ledger, C: Ledger> Model for WorkerResult<T, C> {
@@ -65,23 +68,30 @@ impl<T: Ledger, C: Ledger> Model for WorkerResult<T, C> {
 
     ghost Value = { WorkerResultState };
 
-    ghost view = { λ r. record { worker = r.worker; slip = r.slip } };
+    ghost view = { λ r. record {
+      worker = r.worker;
+      slip = r.slip;
+      told = r.told.slip;
+      has_begun = r.told.has_begun;
+    } };
 }
 
 impl<T: Ledger, C: Ledger> WorkerResult<T, C> {
-    /// Whether the worker has run no turn.
-    pub fn is_idle(&self) -> bool
-        ensures { IsTrue result ↔ (self.now.worker.tally ≡ self.now.worker.from) }
-    {
-        self.worker.is_idle()
-    }
-
     // Its parts.
     pub(crate) fn into_parts(self) -> (Worker<T, C>, Slip)
         ensures { (result.0 ≡ self.worker) × (result.1 ≡ self.slip) }
     {
-        let WorkerResult { worker, slip } = self;
+        let (worker, slip, _) = self.into_all();
         (worker, slip)
+    }
+
+    // The same, with what it was told before it began.
+    pub(crate) fn into_all(self) -> (Worker<T, C>, Slip, Told)
+        ensures parts { (result.0 ≡ self.worker) × (result.1 ≡ self.slip) }
+        ensures told { (result.2.slip ≡ self.told) × (result.2.has_begun ≡ self.has_begun) }
+    {
+        let WorkerResult { worker, slip, told } = self;
+        (worker, slip, told)
     }
 }
 
@@ -151,12 +161,12 @@ fn work<T: Ledger, C: Ledger, J: Turns<T, C>, R: Wait>(
     worker: Worker<T, C>,
     slip: Slip,
     room: SeriesRoom,
-) -> WorkerResult<T, C>
+) -> (Worker<T, C>, Slip)
     requires channel { IsSeatAt (receives_on receiver.now) slip }
     requires can { J.can }
     requires new { view slip ≡ traffic 1 [] [] }
     requires begun { worker.tally ≡ worker.from }
-    ensures { HasWorked (receives_on receiver.now) worker.from result.worker result.slip }
+    ensures { HasWorked (receives_on receiver.now) worker.from result.0 result.1 }
 {
     let mut worker = worker;
     let mut slip = slip;
@@ -174,23 +184,32 @@ fn work<T: Ledger, C: Ledger, J: Turns<T, C>, R: Wait>(
         }
     }
     job.release_turn_lock();
-    WorkerResult { worker, slip }
+    (worker, slip)
 }
 
-// The same with all that the thread owns.
-pub fn work_with<T: Ledger, C: Ledger, J: Turns<T, C> + Drop, R: Wait + Drop>(
+// Waits until the thread is told to begin, and then works. Where it is told to stay it does nothing.
+pub fn work_once_told<T: Ledger, C: Ledger, J: Turns<T, C> + Drop, R: Wait + Drop>(
     rt: R,
     job: J,
     receiver: TurnReceiver,
     worker: Worker<T, C>,
     slip: Slip,
     room: SeriesRoom,
+    waiting: Waiting,
 ) -> WorkerResult<T, C>
     requires channel { IsSeatAt (receives_on receiver) slip }
     requires can { J.can }
     requires new { view slip ≡ traffic 1 [] [] }
     requires begun { worker.tally ≡ worker.from }
-    ensures { HasWorked (receives_on receiver) worker.from result.worker result.slip }
+    ensures worked { HasWorked (receives_on receiver) worker.from result.worker result.slip }
+    ensures told { IsTold (receives_on waiting.receiver) result.told result.has_begun }
+    ensures idle { result.has_begun ≡ false → (result.worker.tally ≡ worker.from)
+        × (view result.slip ≡ traffic 1 [] []) }
 {
-    work(&rt, &job, &receiver, worker, slip, room)
+    let told = waiting.wait(&rt);
+    if !told.has_begun {
+        return WorkerResult { worker, slip, told };
+    }
+    let (worker, slip) = work(&rt, &job, &receiver, worker, slip, room);
+    WorkerResult { worker, slip, told }
 }

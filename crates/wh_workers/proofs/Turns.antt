@@ -40,18 +40,18 @@ numbered_turns messages first count instance quantum were is =
 
 -- ---- turns
 
-pub turns_dispatched : (u v w : Traffic) (count more q : ℕ) (instance : InstId) → Dispatches u count q v
+pub turns_dispatched : (u v w : Traffic Message) (count more q : ℕ) (instance : InstId) → Dispatches u count q v
     → w ≡ record v { sent = v.sent ++ Turns count more instance q ∷ [] } → Dispatches u (count + more) q w
 turns_dispatched u v w count more q instance were is = record {
-  parts = ap (λ (x : Traffic). x.parts) is ∙ were.parts;
-  received = ap (λ (x : Traffic). x.received) is ∙ were.received;
-  turns = ap (λ (x : Traffic). turns_in x.sent) is ∙ omega (arith, turns_in_turns v.sent count more instance q, were.turns);
+  parts = ap (λ (x : Traffic Message). x.parts) is ∙ were.parts;
+  received = ap (λ (x : Traffic Message). x.received) is ∙ were.received;
+  turns = ap (λ (x : Traffic Message). turns_in x.sent) is ∙ omega (arith, turns_in_turns v.sent count more instance q, were.turns);
   numbered = rw is (numbered_turns v.sent count more instance q were.numbered were.turns);
   quanta = rw is (quanta_more q v.sent (Turns count more instance q) (λ i. q) were.quanta);
 }
 
 -- last signs behind them
-pub handed_with_last : (u v w : Traffic) (count q : ℕ) → Dispatches u count q v → DispatchesLast v w → Dispatches u count q w
+pub handed_with_last : (u v w : Traffic Message) (count q : ℕ) → Dispatches u count q v → DispatchesLast v w → Dispatches u count q w
 handed_with_last u v w count q were last = record {
   parts = last.parts ∙ were.parts;
   received = last.received ∙ were.received;
@@ -61,13 +61,13 @@ handed_with_last u v w count q were last = record {
 }
 
 -- the turns are those that were dispatched
-pub turns_handed : (u v : Traffic) (sent : List Message) (count q : ℕ) → Dispatches u count q v → sent ≡ v.sent
+pub turns_handed : (u v : Traffic Message) (sent : List Message) (count q : ℕ) → Dispatches u count q v → sent ≡ v.sent
     → AreTurns count q sent
 turns_handed u v sent count q were same =
     rw same (record { many = were.turns; numbered = were.numbered; quanta = were.quanta })
 
 -- last signs behind turns
-pub turns_with_last : (u v : Traffic) → DispatchesLast u v → (count q : ℕ) → AreTurns count q u.sent → AreTurns count q v.sent
+pub turns_with_last : (u v : Traffic Message) → DispatchesLast u v → (count q : ℕ) → AreTurns count q u.sent → AreTurns count q v.sent
 turns_with_last u v last count q were = record {
   many = last.turns ∙ were.many;
   numbered = last.numbers ∙ were.numbered ∙ ap (λ n. range_with_len 0 n) (sym last.turns);
@@ -92,7 +92,7 @@ turns_more sent sent2 count more q instance were is = rw is (record {
 })
 
 -- so many turns were dispatched already, and nothing since
-pub dispatches_none : (v : Traffic) (count q : ℕ) → AreTurns count q v.sent → Dispatches v count q v
+pub dispatches_none : (v : Traffic Message) (count q : ℕ) → AreTurns count q v.sent → Dispatches v count q v
 dispatches_none v count q were = record {
   parts = refl;
   received = refl;
@@ -104,11 +104,11 @@ dispatches_none v count q were = record {
 -- ---- slips
 
 -- one part less is there, and nothing was dispatched or received since
-pub one_part_less : (u w first : Traffic) (seat : ℕ) → w ≡ record u { parts = u.parts - 1 } → u.sent ≡ first.sent
+pub one_part_less : (u w first : Traffic Message) (seat : ℕ) → w ≡ record u { parts = u.parts - 1 } → u.sent ≡ first.sent
     → u.received ≡ first.received → u.parts + seat ≡ 128 → seat < 64
     → (w.sent ≡ first.sent) × (w.received ≡ first.received) × (w.parts + (seat + 1) ≡ 128)
 one_part_less u w first seat is sent received parts few = (
-  ap (λ (x : Traffic). x.sent) is ∙ sent,
-  ap (λ (x : Traffic). x.received) is ∙ received,
-  omega (arith, ap (λ (x : Traffic). x.parts) is, parts, few),
+  ap (λ (x : Traffic Message). x.sent) is ∙ sent,
+  ap (λ (x : Traffic Message). x.received) is ∙ received,
+  omega (arith, ap (λ (x : Traffic Message). x.parts) is, parts, few),
 )

@@ -1,5 +1,5 @@
 -- What a call of `serve` has dispatched, and what was run of it.
-use Rattle.std.specs.Prelude.{◌≡◌, ℕ, ◌+◌, ◌≤◌, List, ◌++◌, length}
+use Rattle.std.specs.Prelude.{◌≡◌, ℕ, ◌+◌, List, [], ◌∷◌, ◌++◌, Option, Some, None}
 use Rattle.wh_threads.specs.declared.channel.Message.{Message}
 use Rattle.wh_threads.specs.Handover.{AreNumbered, HaveQuantum, turns_in}
 
@@ -9,11 +9,14 @@ pub record AreTurns (turns q : ℕ) (messages : List Message) : Type 0 where
   pub numbered : AreNumbered messages
   pub quanta : HaveQuantum q messages
 
--- The turns that workers have run grew from the one number to the other by those that they received. At most one
--- message was left behind them, which none of them did.
-pub record AreRun (old : ℕ) (received : List Message) (new : ℕ) : Type 0 where
+-- behind these messages comes the one that was left over, if one was
+abbrev pub followed_by : List Message → Option Message → List Message
+followed_by messages None = messages
+followed_by messages (Some last) = messages ++ last ∷ []
+
+-- The turns that workers have run grew from the one number to the other by those that they received. What was received besides is
+-- the message that was left over, if one was.
+pub record AreRun (old : ℕ) (left : Option Message) (received : List Message) (new : ℕ) : Type 0 where
   pub by_workers : List Message
-  pub left : List Message
-  pub all : received ≡ by_workers ++ left
-  pub few : length left ≤ 1
+  pub all : received ≡ followed_by by_workers left
   pub grown : new ≡ old + turns_in by_workers

@@ -6,12 +6,10 @@ ghost use Rattle.crossbeam_channel.specs.Ends.{sends_on, receives_on};
 ghost use Rattle.wh_threads.specs.Counting.{LenderState, turns_of};
 ghost use Rattle.wh_workers.specs.EachAt.{EachAt};
 ghost use Rattle.wh_workers.specs.LentHelpers.{AreLent};
-ghost use Rattle.wh_threads.specs.Handover.{TakesBack, Dispatches, turns_in, all_parts};
+ghost use Rattle.wh_threads.specs.Handover.{Dispatches, turns_in, all_parts};
 ghost use Rattle.wh_workers.specs.Serving.{AreTurns};
-ghost use Rattle.wh_threads.specs.Working.{HasWorked};
 
-use crate::feed::{Supply, feed};
-use crate::first::FirstTurns;
+use crate::feed::{Next, Supply, feed};
 use crate::helpers::Helpers;
 use crate::serving::Crew;
 use std::alloc::{AllocError, Global};
@@ -19,8 +17,8 @@ use std::sync::Wait;
 use std::sync::ledger::Ledger;
 use std::thread::{PromisedHandle, Threads};
 use wh_threads::{
-    Equipment, Help, Lender, SeriesRoom, Slip, TurnReceiver, TurnSender, Turns, WorkerResult,
-    Works, pass_for, start_worker, stop,
+    Equipment, Gate, Help, Lender, Message, SeriesRoom, Slip, TurnReceiver, TurnSender, Turns,
+    WorkerResult, Works, pass_for, start_worker, stop,
 };
 
 /// Why not all turns were run.
@@ -39,6 +37,8 @@ pub struct Served {
     pub turns: u64,
     /// What was dispatched and received.
     pub slip: Slip,
+    /// What no worker received, where that was found: the last message that was received.
+    pub left: Option<Message>,
     /// Whether all of it was done: each turn that was dispatched was run.
     pub end: Result<(), ServeError>,
 }
@@ -63,44 +63,29 @@ fn share_of<T: Ledger, C: Ledger, J: Turns<T, C> + Drop>(
     Ok((job, receiver))
 }
 
-// Room for the series that each of so many workers runs at once.
-fn rooms_for(alloc: Global, workers: usize) -> Result<Vec<SeriesRoom>, AllocError>
+// What is made for a worker before its thread.
+#[derive(Drop)]
+pub struct WorkerRoom {
+    // Room for the series that it runs at once.
+    room: SeriesRoom,
+    // Where it waits until its thread was made.
+    gate: Gate,
+}
+
+// Rooms for so many workers.
+fn rooms_for(alloc: Global, workers: usize) -> Result<Vec<WorkerRoom>, AllocError>
     ensures { IfOk result (λ rooms. vec_len rooms ≡ workers) }
 {
     let mut rooms = Vec::with_capacity(alloc, workers)?;
     while rooms.len() < workers {
-        rooms.push_reserved(SeriesRoom::new(alloc)?);
+        let room = SeriesRoom::new(alloc)?;
+        let gate = Gate::new(alloc)?;
+        rooms.push_reserved(WorkerRoom { room, gate });
     }
     Ok(rooms)
 }
 
-// A worker that found no thread was told to stop before it began. One that ran a turn all the same is never met, and
-// never taken.
-fn take_refused<T: Ledger, C: Ledger, O: Ledger, E: Ledger, R: Wait>(
-    rt: &R,
-    lender: &mut Lender<T, C, O, E>,
-    seat: usize,
-    reply: WorkerResult<T, C>,
-    sender: &TurnSender,
-    slip: &mut Slip,
-)
-    requires channel { IsSeatAt (sends_on sender.now) slip.old × (0 < (view slip.old).parts) }
-    requires seat { slice_get lender.old.tallies seat ≡ Some reply.worker.from }
-    requires worked { HasWorked (sends_on sender.now) reply.worker.from reply.worker reply.slip }
-    ensures channel { IsSeatAt (sends_on sender.now) slip.new }
-    ensures back { TakesBack (view slip.old) (view slip.new) }
-    ensures out { lender.new.workers_out + 1 ≡ lender.old.workers_out }
-    ensures same { lender.new ≡ record lender.old { workers_out = lender.new.workers_out } }
-    ensures turns { turns_in (view slip.new).received ≡ turns_in (view slip.old).received }
-{
-    if !reply.is_idle() {
-        for _ in rt.forever() {}
-        unreachable!()
-    }
-    lender.take_refused_worker(seat, reply, sender, slip);
-}
-
-// Starts the workers, each with one of these rooms, behind turns that were dispatched. Where one can't be started all others have their last signs.
+// Starts the workers, each with one of these rooms. Where one can't be started all others have their last signs.
 #[tactic(auto, using(crate::proofs::Turns::turns_with_last, crate::proofs::Turns::turns_still))]
 fn start_all<
     T: Ledger + Send + 'static,
@@ -116,7 +101,7 @@ fn start_all<
     slip: &mut Slip,
     workers: usize,
     running: Vec<PromisedHandle<WorkerResult<T, C>, Works>>,
-    rooms: Vec<SeriesRoom>,
+    rooms: Vec<WorkerRoom>,
 ) -> (
     Vec<PromisedHandle<WorkerResult<T, C>, Works>>,
     Result<(), ServeError>,
@@ -146,17 +131,20 @@ fn start_all<
             stop(&rt, &team.sender, slip, seat);
             return (running, Err(ServeError::Memory));
         };
+        let WorkerRoom { room, gate } = rooms.take_last();
         let with = Equipment {
             job,
             receiver,
             worker: lender.lend_worker(seat),
             slip: pass_for(&team.sender, slip),
-            room: rooms.take_last(),
+            room,
+            gate,
         };
-        match start_worker(rt, with, &team.sender, slip, seat + 1) {
+        match start_worker(rt, with) {
             Ok(handle) => running.push_reserved(handle),
-            Err(reply) => {
-                take_refused(&rt, lender, seat, reply, &team.sender, slip);
+            Err(unstarted) => {
+                lender.take_refused_worker(seat, unstarted, &team.sender, slip);
+                stop(&rt, &team.sender, slip, seat);
                 return (running, Err(ServeError::NoThread));
             }
         }
@@ -194,8 +182,8 @@ fn join_all<T: Ledger, C: Ledger, O: Ledger, E: Ledger, R: Threads>(
     }
 }
 
-// Dispatches all further turns, of so many charges each, and then the last signs. It gives how many turns there were in all,
-// and whether these were all.
+// Dispatches all turns, of so many charges each, and then the last signs. It gives how many turns there were, and whether these
+// were all.
 #[tactic(auto, using(crate::proofs::Turns::handed_with_last))]
 fn dispatch_all<
     T: Ledger,
@@ -213,11 +201,11 @@ fn dispatch_all<
     lender: &mut Lender<T, C, O, E>,
     sender: &TurnSender,
     slip: &mut Slip,
-    first: FirstTurns,
+    first: Next,
     run_config: Crew,
 ) -> (u64, Result<(), ServeError>)
     requires channel { IsSeatAt (sends_on sender.now) slip.old × (0 < (view slip.old).parts) }
-    requires begun { AreTurns first.turns run_config.quantum (view slip.old).sent }
+    requires begun { AreTurns 0 run_config.quantum (view slip.old).sent }
     requires lent { AreLent helpers.old.scanner helpers.old.reclaimer lender.old }
     ensures channel { IsSeatAt (sends_on sender.now) slip.new }
     ensures out { Dispatches (view slip.old) result.0 run_config.quantum (view slip.new) }
@@ -233,8 +221,8 @@ fn dispatch_all<
     fed
 }
 
-// Starts the workers, dispatches all further turns, and joins the workers. It gives how many turns there were in all, and whether
-// all workers were started and these were all turns.
+// Starts the workers, dispatches all turns, and joins the workers. It gives how many turns there were, and whether all workers were
+// started and these were all turns.
 #[tactic(auto, using(crate::proofs::Turns::turns_handed, crate::proofs::Turns::turns_still))]
 pub fn run_crew<
     T: Ledger + Send + 'static,
@@ -254,13 +242,13 @@ pub fn run_crew<
     helpers: &mut Helpers<O, E, H, P>,
     lender: &mut Lender<T, C, O, E>,
     slip: &mut Slip,
-    first: FirstTurns,
+    first: Next,
     run_config: Crew,
 ) -> (u64, Result<(), ServeError>)
     requires can { J.can }
     requires channel { IsSeatAt (sends_on team.now.sender) slip.old }
     requires parts { (view slip.old).parts ≡ all_parts }
-    requires begun { AreTurns first.turns run_config.quantum (view slip.old).sent }
+    requires begun { AreTurns 0 run_config.quantum (view slip.old).sent }
     requires few { run_config.workers ≤ 64 }
     requires lender { lender.old.workers_out ≡ 0 }
     requires lent { AreLent helpers.old.scanner helpers.old.reclaimer lender.old }
@@ -277,10 +265,10 @@ pub fn run_crew<
     } }
 {
     let Ok(running) = Vec::with_capacity(alloc, run_config.workers) else {
-        return (first.turns, Err(ServeError::Memory));
+        return (0, Err(ServeError::Memory));
     };
     let Ok(rooms) = rooms_for(alloc, run_config.workers) else {
-        return (first.turns, Err(ServeError::Memory));
+        return (0, Err(ServeError::Memory));
     };
     let workers = run_config.workers;
     let (running, started) = start_all(rt, team, lender, slip, workers, running, rooms);
@@ -289,7 +277,7 @@ pub fn run_crew<
             let sender = &team.sender;
             dispatch_all(rt, supply, helpers, lender, sender, slip, first, run_config)
         }
-        Err(error) => (first.turns, Err(error)),
+        Err(error) => (0, Err(error)),
     };
     join_all(&rt, &team.sender, lender, slip, running);
     (turns, end)

@@ -10,7 +10,6 @@ ghost use Rattle.wh_workers.specs.LentHelpers.{AreLent};
 ghost use Rattle.wh_workers.specs.Serving.{AreTurns};
 
 use crate::crew::ServeError;
-use crate::first::FirstTurns;
 use crate::helpers::Helpers;
 use std::sync::Wait;
 use std::sync::ledger::Ledger;
@@ -37,8 +36,7 @@ pub enum Next {
 
 /// Which turns are dispatched.
 pub trait Supply {
-    /// What is to be done next, once it is known. Where no reclaimer is at work it says so rather than wait for one. Of the first
-    /// turns, which the calling thread runs, all have come back before this is asked: there is no other thread to wait for.
+    /// What is to be done next, once it is known. Where no reclaimer is at work it says so rather than wait for one.
     fn next<R: Wait>(&mut self, rt: &R, has_reclaimer: bool) -> Next;
 }
 
@@ -64,7 +62,7 @@ fn begin_scanner<
     }
 }
 
-// What is to be done next: what the first turns have left, and then what the supply says.
+// What is to be done next: what the supply has said already, and then what it says.
 fn next_of<S: Supply, R: Wait>(
     rt: &R,
     left: &mut Option<Next>,
@@ -77,9 +75,9 @@ fn next_of<S: Supply, R: Wait>(
     }
 }
 
-// Dispatches series of turns of so many charges as they come, behind the first turns, until no further one comes, no worker is
-// left, or a reclaimer is wanted that can't be started. It gives how many turns there were in all, and whether the last was the
-// last. A scanner that can't be started is done without.
+// Dispatches series of turns of so many charges as they come, the first one as the supply has said already, until no further one
+// comes, no worker is left, or a reclaimer is wanted that can't be started. It gives how many turns there were, and whether the
+// last was the last. A scanner that can't be started is done without.
 pub fn feed<
     T: Ledger,
     C: Ledger,
@@ -96,11 +94,11 @@ pub fn feed<
     lender: &mut Lender<T, C, O, E>,
     sender: &TurnSender,
     slip: &mut Slip,
-    first: FirstTurns,
+    first: Next,
     quantum: u32,
 ) -> (u64, Result<(), ServeError>)
     requires channel { IsSeatAt (sends_on sender.now) slip.old × (0 < (view slip.old).parts) }
-    requires begun { AreTurns first.turns quantum (view slip.old).sent }
+    requires begun { AreTurns 0 quantum (view slip.old).sent }
     requires lent { AreLent helpers.old.scanner helpers.old.reclaimer lender.old }
     ensures channel { IsSeatAt (sends_on sender.now) slip.new }
     ensures out { Dispatches (view slip.old) result.0 quantum (view slip.new) }
@@ -110,9 +108,8 @@ pub fn feed<
       reclaimers_out = lender.new.reclaimers_out;
     } }
 {
-    let FirstTurns { turns, next } = first;
-    let mut left = Some(next);
-    let mut count = turns;
+    let mut left = Some(first);
+    let mut count: u64 = 0;
     for _ in rt.forever() {
         if count > MOST_TURNS_BEFORE_A_SERIES {
             return (count, Ok(()));

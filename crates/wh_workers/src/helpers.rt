@@ -11,7 +11,7 @@ use std::sync::atomic::{AtomicU64, Ordering};
 use std::sync::ledger::Ledger;
 use std::sync::{Arc, Wait};
 use std::thread::{PromisedHandle, Threads};
-use wh_threads::{Help, Helped, Helps, Lender, start_helper};
+use wh_threads::{Gate, Help, Helped, Helps, Lender, start_helper};
 
 // A helper that was started, and the flag that tells it to stop.
 #[derive(Drop)]
@@ -26,6 +26,7 @@ pub struct Means<H> {
     job: H,
     stop: Arc<AtomicU64, Global>,
     flag: Arc<AtomicU64, Global>,
+    gate: Gate,
 }
 
 // All memory for a helper's thread but its stack.
@@ -36,20 +37,13 @@ pub fn means_of<K: Ledger, H: Help<K> + Drop>(
     let job = job.share()?;
     let stop = Arc::new(alloc, AtomicU64::new(0))?;
     let flag = Arc::try_clone(&stop)?;
-    Ok(Means { job, stop, flag })
-}
-
-// A helper that found no thread was told to stop before it began. One that did something all the same is never met,
-// and never taken.
-fn idle_helper<K: Ledger, R: Wait>(rt: &R, helper: Helped<K>) -> Helped<K>
-    ensures same { result ≡ helper }
-    ensures idle { result.count ≡ result.from }
-{
-    if !helper.is_idle() {
-        for _ in rt.forever() {}
-        unreachable!()
-    }
-    helper
+    let gate = Gate::new(alloc)?;
+    Ok(Means {
+        job,
+        stop,
+        flag,
+        gate,
+    })
 }
 
 // Starts a scanner, which scans until so many pages were offered in all, or it is told to stop.
@@ -71,12 +65,17 @@ pub fn start_scanner<
         × (lender.new ≡ record lender.old { scanners_out = 1 })) }
     ensures err { OnErr result (lender.new ≡ lender.old) }
 {
-    let Means { job, stop, flag } = means;
+    let Means {
+        job,
+        stop,
+        flag,
+        gate,
+    } = means;
     let scanner = lender.lend_scanner();
-    match start_helper(rt, job, stop, &*flag, wanted, scanner) {
+    match start_helper(rt, job, stop, gate, wanted, scanner) {
         Ok(handle) => Ok(Started { handle, flag }),
         Err(scanner) => {
-            lender.take_refused_scanner(idle_helper(&rt, scanner));
+            lender.take_refused_scanner(scanner);
             Err(ServeError::NoThread)
         }
     }
@@ -96,12 +95,17 @@ fn start_reclaimer<
         × (lender.new ≡ record lender.old { reclaimers_out = 1 })) }
     ensures err { OnErr result (lender.new ≡ lender.old) }
 {
-    let Means { job, stop, flag } = means;
+    let Means {
+        job,
+        stop,
+        flag,
+        gate,
+    } = means;
     let reclaimer = lender.lend_reclaimer();
-    match start_helper(rt, job, stop, &*flag, u64::MAX, reclaimer) {
+    match start_helper(rt, job, stop, gate, u64::MAX, reclaimer) {
         Ok(handle) => Ok(Started { handle, flag }),
         Err(reclaimer) => {
-            lender.take_refused_reclaimer(idle_helper(&rt, reclaimer));
+            lender.take_refused_reclaimer(reclaimer);
             Err(ServeError::NoThread)
         }
     }

@@ -1,10 +1,9 @@
 //! Workers, a scanner and a reclaimer: threads that run turns, offer pages and evict them, while the calling thread hands the
-//! turns out. It runs the first turns itself.
+//! turns out. It runs none itself.
 #![tactic(auto)]
 
 mod crew;
 mod feed;
-mod first;
 mod helpers;
 mod serving;
 mod sweeping;

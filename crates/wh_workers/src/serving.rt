@@ -9,13 +9,12 @@ ghost use Rattle.wh_workers.specs.Serving.{AreRun, AreTurns};
 
 use crate::crew::{ServeError, Served, Team, run_crew};
 use crate::feed::{Next, Supply};
-use crate::first::{FirstTurns, run_first_turns};
 use crate::helpers::{Helpers, join_reclaimer, join_scanner, means_of, start_scanner};
 use std::alloc::Global;
 use std::sync::Wait;
 use std::sync::ledger::Ledger;
 use std::thread::Threads;
-use wh_threads::{Help, Lender, SeriesRoom, Shares, Slip, Turns, left_over, open_channel};
+use wh_threads::{Help, Lender, Shares, Slip, Turns, left_over, open_channel};
 
 // How many messages the channel holds: room for all last signs.
 const CAPACITY: usize = 128;
@@ -43,8 +42,8 @@ pub struct Jobs<J, H, P> {
     pub reclaims: P,
 }
 
-// A crew runs the further turns, with a scanner and a reclaimer beside it where they are wanted. All memory for their threads
-// but the stacks is taken here.
+// A crew runs the turns, with a scanner and a reclaimer beside it where they are wanted. All memory for their threads but the
+// stacks is taken here.
 fn crew_with_helpers<
     T: Ledger + Send + 'static,
     C: Ledger + Send + 'static,
@@ -64,13 +63,13 @@ fn crew_with_helpers<
     reclaims: &P,
     lender: &mut Lender<T, C, O, E>,
     slip: &mut Slip,
-    first: FirstTurns,
+    first: Next,
     run_config: Crew,
 ) -> (u64, Result<(), ServeError>)
     requires can { J.can }
     requires channel { IsSeatAt (sends_on team.now.sender) slip.old }
     requires parts { (view slip.old).parts ≡ all_parts }
-    requires begun { AreTurns first.turns run_config.quantum (view slip.old).sent }
+    requires begun { AreTurns 0 run_config.quantum (view slip.old).sent }
     requires crew { run_config.workers ≤ 64 }
     requires whole { HasAllParts lender.old }
     ensures channel { IsSeatAt (sends_on team.now.sender) slip.new }
@@ -80,10 +79,11 @@ fn crew_with_helpers<
         ≡ turns_of lender.old.tallies + turns_in (view slip.new).received }
     ensures offers { lender.old.offers ≤ lender.new.offers }
     ensures evictions { lender.old.evictions ≤ lender.new.evictions }
+    ensures owner { lender.new.owner ≡ lender.old.owner }
     ensures whole { HasAllParts lender.new }
 {
     let Ok(helpers) = Helpers::new(alloc, scans, reclaims) else {
-        return (first.turns, Err(ServeError::Memory));
+        return (0, Err(ServeError::Memory));
     };
     let mut helpers = helpers;
     let ended = run_crew(
@@ -103,8 +103,9 @@ fn crew_with_helpers<
     ended
 }
 
-// The calling thread runs the first turns, and a crew the further ones, if there are any. It gives how many turns there were in
-// all, and whether all threads were started that were wanted and these were all turns.
+// A crew runs the turns, if there are any. It gives how many there were, and whether all threads were started that were wanted and
+// these were all turns.
+#[tactic(auto, using(crate::proofs::Turns::turns_none))]
 fn run_turns<
     T: Ledger + Send + 'static,
     C: Ledger + Send + 'static,
@@ -124,7 +125,6 @@ fn run_turns<
     reclaims: &P,
     lender: &mut Lender<T, C, O, E>,
     slip: &mut Slip,
-    room: &mut SeriesRoom,
     run_config: Crew,
 ) -> (u64, Result<(), ServeError>)
     requires can { J.can }
@@ -139,11 +139,12 @@ fn run_turns<
         ≡ turns_of lender.old.tallies + turns_in (view slip.new).received }
     ensures offers { lender.old.offers ≤ lender.new.offers }
     ensures evictions { lender.old.evictions ≤ lender.new.evictions }
+    ensures owner { lender.new.owner ≡ lender.old.owner }
     ensures whole { HasAllParts lender.new }
 {
-    let first = run_first_turns(&rt, team, supply, lender, slip, room, run_config.quantum);
-    if first.next == Next::End {
-        return (first.turns, Ok(()));
+    let first = supply.next(&rt, false);
+    if first == Next::End {
+        return (0, Ok(()));
     }
     crew_with_helpers(
         rt, alloc, team, supply, scans, reclaims, lender, slip, first, run_config,
@@ -175,7 +176,7 @@ fn serve_turns<
     requires crew { run_config.workers ≤ 64 }
     requires whole { HasAllParts lender.old }
     ensures dispatched { IfOk result (λ s. AreTurns s.turns run_config.quantum (view s.slip).sent) }
-    ensures grown { IfOk result (λ s. AreRun (turns_of lender.old.tallies) (view s.slip).received
+    ensures grown { IfOk result (λ s. AreRun (turns_of lender.old.tallies) s.left (view s.slip).received
         (turns_of lender.new.tallies)) }
     ensures once { IfOk result (λ s. OnOk s.end
         (SameMessages (view s.slip).sent (view s.slip).received)) }
@@ -184,29 +185,32 @@ fn serve_turns<
     ensures err { OnErr result (lender.new.tallies ≡ lender.old.tallies) }
     ensures offers { lender.old.offers ≤ lender.new.offers }
     ensures evictions { lender.old.evictions ≤ lender.new.evictions }
+    ensures owner { lender.new.owner ≡ lender.old.owner }
     ensures whole { HasAllParts lender.new }
 {
     let Ok((sender, receiver, slip)) = open_channel(alloc, CAPACITY) else {
         return Err(ServeError::Memory);
     };
-    let Ok(room) = SeriesRoom::new(alloc) else {
-        return Err(ServeError::Memory);
-    };
     let mut slip = slip;
-    let mut room = room;
     let team = Team {
         job,
         receiver,
         sender,
     };
     let (turns, end) = run_turns(
-        rt, alloc, &team, supply, scans, reclaims, lender, &mut slip, &mut room, run_config,
+        rt, alloc, &team, supply, scans, reclaims, lender, &mut slip, run_config,
     );
-    let end = match left_over(&rt, &team.receiver, &mut slip) {
+    let left = left_over(&rt, &team.receiver, &mut slip);
+    let end = match left {
         None => end,
         Some(_) => Err(ServeError::NoThread),
     };
-    Ok(Served { turns, slip, end })
+    Ok(Served {
+        turns,
+        slip,
+        left,
+        end,
+    })
 }
 
 // So many pages are offered in all, by a further scanner where there were fewer.
@@ -269,19 +273,18 @@ fn pay_offers<
     settle_offers(rt, alloc, scans, lender, wanted)
 }
 
-/// Runs all turns that come. The calling thread runs the first ones itself, up to 31, as the worker of seat 0. Where more come, or
-/// a call waits for a frame, a crew runs the further ones, each worker in a thread of its own, and the calling thread dispatches
-/// them. Beside the crew a scanner offers pages and a reclaimer evicts them, each in a thread that is started where it is first
-/// wanted: the scanner with the 32nd turn, the reclaimer where the supply says that a call waits for a frame.
+/// Runs all turns that come: a crew does, each worker in a thread of its own, and the calling thread dispatches them and runs none.
+/// Beside the crew a scanner offers pages and a reclaimer evicts them, each in a thread that is started where it is first wanted:
+/// the scanner with the 32nd turn, the reclaimer where the supply says that a call waits for a frame. Where no turn comes at all no
+/// thread is started.
 ///
 /// Turns are numbered in the order in which they are dispatched, and the workers' counts grow by those that they received.
 /// Where it ends well each turn that was dispatched was received once, and for each 64 turns a page was offered. What was
 /// done before it ended otherwise is told too (`Served`), and no count gets smaller.
 ///
 /// # Errors
-/// `Memory` where room for the channel or for the first series was refused: no turn was run then. `Served::end` says so where room
-/// for the crew was refused or not all workers could be started: the first turns alone were run then. It is `NoThread` too where a
-/// reclaimer was wanted that couldn't be started: no further turn was dispatched then; where a turn was left that no worker
+/// `Memory` where room for the channel was refused: no turn was run then. `Served::end` says so where room for the crew was refused,
+/// and that or `NoThread` where not all workers could be started: no turn was run then either. It is `NoThread` too where a reclaimer was wanted that couldn't be started: no further turn was dispatched then; where a turn was left that no worker
 /// received; and, or `Memory`, where a further scanner couldn't be started for pages that are owed, or came to its end before all
 /// were offered.
 pub fn serve<
@@ -305,7 +308,7 @@ pub fn serve<
     requires can { J.can }
     requires crew { (0 < run_config.workers) × (run_config.workers ≤ 64) }
     ensures dispatched { IfOk result (λ s. AreTurns s.turns run_config.quantum (view s.slip).sent) }
-    ensures grown { IfOk result (λ s. AreRun (turns_of shares.old.tallies) (view s.slip).received
+    ensures grown { IfOk result (λ s. AreRun (turns_of shares.old.tallies) s.left (view s.slip).received
         (turns_of shares.new.tallies)) }
     ensures once { IfOk result (λ s. OnOk s.end
         (SameMessages (view s.slip).sent (view s.slip).received)) }
@@ -316,6 +319,7 @@ pub fn serve<
     ensures err { OnErr result (shares.new.tallies ≡ shares.old.tallies) }
     ensures offers { shares.old.offers ≤ shares.new.offers }
     ensures evictions { shares.old.evictions ≤ shares.new.evictions }
+    ensures owner { shares.new.owner ≡ shares.old.owner }
 {
     let Jobs {
         turns: job,
@@ -327,10 +331,20 @@ pub fn serve<
     let served = serve_turns(
         rt, alloc, job, supply, &scans, &reclaims, lender, run_config,
     )?;
-    let Served { turns, slip, end } = served;
+    let Served {
+        turns,
+        slip,
+        left,
+        end,
+    } = served;
     let end = match end {
         Ok(()) => pay_offers(rt, alloc, &scans, lender, before, turns),
         Err(error) => Err(error),
     };
-    Ok(Served { turns, slip, end })
+    Ok(Served {
+        turns,
+        slip,
+        left,
+        end,
+    })
 }

@@ -122,10 +122,11 @@ pub record ExportReleases (id : InstId) (len len2 code : ℕ) (h h2 : HandState)
 
 -- ---- what goes on
 
+-- turns of 1000 charges at most
 pub record ExportRuns (charges : ℕ) (progress : Progress) (code : ℕ) (h h2 : HandState) : Type 0 where
   pub answered : code ≡ 0
   pub ran : Ran
-  pub runs : RunsAll h.host charges ran h2.host
+  pub runs : RunsAll 1000 h.host charges ran h2.host
   pub whole : IsAsWhole h.host.space h2.host.space
   pub output : h2.output ≡ h.output
   pub told : progress ≡ progress_as ran

@@ -1,4 +1,5 @@
 use Rattle.wh_script_laws.proofs.Faultless.{faultless_lines, faultless_scripts, lines_leave_nobody}
+use Rattle.wh_script_laws.proofs.Stopping.{faults_stop_few, no_call_goes_back}
 use Rattle.wh_script_laws.proofs.WorkedFaults.{store_is_cancelled, store_is_retried}
 use Rattle.wh_script_laws.proofs.faults_alone_change_answers.Goals as goal
 
@@ -16,3 +17,9 @@ returns-clause-store_is_retried c = store_is_retried
 
 pub returns-clause-store_is_cancelled : goal.returns-clause-store_is_cancelled
 returns-clause-store_is_cancelled c = store_is_cancelled
+
+pub returns-clause-stop_few : goal.returns-clause-stop_few
+returns-clause-stop_few c = faults_stop_few
+
+pub returns-clause-none_goes_back : goal.returns-clause-none_goes_back
+returns-clause-none_goes_back c = no_call_goes_back

@@ -4,7 +4,7 @@ use Rattle.wh_script_laws.proofs.CommandsEnding.{cancels_follow, releases_follow
 use Rattle.wh_script_laws.proofs.CommandsCalling.{calls_follow}
 use Rattle.wh_script_laws.proofs.CommandsInstances.{guests_follow}
 use Rattle.wh_script_laws.proofs.Drains.{drains_begin, moves_follow, drains_end, saying_follows}
-use Rattle.wh_script_laws.proofs.Opening.{open_is_known}
+use Rattle.wh_script_laws.proofs.Opening.{going_is_known, open_is_known}
 use Rattle.wh_script_laws.proofs.Turning.{turns_follow}
 use Rattle.wh_script_laws.proofs.Printed.{runs_well, says_well, all_said}
 use Rattle.wh_script_laws.proofs.PrintedObeyed.{nothing_well, call_well, obeys_well}
@@ -72,3 +72,6 @@ returns-clause-wants c = wants_are_named
 
 pub returns-clause-open : goal.returns-clause-open
 returns-clause-open c = open_is_known
+
+pub returns-clause-going : goal.returns-clause-going
+returns-clause-going c = going_is_known

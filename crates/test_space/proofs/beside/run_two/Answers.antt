@@ -1,6 +1,6 @@
 use Rattle.std.proofs.Common.{◌∙◌, ◌≤◌, ap, subst}
 use Rattle.wh_overlay.specs.LaidPages.{UpperState}
-use Rattle.wh_overlay.specs.Over.{AreAtHand, HasGrown, frames_lacking}
+use Rattle.wh_overlay.specs.Over.{AreAtHand, HasGrown, ReadsAreThere, frames_lacking}
 use Rattle.test_space.proofs.beside.run_two.Goals as goal
 
 pub returns-clause-hand : goal.returns-clause-hand
@@ -32,4 +32,13 @@ returns-clause-limited c =
     let two = c.into_upper-2.result in (
       subst (λ s. HasGrown s c.args.places.0 one) is.1 (subst (λ p. HasGrown c.loop.here.lower p one) is.2 c.into_upper.ensures.limited),
       subst (λ s. HasGrown s c.args.places.1 two) is.3 (subst (λ p. HasGrown c.loop.there.lower p two) is.4 c.into_upper-2.ensures.limited),
+    )
+
+pub returns-clause-there : goal.returns-clause-there
+returns-clause-there c =
+    let is = c.loop.invariant in
+    let one = c.into_upper.result in
+    let two = c.into_upper-2.result in (
+      subst (λ s. ReadsAreThere s c.args.places.0 one) is.1 (subst (λ p. ReadsAreThere c.loop.here.lower p one) is.2 (let over = c.into_upper.ensures.over.0 in over.there)),
+      subst (λ s. ReadsAreThere s c.args.places.1 two) is.3 (subst (λ p. ReadsAreThere c.loop.there.lower p two) is.4 (let over = c.into_upper-2.ensures.over.0 in over.there)),
     )

@@ -2,17 +2,17 @@ use Rattle.std.proofs.Common.{option_map, subst, sym, ℕ, List, MatchOption, []
 use Rattle.wh_settings.specs.View.{settings_of}
 use Rattle.wh_engine.specs.Draining.{HoldsAmid}
 use Rattle.wasmhost_program.specs.ProgramOutput.{RunsScript, runs_amid}
-use Rattle.wasmhost_program.proofs.Runs.{matched_file}
+use Rattle.wasmhost_program.proofs.Runs.{matched_file, output_blamed}
 use Rattle.wasmhost_program.proofs.program.run_over.Goals as goal
 
-pub returns : goal.returns
-returns g c =
+pub returns-clause-amid : goal.returns-clause-amid
+returns-clause-amid g c =
     let known = g.S.Folder.known c.args.folder.now in
     let files = g.S.Source.files c.args.folder.now in
     let settings = settings_of c.args.settings.now in
-    let input = g.R.Read.remaining c.args.input.now in
-    let before = g.W.Write.contents c.args.output.now in
-    let after = g.W.Write.contents c.run_script-2.new.writer in
+    let input = g.R.Read.remaining c.args.input.now.inner in
+    let before = g.W.Write.contents c.args.output.now.inner in
+    let after = g.W.Write.contents c.run_script-2.new.writer.inner in
     let ended = c.run_script-2.result.0 in
     subst (λ script.
     MatchOption c.run_script-2.result.1
@@ -22,4 +22,10 @@ returns g c =
     ended)))
     (sym c.in-Some.is)
     (matched_file g.D.SwapDev.honest g.D.SwapDev.faults c.args.device c.run_script-2.result.1 known files settings _ input _ before
-    after ended c.run_script-2.ensures.amid)
+    after ended (rw c.new-file.ensures.inner at c.run_script-2.ensures.amid))
+
+pub returns-in_default-clause-output : goal.returns-in_default-clause-output
+returns-in_default-clause-output g c = output_blamed _ _ c.run_script.result.0 c.run_script.ensures.blames
+
+pub returns-clause-output : goal.returns-clause-output
+returns-clause-output g c = output_blamed _ _ c.run_script-2.result.0 c.run_script-2.ensures.blames

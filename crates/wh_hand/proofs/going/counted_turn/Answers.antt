@@ -8,7 +8,7 @@ pub returns-clause-runs : goal.returns-clause-runs
 returns-clause-runs c =
     subst (λ n. RunsPart c.args.host.now n 1 c.turn.new.self) (sym c.charges_of_turn.ensures)
     (on_turned c.args.host.now c.turn.new.self c.args.id c.args.q c.present_call-call.result c.turn.result c.charges-before.result c.charges-after.result
-    c.requires.charges c.requires.goes c.requires.ready c.turn.ensures.turns c.present_call-call.ensures c.charges-before.ensures c.charges-after.ensures)
+    c.requires.charges c.requires.within c.requires.goes c.requires.ready c.turn.ensures.turns c.present_call-call.ensures c.charges-before.ensures c.charges-after.ensures)
 
 pub returns-clause-few : goal.returns-clause-few
 returns-clause-few c =

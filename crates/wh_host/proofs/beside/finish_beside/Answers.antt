@@ -1,8 +1,9 @@
-use Rattle.std.proofs.Common.{◌≢◌, [], sym, subst, ◌∙◌}
+use Rattle.std.proofs.Common.{◌≢◌, [], ap, sym, subst, ◌∙◌}
 use Rattle.wh_host_model.specs.declared.plain.TurnEnd.{TurnEnd}
 use Rattle.wh_host_model.specs.Space.Parts.{Space, view}
-use Rattle.wh_host.specs.Lent.{TurnsTo, settled_in}
-use Rattle.wh_host.proofs.BesideTurns.{can_finish, charges_few, again_end, finished_turn, least_charges, whole_or_cut}
+use Rattle.wh_instance.specs.Settling.{brought_on}
+use Rattle.wh_host.specs.Lent.{TurnsTo, settled_in, turn_end_of}
+use Rattle.wh_host.proofs.BesideTurns.{can_finish, can_from, charges_few, again_end, finished_turn, least_charges, whole_or_cut}
 use Rattle.wh_host.proofs.Spending.{spends_finished}
 use Rattle.wh_host.proofs.Unmoved.{looks_on}
 use Rattle.wh_host.proofs.Leavings.{turned_memory}
@@ -58,3 +59,15 @@ pub returns-clause-memory : goal.returns-clause-memory
 returns-clause-memory c =
     let lay = c.lay_beside in
     turned_memory c.args.place c.finish-turned.result c.settle_at.result c.args.memory.now lay.new.memory c.settle_at.new.memory lay.ensures.keeps.steps c.settle_at.ensures.answer c.settle_at.ensures.leaves
+
+pub returns-clause-again : goal.returns-clause-again
+returns-clause-again c again =
+    let r = c.requires in
+    let ran = c.args.ran in
+    let came = c.came_there-came in
+    let made = c.finish-turned in
+    let there = came.ensures r.2 in
+    let calls = can_finish r.0 r.1 r.2 r.3 c.args.memory.now c.args.place r.4 r.5 ran.came ran.pieces ran.charges c.args.tenant.now c.args.upper.now r.6 in
+    let done = made.ensures calls.0 calls.1 calls.2 in
+    can_from c.lay_beside.new.memory c.args.place ran.came ran.charges r.2 came.result there.0 (brought_on c.args.tenant.now calls.0 calls.1 ran.pieces ran.charges) done.still there.1
+    (ap turn_end_of (sym done.is_answer) ∙ sym c.settle_at.ensures.answer ∙ again)

@@ -1,6 +1,6 @@
 use Rattle.std.proofs.Common.{◌≡◌, ◌+◌, ◌*◌, ◌≤◌, Some, length, refl, sym, ap, subst, ◌∙◌}
 use Rattle.wh_overlay.specs.LaidPages.{UpperState}
-use Rattle.wh_host.specs.Beside.{HasRun}
+use Rattle.wh_host.specs.Beside.{HasRun, with_nothing}
 use Rattle.wh_host.specs.Rounds.{lent_in}
 use Rattle.wh_host.proofs.joining.finish_at.Goals as goal
 
@@ -31,6 +31,8 @@ returns c = λ q.
         memory = e.memory;
       };
       answer = refl;
+      again = e.again;
+      upper = λ u is. ap Some (e.empty ∙ ap with_nothing (sym (one_upper u c.in-Some.upper (sym is ∙ c.in-Some.is))));
       id = refl;
-      free = (refl, (f.new.upper, refl, e.pages, e.grown, e.taken));
+      free = (refl, (f.new.upper, refl, ap (λ (u : UpperState). u.pages) e.empty, ap (λ (u : UpperState). u.grown) e.empty, ap (λ (u : UpperState). u.taken) e.empty, ap (λ (u : UpperState). u.reads) e.empty));
     })

@@ -21,6 +21,8 @@ returns c = λ q.
         tenant = z.tenant;
         finishes = is.finishes;
         answer = ap (λ (s : Runner). s.answer) back.1 ∙ is.answer;
+        again = is.again;
+        upper = λ u had. ap (λ (s : Runner). s.upper) back.1 ∙ is.upper u had;
         id = ap (λ (s : Runner). s.id) back.1 ∙ is.id;
         free = subst IsFree (sym back.1) is.free;
         entries = subst (λ (i : InstId). (x : InstanceEntry) → entry_at rs i.place ≡ Some x → g.new.entries.slots ≡ slice_set rs i.place (Some (record x { number = Some i.number; tenant = z.tenant }))) is.id g.ensures.entries;

@@ -13,6 +13,7 @@ loop-behind-init g c =
     let after = call_state r.new.machine r.new.store r.new.memory in
     record {
       turns = refl;
+      leave = c.none.ensures;
       computes = subst (λ n. ComputesWithin w before n c.args.left r.result.0 r.result.1 after) (sym (one-mul c.args.burst.quantum)) r.ensures.computes;
       used = inl refl;
       keeps = r.ensures.keeps;
@@ -24,7 +25,7 @@ compute-came-requires-in-loop-behind g c =
     let z = c.loop-behind in
     let before = call_state c.args.machine.now c.args.store.now c.args.memory.now in
     let mid = call_state z.machine z.store z.memory in
-    let first = subst (λ a. ComputesWithin w before (z.ended.turns * c.args.burst.quantum) c.args.left a z.ended.charges mid) (c.if-not-goes_on.ensures refl).0 z.invariant.computes in
+    let first = subst (λ a. ComputesWithin w before (z.ended.turns * c.args.burst.quantum) c.args.left a z.ended.charges mid) (c.if-not-goes_on.ensures.may refl).0 z.invariant.computes in
     let limit = g.met.M.LinearMem.keeps_limit c.args.memory.now z.memory z.invariant.keeps in
     rw limit (still_there w before mid (z.ended.turns * c.args.burst.quantum) c.args.left z.ended.charges first c.requires).0
 
@@ -34,7 +35,7 @@ overflow_sub-rest g c =
     let z = c.loop-behind in
     let before = call_state c.args.machine.now c.args.store.now c.args.memory.now in
     let mid = call_state z.machine z.store z.memory in
-    let first = subst (λ a. ComputesWithin w before (z.ended.turns * c.args.burst.quantum) c.args.left a z.ended.charges mid) (c.if-not-goes_on.ensures refl).0 z.invariant.computes in
+    let first = subst (λ a. ComputesWithin w before (z.ended.turns * c.args.burst.quantum) c.args.left a z.ended.charges mid) (c.if-not-goes_on.ensures.may refl).0 z.invariant.computes in
     let less = (still_there w before mid (z.ended.turns * c.args.burst.quantum) c.args.left z.ended.charges first c.requires).1 in
     omega (arith, less)
 
@@ -48,18 +49,19 @@ loop-behind-preserved g c =
     let before = call_state c.args.machine.now c.args.store.now c.args.memory.now in
     let mid = call_state z.machine z.store z.memory in
     let after = call_state r.new.machine r.new.store r.new.memory in
-    let first = subst (λ a. ComputesWithin w before (z.ended.turns * q) left a z.ended.charges mid) (c.if-not-goes_on.ensures refl).0 z.invariant.computes in
+    let first = subst (λ a. ComputesWithin w before (z.ended.turns * q) left a z.ended.charges mid) (c.if-not-goes_on.ensures.may refl).0 z.invariant.computes in
     let stands = still_there w before mid (z.ended.turns * q) left z.ended.charges first c.requires in
     let all = stands.2 in
     let limit = g.met.M.LinearMem.keeps_limit c.args.memory.now z.memory z.invariant.keeps in
     let then = subst (λ (n : ℕ). ComputesWithin (setting_of c.args.linked.now g.M.LinearMem.bytes g.M.LinearMem.ready g.M.LinearMem.keeps n) mid q (left - z.ended.charges) r.result.0 r.result.1 after) limit r.ensures.computes in
     let both = goes_further w before mid after (z.ended.turns * q) q left z.ended.charges r.result.1 r.result.0 first then in
-    let least = (c.if-not-goes_on.ensures refl).1 in
+    let least = (c.if-not-goes_on.ensures.may refl).1 in
     let some = some_taken w before mid after (z.ended.turns * q) q left z.ended.charges r.result.1 r.result.0 first c.requires least then in
     let turns : c.from.result + 2 ≡ suc z.ended.turns = omega (arith, c.from.ensures, z.invariant.turns) in
     let grows : (c.from.result + 2) * q ≡ z.ended.turns * q + q = ap (λ n. n * q) turns ∙ suc-mul z.ended.turns q in
     record {
       turns = omega (arith, c.from.ensures);
+      leave = (let one = c.if-not-goes_on.ensures.leave refl in let had = z.invariant.leave in omega (arith, one, had));
       computes = subst (λ n. ComputesWithin w before n left r.result.0 (z.ended.charges + r.result.1) after) (sym grows) both;
       used = inr (least, omega arith, omega (arith, grows, all, some));
       keeps = g.met.M.LinearMem.keeps_more c.args.memory.now z.memory r.new.memory z.invariant.keeps r.ensures.keeps;
@@ -75,7 +77,7 @@ overflow_add-ended g c =
     let before = call_state c.args.machine.now c.args.store.now c.args.memory.now in
     let mid = call_state z.machine z.store z.memory in
     let after = call_state r.new.machine r.new.store r.new.memory in
-    let first = subst (λ a. ComputesWithin w before (z.ended.turns * q) left a z.ended.charges mid) (c.if-not-goes_on.ensures refl).0 z.invariant.computes in
+    let first = subst (λ a. ComputesWithin w before (z.ended.turns * q) left a z.ended.charges mid) (c.if-not-goes_on.ensures.may refl).0 z.invariant.computes in
     let stands = still_there w before mid (z.ended.turns * q) left z.ended.charges first c.requires in
     let less = stands.1 in
     let limit = g.met.M.LinearMem.keeps_limit c.args.memory.now z.memory z.invariant.keeps in

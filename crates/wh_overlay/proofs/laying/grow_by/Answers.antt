@@ -12,7 +12,7 @@ returns-then-pages-eq0 c =
     let s = c.args.memory.now in
     let i = c.args.place in
     let none : c.args.pages ≡ 0 = grind (arith, common_steps) in
-    subst (λ n. HasLaid s i n (grown_by (view s i) n) [] s) (sym none) (no_growth s i)
+    subst (λ n. HasLaid s i n [] (grown_by (view s i) n) [] s) (sym none) (no_growth s i)
 
 pub returns : goal.returns
 returns c =

@@ -1,4 +1,4 @@
-use Rattle.std.proofs.Common.{◌≡◌, ◌∙◌, ℕ, ◌+◌, ◌*◌, ◌≤◌, List, [], ◌∷◌, ◌++◌, Some, drop, take, get_or, slice_get, zero, suc, refl, ap, sym, subst, arith}
+use Rattle.std.proofs.Common.{◌≡◌, ◌∙◌, ℕ, ◌+◌, ◌*◌, ◌≤◌, List, [], ◌∷◌, ◌++◌, inl, Some, drop, take, get_or, slice_get, zero, suc, refl, ap, sym, subst, arith}
 use Rattle.std.proofs.lemmas.Option.{slice_get-get_or}
 use Rattle.wh_model.specs.Execution.Memory.{Stores}
 use Rattle.wh_model.specs.Execution.Store.{written}
@@ -60,8 +60,8 @@ loop-page-preserved c =
     let leaves = subst (λ n. LeavesStore m i (4096 * n) x.bytes c.store.result s2) c.from.ensures c.store.ensures.leaves in
     let done = is_stored m i (4096 * x.number) x.bytes c.store.result s2 c.invariant.ensures.sound ready.0 ready.1 stores leaves in
     let step = page_step m i x c.store.new.self c.invariant.ensures.sound long done in
-    let all = laid_on s i 0 (view m i) (written (view m i) (4096 * x.number) x.bytes) (take k pages) (x ∷ []) m c.store.new.self had.0 step (only s i x hand) in (
-      subst (λ xs. HasLaid s i 0 (view c.store.new.self i) xs c.store.new.self) (one_more pages k x there) (subst (λ b. HasLaid s i 0 b (take k pages ++ x ∷ []) c.store.new.self) (sym step.sees) all),
+    let all = laid_on s i 0 [] [] [] (view m i) (written (view m i) (4096 * x.number) x.bytes) (take k pages) (x ∷ []) m c.store.new.self had.0 step (λ p is. inl is) (only s i x hand) in (
+      subst (λ xs. HasLaid s i 0 [] (view c.store.new.self i) xs c.store.new.self) (one_more pages k x there) (subst (λ b. HasLaid s i 0 [] b (take k pages ++ x ∷ []) c.store.new.self) (sym step.sees) all),
       ap (λ b. laid_over b (drop (k + 1) pages)) step.sees ∙ sym (ap (laid_over (view m i)) (next pages k x there)) ∙ had.1,
       refl,
       refl,

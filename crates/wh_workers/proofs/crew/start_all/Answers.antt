@@ -12,17 +12,17 @@ loop-seat-preserved g c =
     let started = c.in-Ok-start_worker.ensures.ok in
     let lent = c.lend_worker.ensures in
     let pushed = c.push_reserved.ensures in
-    let slip = one_part_less (view c.loop-seat.slip) (view c.start_worker.new.slip) (view c.args.slip.now) c.loop-seat.seat
-    ((λ i. view (started.2 i)) ∙ c.pass_for.ensures.left) was.1 was.2 was.3
+    let slip = one_part_less (view c.loop-seat.slip) (view c.pass_for.new.slip) (view c.args.slip.now) c.loop-seat.seat
+    c.pass_for.ensures.left was.1 was.2 was.3
     (omega (arith, c.loop-seat-test.true, c.requires.few)) in
     let seat : length c.loop-seat.running.items ≡ c.loop-seat.seat = sym c.loop-seat.running.ok.0 ∙ was.4 in (
-      c.start_worker.ensures.slip,
+      c.pass_for.ensures.channel.0,
       slip.0,
       slip.1,
       slip.2,
       omega (arith, pushed.len, was.4),
       rw pushed.capacity was.5,
-      omega (arith, c.take_last.ensures.len, was.6),
+      omega (arith, c.take_last-room.ensures.len, was.6),
       Each-new c.loop-seat.running.items _ c.in-Ok-start_worker.handle _ pushed.items
           (λ i h at. ((λ j. slice_get (lent.out j).tallies i) ∙ (was.7 i h at).0, (was.7 i h at).1)) (
             (λ j. slice_get (lent.out j).tallies (seat j)) ∙ lent.from ∙ ap (λ t. Some t) (sym started.0),
@@ -40,13 +40,12 @@ returns-in_default-clause-received g c = ap turns_in (c.stop.ensures.last.receiv
 
 pub returns-in-Err-clause-dispatched : goal.returns-in-Err-clause-dispatched
 returns-in-Err-clause-dispatched g c = λ turns q were.
-    turns_still _ _ c.take_refused.ensures.back.sent turns q
-    (turns_with_last _ _ c.start_worker.ensures.last turns q
-    (turns_still _ _ ((λ i. (c.pass_for.ensures.left i).sent) ∙ c.loop-seat.invariant.1) turns q were))
+    turns_with_last _ _ c.stop-in-Err.ensures.last turns q
+    (turns_still _ _ (c.take_refused_worker.ensures.back.sent ∙ (λ i. (c.pass_for.ensures.left i).sent) ∙ c.loop-seat.invariant.1) turns q were)
 
 pub returns-in-Err-clause-received : goal.returns-in-Err-clause-received
 returns-in-Err-clause-received g c =
-    c.take_refused.ensures.turns
-    ∙ ap turns_in (
-    c.start_worker.ensures.last.received ∙ (λ i. (c.pass_for.ensures.left i).received) ∙ c.loop-seat.invariant.2
+    ap turns_in (
+    c.stop-in-Err.ensures.last.received ∙ c.take_refused_worker.ensures.received ∙ (λ i. (c.pass_for.ensures.left i).received)
+    ∙ c.loop-seat.invariant.2
     )

@@ -1,12 +1,13 @@
 use Rattle.std.proofs.Common.{arith, ◌<◌, ◌∙◌, inr, length, ap, subst}
 use Rattle.wh_cell.specs.Locking.{BooksState}
-use Rattle.wh_scheduler.specs.InHand.{left_of}
+use Rattle.std.specs.Prelude.{OnOk}
+use Rattle.wh_scheduler.specs.InHand.{OwnCount, left_of}
 use Rattle.wh_engine.specs.Draining.{DeviceMayFail, DeviceStaysTrue, RunsTurns, SomeGoes}
 use Rattle.wh_engine.specs.RepresentedScript.{ScriptHostState}
 use Rattle.wh_engine.proofs.Opened.{goes_open, only_open}
 use Rattle.wh_engine.proofs.Resting.{some_items}
 use Rattle.wh_engine.proofs.Runs.{may_fail_on, may_fail_same, ran_each, ran_nobody, true_on, true_same}
-use Rattle.wh_engine.proofs.Turned.{no_turns, whole_turns}
+use Rattle.wh_engine.proofs.Turned.{no_turns}
 use Rattle.wh_engine.proofs.script_host.ScriptHost.run.Goals as goal
 
 pub returns-then-is_empty-clause-runs : goal.returns-then-is_empty-clause-runs
@@ -15,8 +16,8 @@ returns-then-is_empty-clause-runs g c = rw (← c.self.view_is) (λ rest. ran_no
 pub returns-clause-runs : goal.returns-clause-runs
 returns-clause-runs g c =
     rw (← c.self.view_is) (λ rest.
-    ran_each g.D.SwapDev.keeps g.D.SwapDev.honest g.D.SwapDev.faults _ _ _ c.run-served.new.self c.self-2.view_is
-    c.run-served.ensures.came c.epoch.ensures.stands c.epoch.ensures.device c.invariant.ensures.together.none_out rest)
+    ran_each g.D.SwapDev.keeps g.D.SwapDev.honest g.D.SwapDev.faults _ _ _ c.run_host-ended.new.host c.self-2.view_is
+    c.run_host-ended.ensures.came c.epoch.ensures.stands c.epoch.ensures.device c.invariant.ensures.together.none_out rest)
 
 -- whichever way it ends, a call could go on when it began
 pub returns-in-Err-clause-open : goal.returns-in-Err-clause-open
@@ -41,7 +42,7 @@ returns-clause-begins g c =
     inr (rw (← c.self.view_is) (goes_open _ goes))
 
 pub returns-then-is_empty-clause-turns : goal.returns-then-is_empty-clause-turns
-returns-then-is_empty-clause-turns g c = rw (← c.self.view_is) (no_turns c.args.run_config.quantum c.self.inside.host.books.turns)
+returns-then-is_empty-clause-turns g c = rw (← c.self.view_is) (no_turns c.args.run_config.quantum c.self.inside.host.books c.self.inside.host.own)
 
 pub returns-then-is_empty-clause-device : goal.returns-then-is_empty-clause-device
 returns-then-is_empty-clause-device g c = rw (← c.self.view_is) (true_same g.D.SwapDev.keeps g.D.SwapDev.honest c.self.inside.host.device)
@@ -53,34 +54,38 @@ pub returns-in-Err-clause-device : goal.returns-in-Err-clause-device
 returns-in-Err-clause-device g c =
     rw (← c.self.view_is) (
     let device = ap (λ (z : ScriptHostState g.row.D.Denot). z.host.device) c.self-2.view_is ∙ c.epoch.ensures.device in
-    subst (λ o. DeviceStaysTrue g.D.SwapDev.keeps g.D.SwapDev.honest o c.run-served.new.self.device) device
-    (true_on g.D.SwapDev.keeps g.D.SwapDev.honest g.D.SwapDev.faults (left_of c.self-2.inside.host) (left_of c.run-served.new.self) c.run-served.ensures.came))
+    subst (λ o. DeviceStaysTrue g.D.SwapDev.keeps g.D.SwapDev.honest o c.run_host-ended.new.host.device) device
+    (true_on g.D.SwapDev.keeps g.D.SwapDev.honest g.D.SwapDev.faults (left_of c.self-2.inside.host) (left_of c.run_host-ended.new.host) c.run_host-ended.ensures.came))
 
 pub returns-in-Err-clause-faults : goal.returns-in-Err-clause-faults
 returns-in-Err-clause-faults g c =
     rw (← c.self.view_is) (
     let device = ap (λ (z : ScriptHostState g.row.D.Denot). z.host.device) c.self-2.view_is ∙ c.epoch.ensures.device in
-    subst (λ o. DeviceMayFail g.D.SwapDev.faults o c.run-served.new.self.device) device
-    (may_fail_on g.D.SwapDev.keeps g.D.SwapDev.honest g.D.SwapDev.faults (left_of c.self-2.inside.host) (left_of c.run-served.new.self) c.run-served.ensures.came))
+    subst (λ o. DeviceMayFail g.D.SwapDev.faults o c.run_host-ended.new.host.device) device
+    (may_fail_on g.D.SwapDev.keeps g.D.SwapDev.honest g.D.SwapDev.faults (left_of c.self-2.inside.host) (left_of c.run_host-ended.new.host) c.run_host-ended.ensures.came))
 
 pub returns-clause-device : goal.returns-clause-device
 returns-clause-device g c =
     rw (← c.self.view_is) (
     let device = ap (λ (z : ScriptHostState g.row.D.Denot). z.host.device) c.self-2.view_is ∙ c.epoch.ensures.device in
-    subst (λ o. DeviceStaysTrue g.D.SwapDev.keeps g.D.SwapDev.honest o c.run-served.new.self.device) device
-    (true_on g.D.SwapDev.keeps g.D.SwapDev.honest g.D.SwapDev.faults (left_of c.self-2.inside.host) (left_of c.run-served.new.self) c.run-served.ensures.came))
+    subst (λ o. DeviceStaysTrue g.D.SwapDev.keeps g.D.SwapDev.honest o c.run_host-ended.new.host.device) device
+    (true_on g.D.SwapDev.keeps g.D.SwapDev.honest g.D.SwapDev.faults (left_of c.self-2.inside.host) (left_of c.run_host-ended.new.host) c.run_host-ended.ensures.came))
 
 pub returns-clause-faults : goal.returns-clause-faults
 returns-clause-faults g c =
     rw (← c.self.view_is) (
     let device = ap (λ (z : ScriptHostState g.row.D.Denot). z.host.device) c.self-2.view_is ∙ c.epoch.ensures.device in
-    subst (λ o. DeviceMayFail g.D.SwapDev.faults o c.run-served.new.self.device) device
-    (may_fail_on g.D.SwapDev.keeps g.D.SwapDev.honest g.D.SwapDev.faults (left_of c.self-2.inside.host) (left_of c.run-served.new.self) c.run-served.ensures.came))
+    subst (λ o. DeviceMayFail g.D.SwapDev.faults o c.run_host-ended.new.host.device) device
+    (may_fail_on g.D.SwapDev.keeps g.D.SwapDev.honest g.D.SwapDev.faults (left_of c.self-2.inside.host) (left_of c.run_host-ended.new.host) c.run_host-ended.ensures.came))
 
 pub returns-clause-turns : goal.returns-clause-turns
 returns-clause-turns g c =
     rw (← c.self.view_is) (
-    let s = c.run-served.ensures in
+    let q = c.args.run_config.quantum in
+    let new = c.run_host-ended.new.host in
+    let was = c.self-2.inside.host in
     let books = ap (λ (z : ScriptHostState g.row.D.Denot). z.host.books) c.self-2.view_is ∙ c.epoch.ensures.books in
-    subst (λ (b : BooksState). RunsTurns c.args.run_config.quantum b.turns c.run-served.new.self.books.turns) books
-    (whole_turns c.args.run_config.quantum c.self-2.inside.host.books.turns c.run-served.new.self.books.turns c.run-served.result c.in_default-end_of.ensures s.dispatched s.once s.grown s.turns))
+    let own = ap (λ (z : ScriptHostState g.row.D.Denot). z.host.own) c.self-2.view_is ∙ c.epoch.ensures.own in
+    let ran = subst (λ r. OnOk r (RunsTurns q was.books was.own new.books new.own)) c.in_default-ended.is c.run_host-ended.ensures.turns in
+    subst (λ (o : OwnCount). RunsTurns q c.self.inside.host.books o new.books new.own) own
+    (subst (λ (b : BooksState). RunsTurns q b was.own new.books new.own) books ran))

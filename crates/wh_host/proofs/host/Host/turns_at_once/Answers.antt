@@ -1,5 +1,6 @@
 use Rattle.std.proofs.Common.{◌+◌, sym, subst, ◌∙◌, arith}
 use Rattle.wh_host.specs.Hosting.{HostState, IsHost}
+use Rattle.wh_host.proofs.Reaching.{each_had_leave, each_takes_some}
 use Rattle.wh_host.proofs.RunnerTurns.{have_run, heard_all, may_run_all}
 use Rattle.wh_host.proofs.host.Host.turns_at_once.Goals as goal
 
@@ -48,3 +49,21 @@ returns-clause-all g c w st =
     let i = c.self.inside in
     let h : HostState = record { modules = i.modules.items; entries = i.entries.slots; live = i.live; space = i.memory; next = i.next } in
     heard_all h w c.args.burst.quantum (c.args.burst.further + 1) c.take_all.new.runners c.run_all.new.runners c.lay_all.new.runners (subst (λ z. IsHost z w) (sym c.self.view_is) st) c.run_all.auto.runners c.lay_all.auto.runners c.take_all.ensures.left c.run_all.ensures c.lay_all.ensures.answers
+
+pub returns-clause-some : goal.returns-clause-some
+returns-clause-some g c least w st =
+    let i = c.self.inside in
+    let h : HostState = record { modules = i.modules.items; entries = i.entries.slots; live = i.live; space = i.memory; next = i.next } in
+    let out = c.take_all.ensures in
+    each_takes_some h w c.args.burst.quantum (c.args.burst.further + 1) c.take_all.new.entries.slots h.space c.run_all.new.runners c.lay_all.new.runners (subst (λ z. IsHost z w) (sym c.self.view_is) st) least
+    (have_run h c.args.burst.quantum (c.args.burst.further + 1) c.take_all.new.entries.slots c.take_all.new.runners c.run_all.new.runners c.run_all.auto.runners (let few = out.frames in let free = c.free.ensures in omega (arith, few, free)) out.out out.rest c.run_all.ensures)
+    c.lay_all.ensures.answers
+
+pub returns-clause-leave : goal.returns-clause-leave
+returns-clause-leave g c =
+    let i = c.self.inside in
+    let h : HostState = record { modules = i.modules.items; entries = i.entries.slots; live = i.live; space = i.memory; next = i.next } in
+    let out = c.take_all.ensures in
+    each_had_leave h c.args.burst.quantum (c.args.burst.further + 1) c.take_all.new.entries.slots h.space c.run_all.new.runners c.lay_all.new.runners
+    (have_run h c.args.burst.quantum (c.args.burst.further + 1) c.take_all.new.entries.slots c.take_all.new.runners c.run_all.new.runners c.run_all.auto.runners (let few = out.frames in let free = c.free.ensures in omega (arith, few, free)) out.out out.rest c.run_all.ensures)
+    c.lay_all.ensures.answers

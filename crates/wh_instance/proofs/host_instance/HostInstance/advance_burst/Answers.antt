@@ -12,6 +12,7 @@ returns g c =
       advances = subst (λ (q : ℕ). AdvancesAny w q c.args.self.now c.args.memory.now k.result.0 k.result.1 k.result.2 k.new.self k.new.memory) (sym (one-mul c.args.burst.quantum)) k.ensures.advances;
       used = inl refl;
       few = omega arith;
+      leave = omega arith;
       stays = k.ensures.stays;
       keeps = k.ensures.keeps;
     }

@@ -3,7 +3,7 @@ use Rattle.wh_host_model.specs.Space.Parts.{view}
 use Rattle.wh_host_model.specs.Space.States.{page_at}
 use Rattle.wh_model.specs.Execution.Store.{bytes_at}
 use Rattle.wh_overlay.specs.declared.upper.WrittenPage.{WrittenPage}
-use Rattle.wh_overlay.specs.LaidPages.{IsAmong, UpperState}
+use Rattle.wh_overlay.specs.LaidPages.{IsAmong, IsNoted, UpperState}
 use Rattle.wh_overlay.specs.Over.{OverlayState}
 use Rattle.wh_overlay.proofs.LaidSteps.{lacks_most}
 use Rattle.wh_overlay.proofs.Marks.{last_there}
@@ -16,7 +16,7 @@ invariant_of-self c =
     let left = c.if-not-has_frame.ensures in
     let added = c.add-at.ensures.added in
     added_over o.lower.now o.place o.upper c.add-at.new.self c.args.number 1 c.peek.new.into c.self.invariant c.if-not-peek.ensures.hand (lacks_most (page_at o.lower.now.tables o.place c.args.number)) (omega (arith, left))
-    (ap (λ (u : UpperState). u.pages) added) (ap (λ (u : UpperState). u.grown) added) (ap (λ (u : UpperState). u.taken) added) (ap (λ (u : UpperState). u.lent) added)
+    (ap (λ (u : UpperState). u.pages) added) (ap (λ (u : UpperState). u.reads) added) (ap (λ (u : UpperState). u.grown) added) (ap (λ (u : UpperState). u.taken) added) (ap (λ (u : UpperState). u.lent) added)
 
 pub returns-clause-some : goal.returns-clause-some
 returns-clause-some c =
@@ -39,4 +39,4 @@ returns-clause-sees c =
 
 pub returns-clause-lower : goal.returns-clause-lower
 returns-clause-lower c =
-    rw (← c.self.view_is) (record { lower = refl; place = refl; page_limit = refl; lent = ap (λ (u : UpperState). u.lent) c.add-at.ensures.added; stays = λ h. (invariant_of-self c, c.invariant-3.ensures.whole) })
+    rw (← c.self.view_is) (record { lower = refl; place = refl; page_limit = refl; lent = ap (λ (u : UpperState). u.lent) c.add-at.ensures.added; reads = λ number is. subst (λ (u : UpperState). IsNoted u.reads number) (sym c.add-at.ensures.added) is; stays = λ h. (invariant_of-self c, c.invariant-3.ensures.whole) })

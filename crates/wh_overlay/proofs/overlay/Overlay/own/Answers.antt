@@ -2,7 +2,7 @@ use Rattle.std.proofs.Common.{◌∙◌, ◌++◌, ◌∷◌, [], inl, inr, ap, 
 use Rattle.wh_host_model.specs.Space.Ready.{IsAtHand}
 use Rattle.wh_host_model.specs.Space.States.{at}
 use Rattle.wh_overlay.specs.declared.upper.WrittenPage.{WrittenPage}
-use Rattle.wh_overlay.specs.LaidPages.{UpperState}
+use Rattle.wh_overlay.specs.LaidPages.{IsNoted, UpperState}
 use Rattle.wh_overlay.specs.Over.{lacks_frame}
 use Rattle.wh_overlay.proofs.Marks.{last_there}
 use Rattle.wh_overlay.proofs.Seen.{add_page, added_over}
@@ -29,11 +29,11 @@ invariant_of-self c =
     let lent = c.self.invariant.lent in
     let added = c.add-at.ensures.added in
     added_over o.lower.now o.place o.upper c.add-at.new.self c.args.number 0 c.in-Some-private_page.bytes.now c.self.invariant (subst IsAtHand (sym private.1) refl) (omega (arith, none)) (omega (arith, lent))
-    (ap (λ (u : UpperState). u.pages) added) (ap (λ (u : UpperState). u.grown) added) (ap (λ (u : UpperState). u.taken) added) (ap (λ (u : UpperState). u.lent) added)
+    (ap (λ (u : UpperState). u.pages) added) (ap (λ (u : UpperState). u.reads) added) (ap (λ (u : UpperState). u.grown) added) (ap (λ (u : UpperState). u.taken) added) (ap (λ (u : UpperState). u.lent) added)
 
 pub returns-clause-lower : goal.returns-clause-lower
 returns-clause-lower c =
-    rw (← c.self.view_is) (record { lower = refl; place = refl; page_limit = refl; lent = ap (λ (u : UpperState). u.lent) c.add-at.ensures.added; stays = λ h. (invariant_of-self c, c.invariant-3.ensures.whole) })
+    rw (← c.self.view_is) (record { lower = refl; place = refl; page_limit = refl; lent = ap (λ (u : UpperState). u.lent) c.add-at.ensures.added; reads = λ number is. subst (λ (u : UpperState). IsNoted u.reads number) (sym c.add-at.ensures.added) is; stays = λ h. (invariant_of-self c, c.invariant-3.ensures.whole) })
 
 pub returns-clause-some : goal.returns-clause-some
 returns-clause-some c =

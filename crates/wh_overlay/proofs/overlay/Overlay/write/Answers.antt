@@ -1,8 +1,8 @@
 use Rattle.std.proofs.Common.{◌≡◌, ◌∙◌, ◌+◌, ◌*◌, ◌<◌, ◌≤◌, ◌^◌, refl, ap, sym, subst, length, arith}
 use Rattle.wh_model.specs.Execution.Store.{written}
 use Rattle.wh_host_model.specs.Space.Parts.{view}
-use Rattle.wh_overlay.specs.LaidPages.{IsWrittenAt, UpperState, with_upper}
-use Rattle.wh_overlay.specs.Over.{AreAtHand, HasGrown, IsOverSame, OverlayState, frames_lacking, sees}
+use Rattle.wh_overlay.specs.LaidPages.{IsNoted, IsWrittenAt, UpperState, with_upper}
+use Rattle.wh_overlay.specs.Over.{AreAtHand, HasGrown, IsOverSame, OverlayState, ReadsAreThere, frames_lacking, sees}
 use Rattle.wh_overlay.proofs.OverPages.{page_with}
 use Rattle.wh_overlay.proofs.Seen.{still_at_hand, still_lacking, write_page}
 use Rattle.wh_overlay.proofs.overlay.Overlay.write.Goals as goal
@@ -18,6 +18,7 @@ invariant_of-self c =
     record {
       at_hand = subst (λ (u : UpperState). AreAtHand o.lower.now o.place u.pages) (sym done.2)
           (still_at_hand o.lower.now o.place c.in-Some.at o.upper.pages x y c.self.invariant.at_hand done.1 refl);
+      there = subst (ReadsAreThere o.lower.now o.place) (sym done.2) c.self.invariant.there;
       frames = subst (λ (u : UpperState). frames_lacking o.lower.now o.place u.pages ≤ u.taken) (sym done.2) (omega (arith, had, lacking));
       lent = subst (λ (u : UpperState). u.taken ≤ u.lent) (sym done.2) c.self.invariant.lent;
       counted = subst (λ (u : UpperState). length (view o.lower.now o.place) + u.grown * 65536 < 2 ^ 44) (sym done.2) c.self.invariant.counted;
@@ -37,4 +38,4 @@ returns-clause-wrote c =
 pub returns-clause-lower : goal.returns-clause-lower
 returns-clause-lower c =
     let first = subst (λ (z : OverlayState). IsOverSame c.args.self.now z) (sym c.self.view_is) c.own.ensures.lower in
-    record { lower = first.lower; place = first.place; page_limit = first.page_limit; lent = ap (λ (u : UpperState). u.lent) c.write.ensures.2 ∙ first.lent; stays = λ h. (invariant_of-self c, c.invariant-3.ensures.whole) }
+    record { lower = first.lower; place = first.place; page_limit = first.page_limit; lent = ap (λ (u : UpperState). u.lent) c.write.ensures.2 ∙ first.lent; reads = λ number is. subst (λ (u : UpperState). IsNoted u.reads number) (sym c.write.ensures.2) (first.reads number is); stays = λ h. (invariant_of-self c, c.invariant-3.ensures.whole) }

@@ -1,7 +1,7 @@
-use Rattle.std.proofs.Common.{◌+◌, ◌<◌, ◌≤◌, length, length-append, sym, ap, subst, arith, ◌∷◌, []}
+use Rattle.std.proofs.Common.{◌+◌, ◌<◌, ◌≤◌, length, length-append, length-set, sym, ap, subst, arith, ◌∷◌, []}
 use Rattle.std.proofs.lemmas.Grind.{common_steps}
 use Rattle.wh_overlay.specs.LaidPages.{IsAmong, UpperState}
-use Rattle.wh_overlay.proofs.Marks.{marked_new}
+use Rattle.wh_overlay.proofs.Marks.{marked_new, noted_new}
 use Rattle.wh_overlay.proofs.upper.Upper.add.Goals as goal
 
 pub invariant_of-self : goal.invariant_of-self
@@ -17,4 +17,6 @@ invariant_of-self c =
           let items = ap length c.push_reserved.ensures.items in
           let long = length-append c.self.inside.pages.items (record { number = c.args.number; bytes = c.args.bytes.now } ∷ []) in
           omega (arith, room, items, long)),
+      noted_new c.self.inside.reads.items c.self.inside.marks.items c.args.number (c.len-place.result + 2) had.4 within (omega arith),
+      (let same = length-set c.self.inside.marks.items c.args.number (c.len-place.result + 2) in let few = had.5 in omega (arith, same, few)),
     )

@@ -15,4 +15,6 @@ invariant_of-self c =
       had.1,
       had.2,
       (let same = length-set pages c.args.at (record { number = page.number; bytes = c.overwrite.new.bytes }) in let few = had.3 in omega (arith, same, few)),
+      had.4,
+      had.5,
     )

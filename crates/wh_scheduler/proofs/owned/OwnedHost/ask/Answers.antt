@@ -14,4 +14,4 @@ returns-clause-asks g c =
 
 pub returns-clause-books : goal.returns-clause-books
 returns-clause-books g c =
-    books_on c.self.inside.locked c.self.inside.owner c.ask.new.owner c.args.self.now c.in-Some.locked c.ask.new.self c.self.view_is c.in-Some.is c.ask.ensures.books
+    books_on c.self.inside.locked c.self.inside.owner c.ask.new.owner c.self.inside.shares c.args.self.now c.in-Some.locked c.ask.new.self c.self.view_is c.in-Some.is c.ask.ensures.books

@@ -2,11 +2,12 @@ use Rattle.std.proofs.Common.{◌≡◌, ◌∙◌, ◌+◌, ◌/◌, ◌≤◌,
 use Rattle.std.specs.Prelude.{OnOk}
 use Rattle.crossbeam_channel.specs.Claims.{view}
 use Rattle.wh_threads.specs.Counting.{turns_of}
-use Rattle.wh_workers.specs.Serving.{AreRun}
+use Rattle.wh_threads.specs.declared.tally.Tally.{Tally}
 use Rattle.wh_workers.specs.declared.crew.Served.{Served}
 use Rattle.wh_cell.specs.Knowing.{BackingState, known_of}
 use Rattle.wh_cell.specs.Locking.{BooksState, LockedState}
 use Rattle.wh_scheduler.proofs.InHand.{at_err, at_ok, comes_on, in_hand_still, now_same, sums_before, sums_of}
+use Rattle.wh_scheduler.proofs.OwnTurns.{none_counted, ran_where_ok, turns_where_ok}
 use Rattle.wh_scheduler.proofs.owned.OwnedHost.run.Goals as goal
 
 pub invariant_of-self : goal.invariant_of-self
@@ -19,20 +20,22 @@ invariant_of-self g c =
 
 pub returns-clause-came : goal.returns-clause-came
 returns-clause-came g c =
-    comes_on g.D.SwapDev.keeps g.D.SwapDev.honest g.D.SwapDev.faults c.self.inside.locked c.self.inside.owner c.args.self.now c.sync_owner.new.owner c.agree.new.self c.self.view_is c.sync_owner.ensures.came
+    comes_on g.D.SwapDev.keeps g.D.SwapDev.honest g.D.SwapDev.faults c.self.inside.locked c.self.inside.owner c.self.inside.shares c.args.self.now c.sync_owner.new.owner c.agree.new.self c.self.view_is c.sync_owner.ensures.came
     (c.sync_owner.ensures.knows ∙ now_same c.sync_owner.new.self c.agree.new.self c.sync_owner.ensures.host c.sync_owner.ensures.known)
 
 pub returns-clause-grown : goal.returns-clause-grown
 returns-clause-grown g c =
     let was = sums_before c.self.inside.locked c.self.inside.backing c.self.inside.owner c.self.inside.shares c.args.self.now c.self.invariant c.self.view_is in
     let is = ap (λ (z : BooksState). z.turns) (c.sync_owner.ensures.books ∙ c.agree.ensures.same.2) ∙ c.agree.ensures.turns in
-    at_ok (λ a b (s : Served). AreRun a (view s.slip).received b) c.run_between-served.result.0 _ _ _ _ was.turns is c.run_between-served.ensures.grown
+    let same = ap (λ (t : Tally). t.turns) c.run_between-served.ensures.owner in
+    ran_where_ok c.run_between-served.result.0 _ _ _ _ _ _ was.turns is same c.run_between-served.ensures.grown
 
 pub returns-clause-turns : goal.returns-clause-turns
 returns-clause-turns g c =
     let was = sums_before c.self.inside.locked c.self.inside.backing c.self.inside.owner c.self.inside.shares c.args.self.now c.self.invariant c.self.view_is in
     let is = ap (λ (z : BooksState). z.turns) (c.sync_owner.ensures.books ∙ c.agree.ensures.same.2) ∙ c.agree.ensures.turns in
-    at_ok (λ a b (s : Served). OnOk s.end (b ≡ a + s.turns)) c.run_between-served.result.0 _ _ _ _ was.turns is c.run_between-served.ensures.turns
+    let same = ap (λ (t : Tally). t.turns) c.run_between-served.ensures.owner in
+    turns_where_ok c.run_between-served.result.0 _ _ _ _ _ _ was.turns is same c.run_between-served.ensures.turns
 
 pub returns-clause-owed : goal.returns-clause-owed
 returns-clause-owed g c =
@@ -44,7 +47,8 @@ pub returns-clause-err : goal.returns-clause-err
 returns-clause-err g c =
     let was = sums_before c.self.inside.locked c.self.inside.backing c.self.inside.owner c.self.inside.shares c.args.self.now c.self.invariant c.self.view_is in
     let is = ap (λ (z : BooksState). z.turns) (c.sync_owner.ensures.books ∙ c.agree.ensures.same.2) ∙ c.agree.ensures.turns in
-    at_err _ _ c.run_between-served.result.0 (λ same. is ∙ ap turns_of same ∙ sym was.turns) c.run_between-served.ensures.err
+    let same = ap (λ (t : Tally). t.turns) c.run_between-served.ensures.owner in
+    at_err _ _ c.run_between-served.result.0 (λ none. none_counted _ _ _ _ _ _ was.turns is same (ap turns_of none)) c.run_between-served.ensures.err
 
 pub returns-clause-offers : goal.returns-clause-offers
 returns-clause-offers g c =

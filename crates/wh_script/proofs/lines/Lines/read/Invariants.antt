@@ -8,5 +8,5 @@ abbrev pub invariant-loop : goal.invariant-loop
 invariant-loop g l = record {
   within : IsInChunk l.self;
   so_far : (line : List ℕ) × All (λ b. b ≢ 10) line × Holds l.self.line.items l.self.is_long line × MatchBool l.begun (0 < length line) (line ≡ [])
-      × Consumes (coming l.fn.self (g.R.Read.remaining l.fn.reader)) (coming l.self (g.R.Read.remaining l.reader)) line;
+      × Consumes (coming l.fn.self (g.R.Read.remaining l.fn.reader.inner)) (coming l.self (g.R.Read.remaining l.reader.inner)) line;
 }

@@ -1,14 +1,17 @@
-use Rattle.std.proofs.Common.{[], subst, sym, string_bytes}
+use Rattle.std.proofs.Common.{◌≡◌, ◌∙◌, ◌<◌, ◌≤◌, inr, ℕ, List, [], length, true, false, true≢false, arith, ap, subst, sym, string_bytes}
 use Rattle.wh_script.specs.Causes.{cause_number, line_error}
 use Rattle.wh_commands.specs.ParsedCommands.{FindsAsked}
-use Rattle.wh_script_model.specs.Commands.{Command, AsksCommand}
+use Rattle.wh_script_model.specs.Lines.{is_skipped, longest_line}
+use Rattle.wh_script_model.specs.Commands.{Command, AsksCommand, scan, report}
 use Rattle.wh_script_model.specs.Texts.{error}
 use Rattle.wh_engine.proofs.Printings.{on_ok_then}
 use Rattle.wh_script.specs.Coming.{IsKind}
-use Rattle.wh_script.specs.Answering.{Answers, Complains}
+use Rattle.wh_script.specs.Speaking.{AsksReport, AsksScan}
+use Rattle.wh_script.specs.Answering.{Answers, Complains, EndsSaying}
 use Rattle.wh_script.proofs.Answered.{is_skipped_line, is_too_long, isnt_found, skips}
 use Rattle.wh_engine.proofs.Runs.{holds_same}
 use Rattle.wh_script.proofs.Devices.{holds_map}
+use Rattle.wh_script.proofs.OfHost.{is_report, is_scan, none_found}
 use Rattle.wh_script.proofs.Stopped.{asked_open, complained_open}
 use Rattle.wh_script.proofs.session.Session.answer.Goals as goal
 
@@ -74,3 +77,59 @@ pub returns-in-Err-clause-open : goal.returns-in-Err-clause-open
 returns-in-Err-clause-open g c =
     let before = c.args.self.now in
     complained_open before.script_host c.args.kind c.args.held.now c.complain_drained-in-Err.result c.complain_drained-in-Err.ensures.open
+
+pub returns-in-End-clause-scans : goal.returns-in-End-clause-scans
+returns-in-End-clause-scans g c line is asks =
+    absurd (true≢false (sym (skips c.args.kind c.args.held.now line c.in-End.is is) ∙ asks.is_read.0))
+
+pub returns-in-TooLong-clause-scans : goal.returns-in-TooLong-clause-scans
+returns-in-TooLong-clause-scans g c =
+    on_ok_then c.complain_drained.result c.complain_drained.ensures.says (λ says line is (asks : AsksScan line).
+    let k = subst (λ k. IsKind k c.args.held.now line) c.in-TooLong.is is in
+    let long : longest_line < length line = k.1 in
+    let read : length line ≤ longest_line = asks.is_read.1 in
+    absurd (omega (arith, long, read)))
+
+pub returns-in-Ok-clause-scans : goal.returns-in-Ok-clause-scans
+returns-in-Ok-clause-scans g c =
+    let found = c.in-Ok.ensures.found in
+    on_ok_then c.command.result c.command.ensures.scans (λ does line is (asks : AsksScan line).
+    let k = subst (λ k. IsKind k c.args.held.now line) c.in-Kept.is is in
+    inr (does (is_scan c.args.held.now c.in-Ok.command found.0 found.1 found.2 (subst (λ xs. AsksCommand xs scan) (sym k.0) asks.asks))))
+
+pub returns-in-Err-clause-scans : goal.returns-in-Err-clause-scans
+returns-in-Err-clause-scans g c =
+    on_ok_then c.complain_drained-in-Err.result c.complain_drained-in-Err.ensures.says (λ says line is (asks : AsksScan line).
+    let k = subst (λ k. IsKind k c.args.held.now line) c.in-Kept.is is in
+    let text2 = string_bytes c.complain_drained-in-Err.new.self.text in
+    none_found _ c.parse.result c.in-Err.error scan c.args.number text2 c.in-Err.is
+    (c.parse.ensures.only scan (subst (λ xs. AsksCommand xs scan) (sym k.0) asks.asks))
+    (subst (λ cause. EndsSaying (error (cause_number cause) c.args.number) text2) c.from.ensures says))
+
+pub returns-in-End-clause-shows : goal.returns-in-End-clause-shows
+returns-in-End-clause-shows g c line is asks =
+    absurd (true≢false (sym (skips c.args.kind c.args.held.now line c.in-End.is is) ∙ asks.is_read.0))
+
+pub returns-in-TooLong-clause-shows : goal.returns-in-TooLong-clause-shows
+returns-in-TooLong-clause-shows g c =
+    on_ok_then c.complain_drained.result c.complain_drained.ensures.says (λ says line is (asks : AsksReport line).
+    let k = subst (λ k. IsKind k c.args.held.now line) c.in-TooLong.is is in
+    let long : longest_line < length line = k.1 in
+    let read : length line ≤ longest_line = asks.is_read.1 in
+    absurd (omega (arith, long, read)))
+
+pub returns-in-Ok-clause-shows : goal.returns-in-Ok-clause-shows
+returns-in-Ok-clause-shows g c =
+    let found = c.in-Ok.ensures.found in
+    on_ok_then c.command.result c.command.ensures.shows (λ does line is (asks : AsksReport line).
+    let k = subst (λ k. IsKind k c.args.held.now line) c.in-Kept.is is in
+    inr (does (is_report c.args.held.now c.in-Ok.command found.0 found.1 found.2 (subst (λ xs. AsksCommand xs report) (sym k.0) asks.asks))))
+
+pub returns-in-Err-clause-shows : goal.returns-in-Err-clause-shows
+returns-in-Err-clause-shows g c =
+    on_ok_then c.complain_drained-in-Err.result c.complain_drained-in-Err.ensures.says (λ says line is (asks : AsksReport line).
+    let k = subst (λ k. IsKind k c.args.held.now line) c.in-Kept.is is in
+    let text2 = string_bytes c.complain_drained-in-Err.new.self.text in
+    none_found _ c.parse.result c.in-Err.error report c.args.number text2 c.in-Err.is
+    (c.parse.ensures.only report (subst (λ xs. AsksCommand xs report) (sym k.0) asks.asks))
+    (subst (λ cause. EndsSaying (error (cause_number cause) c.args.number) text2) c.from.ensures says))

@@ -1,15 +1,19 @@
 use Rattle.std.proofs.Common.{◌≡◌, ◌∙◌, ℕ, List, Err, IfErr, ap, subst, sym, string_bytes}
 use Rattle.std.proofs.lemmas.Result.{err_from_is_err_and}
-use Rattle.wh_commands.specs.declared.command.Command.TheVariants.{Invoke, Scan}
+use Rattle.wh_commands.specs.declared.command.Command.TheVariants.{Invoke, Scan, Report}
 use Rattle.wh_commands.specs.ParsedCommands.{Says}
 use Rattle.wh_script_model.specs.Commands as asked_of
 use Rattle.wh_engine.proofs.Printings.{on_ok_then}
 use Rattle.wh_engine.proofs.Opened.{err_open_or, err_scan_or, open_or}
 use Rattle.wh_engine.specs.Draining.{DeviceHoldsAmid, StopsOpenOr}
-use Rattle.wh_script.specs.Answering.{AnswersCommand}
+use Rattle.wh_settings.specs.Hashing.{hashes_by}
+use Rattle.wh_settings.specs.View.{hashing_of}
+use Rattle.wh_script.specs.declared.session.SessionConfig.{SessionConfig}
+use Rattle.wh_script.specs.Answering.{AnswersCommand, HasOffered}
 use Rattle.wh_script.proofs.Devices.{holds_map}
 use Rattle.wh_script.proofs.Asked.{asked_as, no_invoke, isnt_invoke}
 use Rattle.wh_script.proofs.Answered.{drained_obeyed}
+use Rattle.wh_script.proofs.OfHost.{not_the}
 use Rattle.wh_script.proofs.session.Session.command.Goals as goal
 
 pub returns-in_ok-drain-in_default-clause-answers : goal.returns-in_ok-drain-in_default-clause-answers
@@ -59,3 +63,21 @@ pub returns-in-Invoke-clause-open : goal.returns-in-Invoke-clause-open
 returns-in-Invoke-clause-open g c =
     let before = c.args.self.now in
     err_open_or (c.args.command ≡ Scan) before.script_host c.invoke.result c.invoke.ensures.open
+
+pub returns-in_ok-drain-in_default-clause-scans : goal.returns-in_ok-drain-in_default-clause-scans
+returns-in_ok-drain-in_default-clause-scans g c =
+    let drained = c.drain.new.self in
+    let obeyed = c.obey.new.self in
+    on_ok_then c.obey.result c.obey.ensures.scans (λ scans same.
+    (drained.script_host, subst (λ (k : SessionConfig). HasOffered (hashes_by (hashing_of k.hash)) drained.script_host obeyed.script_host) c.drain.ensures.config (scans same)))
+
+pub returns-in_ok-drain-in_default-clause-shows : goal.returns-in_ok-drain-in_default-clause-shows
+returns-in_ok-drain-in_default-clause-shows g c = on_ok_then c.obey.result c.obey.ensures.shows (λ shows same. (string_bytes c.drain.new.self.text, shows same))
+
+pub returns-in-Invoke-clause-scans : goal.returns-in-Invoke-clause-scans
+returns-in-Invoke-clause-scans g c =
+    not_the _ c.invoke.result c.args.command (Invoke c.in-Invoke.inst c.in-Invoke.export c.in-Invoke.fuel c.in-Invoke.args) Scan c.in-Invoke.is (λ same. absurd (cc same))
+
+pub returns-in-Invoke-clause-shows : goal.returns-in-Invoke-clause-shows
+returns-in-Invoke-clause-shows g c =
+    not_the _ c.invoke.result c.args.command (Invoke c.in-Invoke.inst c.in-Invoke.export c.in-Invoke.fuel c.in-Invoke.args) Report c.in-Invoke.is (λ same. absurd (cc same))

@@ -22,3 +22,6 @@ returns-clause-complains g c =
     (λ met has_drained.
     subst (λ e2. Complains reply e text e2 text2 met) (sym c.complain.ensures.script_host)
     (complains e drained.script_host text (string_bytes drained.text) text2 reply met has_drained printed)) c.in_ok-drain.ensures.drains))
+
+pub returns-clause-says : goal.returns-clause-says
+returns-clause-says g c = on_ok_then c.complain.result c.complain.ensures.printed (λ printed. (string_bytes c.drain.new.self.text, printed))

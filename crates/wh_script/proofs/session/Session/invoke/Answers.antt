@@ -38,7 +38,7 @@ returns-then-is_err-clause-open g c =
     let before = c.args.self.now in
     let mid = c.invoke-asked.new in
     err_before before.script_host mid.self c.complain_drained-then-is_err.result
-    (stays_same before.script_host mid.self (where_err c.invoke-asked.result c.if-is_err.ensures.value c.invoke-asked.ensures.err)) c.complain_drained-then-is_err.ensures.open
+    (where_err c.invoke-asked.result c.if-is_err.ensures.value c.invoke-asked.ensures.err) c.complain_drained-then-is_err.ensures.open
 
 pub returns-clause-answers : goal.returns-clause-answers
 returns-clause-answers g c =

@@ -1,4 +1,4 @@
-use Rattle.std.proofs.Common.{◌≡◌, subst, sym, string_bytes}
+use Rattle.std.proofs.Common.{◌≡◌, Ok, subst, sym, string_bytes}
 use Rattle.wh_engine.proofs.Opened.{err_scans, memory_scans, memory_threads}
 use Rattle.wh_engine.proofs.Printings.{on_ok_then}
 use Rattle.wh_script.specs.Answering.{IsNoInvoke, Obeys}
@@ -7,6 +7,7 @@ use Rattle.wh_commands.specs.ParsedCommands.{Says}
 use Rattle.wh_script_model.specs.Commands as asked_of
 use Rattle.wh_script.proofs.Asked.{asked_as}
 use Rattle.wh_script.proofs.Obeyed.{on_ok_own, only_drained}
+use Rattle.wh_script.proofs.OfHost.{not_the}
 use Rattle.wh_script.proofs.session.Session.obey.Goals as goal
 
 pub returns-in-Module-clause-obeys : goal.returns-in-Module-clause-obeys
@@ -181,3 +182,71 @@ returns-in-Release-clause-threads g c = memory_threads (c.args.command ≡ Scan)
 
 pub returns-in-Scan-clause-threads : goal.returns-in-Scan-clause-threads
 returns-in-Scan-clause-threads g c = err_scans (c.args.command ≡ Scan) c.scan.result c.in-Scan.is
+
+-- ---- what the host does
+
+pub returns-in-Module-clause-scans : goal.returns-in-Module-clause-scans
+returns-in-Module-clause-scans g c = not_the _ c.module.result c.args.command (Module c.in-Module.name c.in-Module.bytes) Scan c.in-Module.is (λ same. absurd (cc same))
+
+pub returns-in-Load-clause-scans : goal.returns-in-Load-clause-scans
+returns-in-Load-clause-scans g c = not_the _ c.load.result c.args.command (Load c.in-Load.name c.in-Load.path) Scan c.in-Load.is (λ same. absurd (cc same))
+
+pub returns-in-Admit-clause-scans : goal.returns-in-Admit-clause-scans
+returns-in-Admit-clause-scans g c = not_the _ c.admit.result c.args.command (Admit c.in-Admit.inst c.in-Admit.module c.in-Admit.given) Scan c.in-Admit.is (λ same. absurd (cc same))
+
+pub returns-in-Invoke-clause-scans : goal.returns-in-Invoke-clause-scans
+returns-in-Invoke-clause-scans g c = not_the _ c.request.result c.args.command (Invoke c.in-Invoke.inst c.in-Invoke.export c.in-Invoke.fuel c.in-Invoke.args) Scan c.in-Invoke.is (λ same. absurd (cc same))
+
+pub returns-in-Refuel-clause-scans : goal.returns-in-Refuel-clause-scans
+returns-in-Refuel-clause-scans g c = not_the _ c.refuel.result c.args.command (Refuel c.in-Refuel.inst c.in-Refuel.fuel) Scan c.in-Refuel.is (λ same. absurd (cc same))
+
+pub returns-in-Cancel-clause-scans : goal.returns-in-Cancel-clause-scans
+returns-in-Cancel-clause-scans g c = not_the _ c.cancel.result c.args.command (Cancel c.in-Cancel.inst) Scan c.in-Cancel.is (λ same. absurd (cc same))
+
+pub returns-in-Retry-clause-scans : goal.returns-in-Retry-clause-scans
+returns-in-Retry-clause-scans g c = not_the _ c.retry.result c.args.command (Retry c.in-Retry.inst) Scan c.in-Retry.is (λ same. absurd (cc same))
+
+pub returns-in-Release-clause-scans : goal.returns-in-Release-clause-scans
+returns-in-Release-clause-scans g c = not_the _ c.release.result c.args.command (Release c.in-Release.inst) Scan c.in-Release.is (λ same. absurd (cc same))
+
+pub returns-in-Scan-clause-scans : goal.returns-in-Scan-clause-scans
+returns-in-Scan-clause-scans g c = on_ok_then c.scan.result c.scan.ensures.scans (λ does same. does)
+
+pub returns-in-Report-clause-scans : goal.returns-in-Report-clause-scans
+returns-in-Report-clause-scans g c = not_the _ c.report.result c.args.command Report Scan c.in-Report.is (λ same. absurd (cc same))
+
+pub returns-in-Drain-clause-scans : goal.returns-in-Drain-clause-scans
+returns-in-Drain-clause-scans g c = not_the _ (Ok tt) c.args.command Drain Scan c.in-Drain.is (λ same. absurd (cc same))
+
+pub returns-in-Module-clause-shows : goal.returns-in-Module-clause-shows
+returns-in-Module-clause-shows g c = not_the _ c.module.result c.args.command (Module c.in-Module.name c.in-Module.bytes) Report c.in-Module.is (λ same. absurd (cc same))
+
+pub returns-in-Load-clause-shows : goal.returns-in-Load-clause-shows
+returns-in-Load-clause-shows g c = not_the _ c.load.result c.args.command (Load c.in-Load.name c.in-Load.path) Report c.in-Load.is (λ same. absurd (cc same))
+
+pub returns-in-Admit-clause-shows : goal.returns-in-Admit-clause-shows
+returns-in-Admit-clause-shows g c = not_the _ c.admit.result c.args.command (Admit c.in-Admit.inst c.in-Admit.module c.in-Admit.given) Report c.in-Admit.is (λ same. absurd (cc same))
+
+pub returns-in-Invoke-clause-shows : goal.returns-in-Invoke-clause-shows
+returns-in-Invoke-clause-shows g c = not_the _ c.request.result c.args.command (Invoke c.in-Invoke.inst c.in-Invoke.export c.in-Invoke.fuel c.in-Invoke.args) Report c.in-Invoke.is (λ same. absurd (cc same))
+
+pub returns-in-Refuel-clause-shows : goal.returns-in-Refuel-clause-shows
+returns-in-Refuel-clause-shows g c = not_the _ c.refuel.result c.args.command (Refuel c.in-Refuel.inst c.in-Refuel.fuel) Report c.in-Refuel.is (λ same. absurd (cc same))
+
+pub returns-in-Cancel-clause-shows : goal.returns-in-Cancel-clause-shows
+returns-in-Cancel-clause-shows g c = not_the _ c.cancel.result c.args.command (Cancel c.in-Cancel.inst) Report c.in-Cancel.is (λ same. absurd (cc same))
+
+pub returns-in-Retry-clause-shows : goal.returns-in-Retry-clause-shows
+returns-in-Retry-clause-shows g c = not_the _ c.retry.result c.args.command (Retry c.in-Retry.inst) Report c.in-Retry.is (λ same. absurd (cc same))
+
+pub returns-in-Release-clause-shows : goal.returns-in-Release-clause-shows
+returns-in-Release-clause-shows g c = not_the _ c.release.result c.args.command (Release c.in-Release.inst) Report c.in-Release.is (λ same. absurd (cc same))
+
+pub returns-in-Scan-clause-shows : goal.returns-in-Scan-clause-shows
+returns-in-Scan-clause-shows g c = not_the _ c.scan.result c.args.command Scan Report c.in-Scan.is (λ same. absurd (cc same))
+
+pub returns-in-Report-clause-shows : goal.returns-in-Report-clause-shows
+returns-in-Report-clause-shows g c = on_ok_then c.report.result c.report.ensures.shows (λ does same. does)
+
+pub returns-in-Drain-clause-shows : goal.returns-in-Drain-clause-shows
+returns-in-Drain-clause-shows g c = not_the _ (Ok tt) c.args.command Drain Report c.in-Drain.is (λ same. absurd (cc same))

@@ -2,7 +2,6 @@ use Rattle.std.proofs.Common.{◌∙◌, ap, subst, string_bytes}
 use Rattle.wh_host.specs.Reporting.{ReportsHost, view_report}
 use Rattle.wh_scheduler.specs.InHand.{OwnedState}
 use Rattle.wh_script.proofs.Obeyed.{reported}
-use Rattle.wh_script.proofs.Rows.{shows_report}
 use Rattle.wh_script.proofs.session.Session.report.Goals as goal
 
 pub returns-clause-obeys : goal.returns-clause-obeys
@@ -14,7 +13,6 @@ returns-clause-obeys g c files number =
 
 pub returns-clause-shows : goal.returns-clause-shows
 returns-clause-shows g c =
-    let e = c.args.self.now.script_host in
     let report = view_report c.in-Ok.report in
     let reports = subst (λ h. ReportsHost h report) (c.host-2.ensures ∙ ap (λ (o : OwnedState g.row.D.Denot). o.host) c.host.ensures) c.in-Ok.ensures.ok in
-    shows_report e report (string_bytes c.args.self.now.text) (string_bytes c.write_report.new.text) reports c.in-Ok-write_report.ensures
+    (report, reports, c.in-Ok-write_report.ensures)

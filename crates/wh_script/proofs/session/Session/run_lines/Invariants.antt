@@ -15,6 +15,6 @@ invariant-loop-number g l = record {
   config : l.self.config ≡ l.fn.self.config;
   so_far : (settings : Settings) → RepresentsScript settings l.fn.self.script_host empty_script
       → DeviceHoldsAmid g.D.SwapDev.honest g.D.SwapDev.faults l.fn.self.script_host.host.device l.self.script_host.host.device
-      (SoFar settings (g.S.Source.files l.fn.source) (g.R.Read.remaining l.fn.reader) (coming l.lines (g.R.Read.remaining l.reader)) (g.W.Write.contents l.fn.writer) (g.W.Write.contents l.writer) l.number
+      (SoFar settings (g.S.Source.files l.fn.source) (g.R.Read.remaining l.fn.reader.inner) (coming l.lines (g.R.Read.remaining l.reader.inner)) (g.W.Write.contents l.fn.writer.inner) (g.W.Write.contents l.writer.inner) l.number
       l.self.script_host);
 }

@@ -3,7 +3,10 @@ use Rattle.wh_script_model.specs.Commands as asked_of
 use Rattle.wh_script_model.specs.Texts.{scan_ok, reply_text}
 use Rattle.wh_engine.proofs.Opened.{memory_scans}
 use Rattle.wh_engine.proofs.Printings.{on_ok_then}
-use Rattle.wh_script.specs.Answering.{Obeys}
+use Rattle.wh_engine.specs.RepresentedScript.{ScriptHostState}
+use Rattle.wh_settings.specs.Hashing.{hashes_by}
+use Rattle.wh_settings.specs.View.{hashing_of}
+use Rattle.wh_script.specs.Answering.{HasOffered, Obeys}
 use Rattle.wh_script.proofs.Obeyed.{scanned}
 use Rattle.wh_script.proofs.session.Session.scan.Goals as goal
 
@@ -19,3 +22,10 @@ returns-clause-obeys g c =
 
 pub returns-clause-err : goal.returns-clause-err
 returns-clause-err g c = memory_scans c.reply.result c.reply.ensures.err
+
+pub returns-clause-scans : goal.returns-clause-scans
+returns-clause-scans g c =
+    let e = c.args.self.now.script_host in
+    let hashes = hashes_by (hashing_of c.args.self.now.config.hash) in
+    on_ok_then c.reply.result c.reply.ensures.printed (λ printed.
+    subst (λ (x : ScriptHostState g.row.D.Denot). HasOffered hashes e x) (sym c.reply.ensures.script_host) c.in_ok-offer_pages.ensures.scans)
