@@ -8,7 +8,7 @@ use Rattle.wh_host_model.specs.declared.plain.TurnEnd.{TurnEnd}
 use Rattle.wh_host_model.specs.Space.Parts.{Space}
 use Rattle.wh_host_model.specs.Host.Worlds.{Tenant, World}
 use Rattle.wh_host_model.specs.Host.Events.{Event, evict_commit, fetch_commit, offer, provide, turn}
-use Rattle.wh_host_model.specs.Host.Happens.{AwaitsFrame, AwaitsFrameFor, IsTurn}
+use Rattle.wh_host_model.specs.Host.Happens.{AwaitsFrame, AwaitsFrameFor}
 use Rattle.wh_host_model.specs.Host.Misreading.{by_event, by_misreading}
 use Rattle.wh_swap.specs.DeviceCalls.{ServesOn, call_faults}
 use Rattle.wh_reclaim.specs.Whole.{IsAsWhole}
@@ -16,7 +16,7 @@ use Rattle.wh_reclaim.proofs.DeviceCalls.{serves_still, serves_then}
 use Rattle.wh_host.specs.Backing.{KeepsBacking}
 use Rattle.wh_host.specs.Hosting.{HostState, IsHost}
 use Rattle.wh_host.specs.Paging.{MovesAnyhow, MovesOnly, MovesWith, provide_fault}
-use Rattle.wh_cell.specs.Going.{IsPartOf, fault_or_none}
+use Rattle.wh_cell.specs.Going.{IsPartOf, TurnsIfGoing, WorksTo, fault_or_none, has_none, has_turn}
 use Rattle.wh_cell.specs.Owning.{ComesOn}
 use Rattle.wh_cell.specs.LeftByOwner.{ComesFrom, FitsHost, LeftState, WorksOn, WorksAnyhowOn, left_as}
 use Rattle.wh_cell.proofs.Alike.{fits_on}
@@ -25,8 +25,13 @@ use Rattle.wh_cell.proofs.Requested.{misread_fits, moves_fit, pages_fit}
 
 -- ---- work
 
-pub works_by_turn : (h h2 : HostState) (id : InstId) (q : ℕ) (answer : TurnEnd) → ((w : World) → IsHost h w → (w2 : World) × IsTurn w id q answer w2 × IsHost h2 w2) → WorksOn h [] h2
-works_by_turn h h2 id q answer turns w st = let x = turns w st in (x.0, works_by w x.0 (turn id q) tt (answer, x.1), x.2)
+works_by_one : (w w2 : World) (id : InstId) (q : ℕ) (answer : TurnEnd) → TurnsIfGoing w id q answer w2 → WorksTo w [] w2
+works_by_one w w2 id q answer (has_turn goes turns) = works_by w w2 (turn id q) goes (answer, turns)
+works_by_one w w2 id q answer (has_none rests) = works_to_itself w
+
+pub works_by_turn : (h h2 : HostState) (id : InstId) (q : ℕ) (answer : TurnEnd) → ((w : World) → IsHost h w → (w2 : World) × TurnsIfGoing w id q answer w2 × IsHost h2 w2)
+    → WorksOn h [] h2
+works_by_turn h h2 id q answer turns w st = let x = turns w st in (x.0, works_by_one w x.0 id q answer x.1, x.2)
 
 -- some page is offered
 abbrev some_offer : Event

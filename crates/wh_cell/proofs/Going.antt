@@ -1,12 +1,11 @@
 -- Work leads on.
 use Rattle.std.proofs.Common.{◌≡◌, inl, inr, List, [], ◌∷◌, ◌++◌, refl, sym, ap, subst, ◌∙◌, append_assoc, append-nil}
-use Rattle.std.specs.List.{AllByRecursion}
 use Rattle.wh_host_model.specs.declared.plain.SwapError.{SwapError}
 use Rattle.wh_host_model.specs.Host.Worlds.{World}
 use Rattle.wh_host_model.specs.Host.Events.{Event}
 use Rattle.wh_host_model.specs.Host.Happens.{AllHappen, Happens}
-use Rattle.wh_host_model.specs.Host.Misreading.{Step, by_event, AllBefall, Befalls}
-use Rattle.wh_cell.specs.Going.{IsPartOf, IsWork, IsWorkOrMisread, fault_in, faults_in, WorksTo, WorksAnyhowTo}
+use Rattle.wh_host_model.specs.Host.Misreading.{Step, by_event, Befalls}
+use Rattle.wh_cell.specs.Going.{IsPartOf, IsWork, IsWorkOrMisread, AllWork, AllWorkAnyhow, fault_in, faults_in, WorksTo, WorksAnyhowTo}
 
 -- ---- a part of a list
 
@@ -34,17 +33,22 @@ part_self (x ∷ xs) = inl (refl, part_self xs)
 
 -- ---- work
 
-all_both : {X : Type 0} (P : X → Type 0) (xs ys : List X) → AllByRecursion P xs → AllByRecursion P ys → AllByRecursion P (xs ++ ys)
-all_both P [] ys a b = b
-all_both P (x ∷ xs) ys a b = (a.0, all_both P xs ys a.1 b)
-
 pub happen_both : (w w2 w3 : World) (es fs : List Event) → AllHappen w es w2 → AllHappen w2 fs w3 → AllHappen w (es ++ fs) w3
 happen_both w w2 w3 [] fs a b = subst (λ (z : World). AllHappen z fs w3) a b
 happen_both w w2 w3 (e ∷ es) fs a b = (a.0, a.1, happen_both a.0 w2 w3 es fs a.2 b)
 
-befall_both : (w w2 w3 : World) (xs ys : List Step) → AllBefall w xs w2 → AllBefall w2 ys w3 → AllBefall w (xs ++ ys) w3
-befall_both w w2 w3 [] ys a b = subst (λ (z : World). AllBefall z ys w3) a b
-befall_both w w2 w3 (x ∷ xs) ys a b = (a.0, a.1, befall_both a.0 w2 w3 xs ys a.2 b)
+-- it is events
+pub work_happens : (w w2 : World) (es : List Event) → AllWork w es w2 → AllHappen w es w2
+work_happens w w2 [] a = a
+work_happens w w2 (e ∷ es) a = (a.0, a.2, work_happens a.0 w2 es a.3)
+
+works_both : (w w2 w3 : World) (es fs : List Event) → AllWork w es w2 → AllWork w2 fs w3 → AllWork w (es ++ fs) w3
+works_both w w2 w3 [] fs a b = subst (λ (z : World). AllWork z fs w3) a b
+works_both w w2 w3 (e ∷ es) fs a b = (a.0, a.1, a.2, works_both a.0 w2 w3 es fs a.3 b)
+
+anyhow_both : (w w2 w3 : World) (xs ys : List Step) → AllWorkAnyhow w xs w2 → AllWorkAnyhow w2 ys w3 → AllWorkAnyhow w (xs ++ ys) w3
+anyhow_both w w2 w3 [] ys a b = subst (λ (z : World). AllWorkAnyhow z ys w3) a b
+anyhow_both w w2 w3 (x ∷ xs) ys a b = (a.0, a.1, a.2, anyhow_both a.0 w2 w3 xs ys a.3 b)
 
 faults_both : (es fs : List Event) → faults_in (es ++ fs) ≡ faults_in fs ++ faults_in es
 faults_both [] fs = sym (append-nil (faults_in fs))
@@ -52,51 +56,42 @@ faults_both (e ∷ es) fs = ap (λ xs. xs ++ fault_in e) (faults_both es fs) ∙
 
 -- none is needed
 pub works_to_itself : (w : World) → WorksTo w [] w
-works_to_itself w = record { events = []; work = tt; faults_are = tt; happen = refl }
+works_to_itself w = record { events = []; faults_are = tt; work = refl }
 
 pub works_anyhow_to_itself : (w : World) → WorksAnyhowTo w w
-works_anyhow_to_itself w = record { steps = []; work = tt; befall = refl }
+works_anyhow_to_itself w = record { steps = []; work = refl }
 
 -- one after the other
 pub works_on : (w w2 w3 : World) (faults more : List SwapError) → WorksTo w faults w2 → WorksTo w2 more w3 → WorksTo w (more ++ faults) w3
 works_on w w2 w3 faults more a b = record {
   events = a.events ++ b.events;
-  work = all_both IsWork a.events b.events a.work b.work;
   faults_are = subst (λ xs. IsPartOf xs (more ++ faults)) (sym (faults_both a.events b.events))
       (part_both (faults_in b.events) more (faults_in a.events) faults b.faults_are a.faults_are);
-  happen = happen_both w w2 w3 a.events b.events a.happen b.happen;
+  work = works_both w w2 w3 a.events b.events a.work b.work;
 }
 
 pub works_anyhow_on : (w w2 w3 : World) → WorksAnyhowTo w w2 → WorksAnyhowTo w2 w3 → WorksAnyhowTo w w3
-works_anyhow_on w w2 w3 a b = record {
-  steps = a.steps ++ b.steps;
-  work = all_both IsWorkOrMisread a.steps b.steps a.work b.work;
-  befall = befall_both w w2 w3 a.steps b.steps a.befall b.befall;
-}
+works_anyhow_on w w2 w3 a b = record { steps = a.steps ++ b.steps; work = anyhow_both w w2 w3 a.steps b.steps a.work b.work }
 
 -- one event
-pub works_by : (w w2 : World) (e : Event) → IsWork e → Happens w e w2 → WorksTo w (fault_in e) w2
-works_by w w2 e is h = record { events = e ∷ []; work = (is, tt); faults_are = part_self (fault_in e); happen = (w2, h, refl) }
+pub works_by : (w w2 : World) (e : Event) → IsWork w e → Happens w e w2 → WorksTo w (fault_in e) w2
+works_by w w2 e is h = record { events = e ∷ []; faults_are = part_self (fault_in e); work = (w2, is, h, refl) }
 
 -- whose fault is one of these, if it has one
-pub works_within : (w w2 : World) (e : Event) (faults : List SwapError) → IsWork e → IsPartOf (fault_in e) faults → Happens w e w2 → WorksTo w faults w2
-works_within w w2 e faults is part h = record { events = e ∷ []; work = (is, tt); faults_are = part; happen = (w2, h, refl) }
+pub works_within : (w w2 : World) (e : Event) (faults : List SwapError) → IsWork w e → IsPartOf (fault_in e) faults → Happens w e w2 → WorksTo w faults w2
+works_within w w2 e faults is part h = record { events = e ∷ []; faults_are = part; work = (w2, is, h, refl) }
 
-pub works_anyhow_by : (w w2 : World) (x : Step) → IsWorkOrMisread x → Befalls w x w2 → WorksAnyhowTo w w2
-works_anyhow_by w w2 x is h = record { steps = x ∷ []; work = (is, tt); befall = (w2, h, refl) }
+pub works_anyhow_by : (w w2 : World) (x : Step) → IsWorkOrMisread w x → Befalls w x w2 → WorksAnyhowTo w w2
+works_anyhow_by w w2 x is h = record { steps = x ∷ []; work = (w2, is, h, refl) }
 
 -- events are steps
 abbrev steps_of : List Event → List Step
 steps_of [] = []
 steps_of (e ∷ es) = by_event e ∷ steps_of es
 
-all_steps : (es : List Event) → AllByRecursion IsWork es → AllByRecursion IsWorkOrMisread (steps_of es)
-all_steps [] a = tt
-all_steps (e ∷ es) a = (a.0, all_steps es a.1)
-
-befall_events : (w w2 : World) (es : List Event) → AllHappen w es w2 → AllBefall w (steps_of es) w2
-befall_events w w2 [] a = a
-befall_events w w2 (e ∷ es) a = (a.0, a.1, befall_events a.0 w2 es a.2)
+work_as_steps : (w w2 : World) (es : List Event) → AllWork w es w2 → AllWorkAnyhow w (steps_of es) w2
+work_as_steps w w2 [] a = a
+work_as_steps w w2 (e ∷ es) a = (a.0, a.1, a.2, work_as_steps a.0 w2 es a.3)
 
 pub anyhow_where_right : (w w2 : World) (faults : List SwapError) → WorksTo w faults w2 → WorksAnyhowTo w w2
-anyhow_where_right w w2 faults a = record { steps = steps_of a.events; work = all_steps a.events a.work; befall = befall_events w w2 a.events a.happen }
+anyhow_where_right w w2 faults a = record { steps = steps_of a.events; work = work_as_steps w w2 a.events a.work }

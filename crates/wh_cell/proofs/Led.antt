@@ -8,7 +8,7 @@ use Rattle.wh_host.specs.Hosting.{HostState, IsReached}
 use Rattle.wh_host.specs.Requests.{LeadsByRequest}
 use Rattle.wh_host.specs.Showing.{RepresentsReached}
 use Rattle.wh_cell.specs.LeftByOwner.{WorksOn}
-use Rattle.wh_cell.proofs.Going.{happen_both}
+use Rattle.wh_cell.proofs.Going.{happen_both, work_happens}
 
 reached_by : (w w2 : World) (events : List Event) → IsReached w → AllHappen w events w2 → IsReached w2
 reached_by w w2 events r happen = record {
@@ -22,7 +22,7 @@ reached_by w w2 events r happen = record {
 -- by work
 pub led_by_work : (h h2 : HostState) (faults : List SwapError) → WorksOn h faults h2 → RepresentsReached h → RepresentsReached h2
 led_by_work h h2 faults works led =
-    let x = works led.0 led.1 in (x.0, x.2, reached_by led.0 x.0 x.1.events led.2 x.1.happen)
+    let x = works led.0 led.1 in (x.0, x.2, reached_by led.0 x.0 x.1.events led.2 (work_happens led.0 x.0 x.1.events x.1.work))
 
 -- by a request
 pub led_by_request : (h h2 : HostState) → LeadsByRequest h h2 → RepresentsReached h → RepresentsReached h2

@@ -1,23 +1,24 @@
 -- A round of turns is work, and takes the charges that its runners say.
-use Rattle.std.proofs.Common.{◌≡◌, ◌≢◌, ◌∙◌, inl, inr, ℕ, zero, suc, ◌+◌, ◌*◌, ◌<◌, ◌≤◌, ◌^◌, List, [], ◌∷◌, ◌++◌, ◌-◌, take, Option, Some, None, length, slice_get, slice_index_or, slice_set, refl, sym, ap, subst, arith}
+use Rattle.std.proofs.Common.{◌≡◌, ◌≢◌, ◌∙◌, inl, inr, ℕ, zero, suc, ◌+◌, ◌*◌, ◌<◌, ◌≤◌, ◌^◌, List, [], ◌∷◌, ◌++◌, ◌-◌, take, Option, Some, None, length, slice_get, slice_set, refl, sym, ap, subst, arith}
 use Rattle.std.proofs.Math.Nat.{mul-le-mul_left, one-mul, suc-mul}
 use Rattle.std.proofs.lemmas.Bool.{cases_eq, cases_lt}
 use Rattle.std.proofs.lemmas.List.{get_or-set_same}
 use Rattle.std.proofs.lemmas.List.Sums.{sum_by-append, sum_by-cons}
-use Rattle.std.specs.List.{sum_by}
 use Rattle.wh_host_model.specs.declared.plain.InstId.{InstId}
-use Rattle.wh_host_model.specs.declared.plain.SwapError.{SwapError}
 use Rattle.wh_host_model.specs.declared.plain.TurnEnd.{TurnEnd}
 use Rattle.wh_host_model.specs.declared.plain.TurnEnd.TheVariants.{Again}
 use Rattle.wh_host_model.specs.Host.Events.{turn}
+use Rattle.wh_host_model.specs.Host.CallAnswers.{Turn, can_go_on, has_ended, has_no_frame, has_no_fuel, is_idle, keeps_its_fault}
 use Rattle.wh_host_model.specs.Host.Happens.{IsLive, IsTurn, of_none, of_one}
-use Rattle.wh_host_model.specs.Host.Worlds.{Tenant, World, journal, with_tenant}
+use Rattle.wh_host_model.specs.Host.Suspensions.{CanGoOn}
+use Rattle.wh_host_model.specs.Host.Worlds.{Tenant, World, for_device, for_frame, with_tenant}
 use Rattle.wh_host_model.specs.Owners.{Entry}
+use Rattle.wh_host_model.specs.Space.Parts.{Space}
 use Rattle.wh_host_model.proofs.Space.Putting.{set_other, set_same, there_of}
 use Rattle.wh_host.specs.declared.rounds.Runner.{Runner}
 use Rattle.wh_host.specs.declared.rounds.SeriesEnd.{SeriesEnd}
-use Rattle.wh_host.specs.Backing.{KeepsBacking}
 use Rattle.wh_host.specs.Hosting.{HostState, IsHost}
+use Rattle.wh_host.specs.Paging.{IsGoing}
 use Rattle.wh_host.specs.Rounds.{AllTurn, RunnersStay, TakesTurns}
 use Rattle.wh_host.specs.Series.{HasSpent, IsWholeOrCut, SeriesOf, Spends as SpendsIn, last_turn, turn_before}
 use Rattle.wh_host.proofs.Hosts.{some_within, turn_stays}
@@ -71,6 +72,27 @@ turn_took w w2 id few n end (of_one {t = t} {t2 = t2} {s2 = s2} live happens) sp
     let f = s.few in
     record { taken = subst (λ i. HasTaken w i (with_tenant w id.number (Some t2) s2)) same (taken_by_one w id.number s.taken t t2 s2 live.0 s.all); least = omega (arith, same, f) }
 
+-- ---- who can go on still can behind a turn that says so
+
+goes_again : (q : ℕ) (s s2 : Space) (t t2 : Tenant) (answer : TurnEnd) → Turn q s t answer s2 t2 → answer ≡ Again → CanGoOn t → CanGoOn t2
+goes_again q s s2 t t2 answer (is_idle none) is can = absurd (cc is)
+goes_again q s s2 t t2 answer (has_ended there g leaves pins c) is can = absurd (cc is)
+goes_again q s s2 t t2 answer (has_no_fuel there g leaves pins) is can = absurd (cc is)
+goes_again q s s2 t t2 answer (has_no_frame there g leaves pins) is can = absurd (cc is)
+goes_again q s s2 t t2 answer (can_go_on there g leaves pins fault) is can = ((λ none. absurd (cc none)), inl refl)
+goes_again q s s2 t t2 answer (keeps_its_fault {fault = fault} there stands doing none next fuel ready) is can = absurd (elim can.1 [
+  | inl free ↦ (let bad = sym free ∙ stands in cc bad)
+  | inr frame ↦ (let bad : Some for_frame ≡ Some (for_device fault) = sym frame ∙ stands in cc bad)
+])
+
+going_again : (w w2 : World) (id : InstId) (q : ℕ) (answer : TurnEnd) → IsTurn w id q answer w2 → answer ≡ Again → IsGoing w id → IsGoing w2 id
+going_again w w2 id q answer (of_none none) is goes = absurd (none goes.0 goes.1)
+going_again w w2 id q answer (of_one {t = t} {t2 = t2} {s2 = s2} live happens) is goes =
+    let within = some_within w.tenants id.number t live.0 in
+    let stays = turn_stays q w.space s2 t t2 answer happens in
+    let same : goes.0 ≡ t = (let both : Some goes.0 ≡ Some t = sym goes.1.0 ∙ live.0 in cc both) in
+    (t2, (get_or-set_same w.tenants id.number (Some t2) None within, stays.place ∙ live.1), goes_again q w.space s2 t t2 answer happens is (subst CanGoOn same goes.2))
+
 -- ---- series
 
 record SeriesTook (q : ℕ) (w : World) (turns n : ℕ) (w2 : World) : Type 0 where
@@ -82,22 +104,22 @@ at_most : (q few n : ℕ) (end : TurnEnd) → IsWholeOrCut q few n end → few �
 at_most q few n end (inl same) = omega (arith, same)
 at_most q few n end (inr (least, taken, again)) = least
 
-series_took : (q : ℕ) (id : InstId) (w w2 : World) (turns n : ℕ) (end : TurnEnd) → SeriesOf q id w turns n end w2 → SeriesTook q w turns n w2
-series_took q id w w2 turns n end (last_turn {few = few} whole happens spent) =
+series_took : (q : ℕ) (id : InstId) (w w2 : World) (turns n : ℕ) (end : TurnEnd) → IsGoing w id → SeriesOf q id w turns n end w2 → SeriesTook q w turns n w2
+series_took q id w w2 turns n end goes (last_turn {few = few} whole happens spent) =
     let t = turn_took w w2 id few n end happens spent in
     let one = one-mul q in
     let least = t.least in
     let most = at_most q few n end whole in
-    record { taken = t.taken; few = omega (arith, one, least, most); works = works_by w w2 (turn id few) tt (end, happens) }
-series_took q id w w2 turns n end (turn_before {mid = mid} {turns = rest} {more = more} happens spent series) =
+    record { taken = t.taken; few = omega (arith, one, least, most); works = works_by w w2 (turn id few) goes (end, happens) }
+series_took q id w w2 turns n end goes (turn_before {mid = mid} {turns = rest} {more = more} happens spent series) =
     let t = turn_took w mid id q q Again happens spent in
-    let r = series_took q id mid w2 rest more end series in
+    let r = series_took q id mid w2 rest more end (going_again w mid id q Again happens refl goes) series in
     let grows = suc-mul rest q in
     let left = r.few in
     record {
       taken = taken_then w mid w2 q more t.taken r.taken;
       few = omega (arith, grows, left);
-      works = works_on w mid w2 [] [] (works_by w mid (turn id q) tt (Again, happens)) r.works;
+      works = works_on w mid w2 [] [] (works_by w mid (turn id q) goes (Again, happens)) r.works;
     }
 
 -- ---- rounds
@@ -108,7 +130,7 @@ takes_none q most w w2 id same = (subst (λ z. HasTaken w 0 z) (sym same) (taken
 one_took : (q most : ℕ) (w w2 : World) (id : InstId) (answer : Option SeriesEnd) → TakesTurns q most w id answer w2 → HasTaken w (charges_by_turns answer) w2 × WorksTo w [] w2
 one_took q most w w2 id None takes = takes_none q most w w2 id takes
 one_took q most w w2 id (Some made) takes =
-    let s = series_took q id w w2 made.turns made.charges made.end takes.1 in
+    let s = series_took q id w w2 made.turns made.charges made.end takes.0 takes.2 in
     (s.taken, s.works)
 
 pub round_took : (q most : ℕ) (w w2 : World) (ys : List Runner) → AllTurn q most w ys w2 → HasTaken w (charges_of_round ys) w2 × WorksTo w [] w2
@@ -137,8 +159,8 @@ record Few (q most : ℕ) (answer : Option SeriesEnd) : Type 0 where
 few_of : (q most : ℕ) (w w2 : World) (id : InstId) (answer : Option SeriesEnd) → TakesTurns q most w id answer w2 → Few q most answer
 few_of q most w w2 id None takes = record { turns = omega arith; charges = omega arith }
 few_of q most w w2 id (Some made) takes =
-    let s = series_took q id w w2 made.turns made.charges made.end takes.1 in
-    record { turns = takes.0; charges = s.few }
+    let s = series_took q id w w2 made.turns made.charges made.end takes.0 takes.2 in
+    record { turns = takes.1; charges = s.few }
 
 few_each : (q most : ℕ) (w w2 : World) (ys : List Runner) → AllTurn q most w ys w2 → (k : ℕ) (y : Runner) → slice_get ys k ≡ Some y → Few q most y.answer
 few_each q most w w2 [] all k y there = absurd (cc there)

@@ -1,7 +1,7 @@
 -- What the lock lends stays in step.
-use Rattle.std.proofs.Common.{◌≡◌, ◌∙◌, inl, ℕ, ◌+◌, ◌∷◌, [], cond, get_or, length, slice_set, List, Option, Some, None, refl, sym, ap, subst}
+use Rattle.std.proofs.Common.{◌≡◌, ◌∙◌, inl, ℕ, ◌+◌, [], cond, get_or, length, slice_set, List, Option, Some, None, refl, sym, ap, subst}
 use Rattle.std.proofs.lemmas.Option.{same_Some}
-use Rattle.std.specs.Prelude.{Result, Ok, Err, IfErr, OnOk, is_ok}
+use Rattle.std.specs.Prelude.{Result, Ok, Err, OnOk, is_ok}
 use Rattle.wh_host_model.specs.declared.plain.InstId.{InstId}
 use Rattle.wh_host_model.specs.declared.plain.SwapError.{SwapError}
 use Rattle.wh_host_model.specs.declared.plain.TurnEnd.{TurnEnd}
@@ -9,7 +9,7 @@ use Rattle.wh_host_model.specs.declared.states.EvictEnd.{EvictEnd}
 use Rattle.wh_host_model.specs.declared.states.EvictEnd.TheVariants.{Evicted, Void, Failed}
 use Rattle.wh_host_model.specs.declared.states.FetchEnd.{FetchEnd}
 use Rattle.wh_host_model.specs.declared.states.FetchEnd.TheVariants.{Fetched, Void as FetchIsVoid, Failed as FetchHasFailed}
-use Rattle.wh_host_model.specs.Host.Happens.{AwaitsFrame, AwaitsFrameFor, IsTurn}
+use Rattle.wh_host_model.specs.Host.Happens.{AwaitsFrame, AwaitsFrameFor}
 use Rattle.wh_host_model.specs.Host.Worlds.{World}
 use Rattle.wh_host_model.specs.Space.Errands.{Errand, Pass, pass_of, tickets}
 use Rattle.wh_host_model.specs.Space.Parts.{Space}
@@ -23,7 +23,7 @@ use Rattle.wh_host.specs.Requests.{LeadsByRequest}
 use Rattle.wh_host.specs.Showing.{RepresentsReached}
 use Rattle.wh_cell.specs.Calling.{HasRead, HasWritten}
 use Rattle.wh_swap.specs.DeviceCalls.{ServesOn, call_faults}
-use Rattle.wh_cell.specs.Going.{IsPartOf, fault_or_none}
+use Rattle.wh_cell.specs.Going.{IsPartOf, TurnsIfGoing, fault_or_none}
 use Rattle.wh_cell.specs.Knowing.{AgreesWith, KnownState, NoneOut, with_ticket, without_ticket}
 use Rattle.wh_cell.specs.LeftByOwner.{ComesFrom, FitsHost, HasTakenOn, LeftState, WorksOn, left_as}
 use Rattle.wh_cell.specs.Locking.{BooksState, IsInStep, LockedState}
@@ -76,7 +76,7 @@ module _ {D : Type 0} (held : D → List (List ℕ)) (keeps honest : D → Type 
   }
 
   pub turned_in_step : (l : LockedState D) (h2 : HostState) (books2 : BooksState) (id : InstId) (q taken : ℕ) (answer : TurnEnd) → IsInStep held keeps honest faults l
-      → ((w : World) → IsHost l.host w → (w2 : World) × IsTurn w id q answer w2 × IsHost h2 w2) → HasTakenOn l.host taken h2 → KeepsBacking l.host.space h2.space
+      → ((w : World) → IsHost l.host w → (w2 : World) × TurnsIfGoing w id q answer w2 × IsHost h2 w2) → HasTakenOn l.host taken h2 → KeepsBacking l.host.space h2.space
       → books2.charges ≡ l.books.charges + taken → IsInStep held keeps honest faults (record l { host = h2; books = books2 })
   turned_in_step l h2 books2 id q taken answer s turns took backing counted =
       let x = turns s.some.0 s.some.1 in

@@ -19,6 +19,7 @@ use crate::locked::{Locked, Parts};
 use crate::moving::Moved;
 use crate::owner::{AgreedHost, Owner};
 use std::alloc::{AllocError, Global};
+use std::sync::atomic::{AtomicU64, Ordering};
 use std::sync::ledger::{Blank, Ledger};
 use std::sync::{Arc, Mutex, MutexGuard, Wait};
 use std::thread;
@@ -33,6 +34,7 @@ use wh_threads::{BlankAgreement, Helper, Shares};
 struct Both<D: SwapDev, T: Ledger, C: Ledger, O: Ledger, E: Ledger, B: CellAgreements> {
     locked: Mutex<Locked<D, T, C, O, E, B>>,
     backing: Mutex<Backing<D, B>>,
+    wanted: AtomicU64,
 }
 
 /// Holds a host under a lock, with the books of what threads count, and its swap device under another. Each thread has its
@@ -145,11 +147,16 @@ impl<D: SwapDev + Drop, T: Ledger, C: Ledger, O: Ledger, E: Ledger, B: CellAgree
         let both = Both {
             locked: Mutex::new(locked),
             backing: Mutex::new(backing),
+            wanted: AtomicU64::new(0),
         };
         match Arc::new(alloc, both) {
             Ok(both) => Ok(HostCell { both }),
             Err(failed) => {
-                let Both { locked, backing } = failed.value;
+                let Both {
+                    locked,
+                    backing,
+                    wanted: _,
+                } = failed.value;
                 Err((locked.into_inner(), backing.into_inner()))
             }
         }
@@ -161,7 +168,11 @@ impl<D: SwapDev + Drop, T: Ledger, C: Ledger, O: Ledger, E: Ledger, B: CellAgree
         for _ in rt.forever() {
             match Arc::try_unwrap(both) {
                 Ok(last) => {
-                    let Both { locked, backing } = last;
+                    let Both {
+                        locked,
+                        backing,
+                        wanted: _,
+                    } = last;
                     return (locked.into_inner(), backing.into_inner());
                 }
                 Err(shared) => {
@@ -191,10 +202,31 @@ impl<D: SwapDev, T: Ledger, C: Ledger, O: Ledger, E: Ledger, B: CellAgreements> 
         Ok(HostCell { both })
     }
 
-    /// Acquires the lock. Whoever gets it finds a host to which events lead, and reads of a swap device that gave other bytes,
-    /// if there were any; books whose charges fit its journals; that it agrees with its device as that was when its last call
-    /// was settled; and that it came by work from the one that its owner left.
+    /// Returns how many want the lock, or call the device for a move, beside those who lock it to work. While there are some, whoever
+    /// runs turns under the lock begins no further one, and a round ends.
+    pub fn wanted(&self) -> &AtomicU64 {
+        &self.both.wanted
+    }
+
+    /// Returns whether somebody wants the lock.
+    pub fn is_wanted(&self) -> bool {
+        self.both.wanted.load(Ordering::SeqCst) > 0
+    }
+
+    /// Acquires the lock, and is counted among those who want it until it has it. Whoever gets it finds a host to which events lead,
+    /// and reads of a swap device that gave other bytes, if there were any; books whose charges fit its journals; that it agrees with
+    /// its device as that was when its last call was settled; and that it came by work from the one that its owner left.
     pub fn lock<R: Wait>(&self, rt: &R) -> MutexGuard<'_, Locked<D, T, C, O, E, B>>
+        ensures { IsInStep D.held D.keeps D.honest D.faults (mutex_guard_value result) }
+    {
+        let _ = self.both.wanted.fetch_add(1, Ordering::SeqCst);
+        let guard = self.lock_to_work(rt);
+        let _ = self.both.wanted.fetch_sub(1, Ordering::SeqCst);
+        guard
+    }
+
+    /// Acquires the lock for turns or offers: nobody gives way to it, as they do to whoever calls `lock`.
+    pub fn lock_to_work<R: Wait>(&self, rt: &R) -> MutexGuard<'_, Locked<D, T, C, O, E, B>>
         ensures { IsInStep D.held D.keeps D.honest D.faults (mutex_guard_value result) }
     {
         let guard = self.both.locked.lock(rt);
@@ -203,9 +235,29 @@ impl<D: SwapDev, T: Ledger, C: Ledger, O: Ledger, E: Ledger, B: CellAgreements> 
     }
 
     /// Moves a page for the next step of an instance that waits for a frame: from the device or to it, and while the device is
-    /// called for that the host's lock is free. Where none has to, or at `at_once`, makes the step ready under both locks. The
-    /// reclaimer counts the pages that left. Returns `Ready` only where a provision has made it so.
+    /// called for that the host's lock is free. Where none has to, or at `at_once`, makes the step ready under both locks. It is counted
+    /// among those who want the host's lock meanwhile. The reclaimer counts the pages that left. Returns `Ready` only where a provision
+    /// has made it so.
     pub fn bring_nearer<R: Wait>(
+        &self,
+        rt: &R,
+        id: InstId,
+        at_once: bool,
+        reclaimer: &mut Helper<E>,
+    ) -> Moved
+        ensures from { reclaimer.new.from ≡ reclaimer.old.from }
+        ensures grown { reclaimer.old.count ≤ reclaimer.new.count }
+        ensures ready { result ≡ Ready → (l l2 : _) × IsInStep D.held D.keeps D.honest D.faults l
+            × IsInStep D.held D.keeps D.honest D.faults l2 × IsMadeReady id l.host l2.host }
+    {
+        let _ = self.both.wanted.fetch_add(1, Ordering::SeqCst);
+        let moved = self.move_nearer(rt, id, at_once, reclaimer);
+        let _ = self.both.wanted.fetch_sub(1, Ordering::SeqCst);
+        moved
+    }
+
+    // The same, counted among nobody.
+    fn move_nearer<R: Wait>(
         &self,
         rt: &R,
         id: InstId,
@@ -223,7 +275,7 @@ impl<D: SwapDev, T: Ledger, C: Ledger, O: Ledger, E: Ledger, B: CellAgreements> 
                 return moved;
             }
         }
-        let mut locked = self.lock(rt);
+        let mut locked = self.lock_to_work(rt);
         let provided = locked.provide(&mut backing, id, reclaimer);
         locked.invariant();
         match provided {

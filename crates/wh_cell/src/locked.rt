@@ -2,7 +2,7 @@
 
 ghost use Rattle.std.specs.Prelude.{◌≡◌, ◌+◌, ◌-◌, ◌^◌, ◌<◌, ℕ, min, Ok, IfOk, IfSome, IfNone, OnErr};
 ghost use Rattle.wh_model.specs.declared.memory.Need.{Need};
-ghost use Rattle.wh_host_model.specs.Host.Happens.{AwaitsFrame, IsTurn};
+ghost use Rattle.wh_host_model.specs.Host.Happens.{AwaitsFrame};
 ghost use Rattle.wh_host_model.specs.Host.Worlds.{World};
 ghost use Rattle.wh_host_model.specs.Space.Laws.{IsProvided};
 ghost use Rattle.wh_host_model.specs.Space.Offers.{OffersOf};
@@ -17,6 +17,7 @@ ghost use Rattle.wh_swap.specs.DeviceCalls.{ServesOn, call_faults};
 ghost use Rattle.wh_reclaim.specs.Together.{AreTogether};
 ghost use Rattle.wh_threads.specs.Counting.{IsZero, RanOwnTurn, RanTurn, all_charges, all_turns};
 ghost use Rattle.wh_cell.specs.Counted.{CountsEvictions, CountsOn, evictions_of};
+ghost use Rattle.wh_cell.specs.Going.{TurnsIfGoing};
 ghost use Rattle.wh_cell.specs.Knowing.{known_of};
 ghost use Rattle.wh_cell.specs.Ledgers.{HasLedgers};
 ghost use Rattle.wh_cell.specs.LeftByOwner.{HasNoCharge, HasTakenOn, left_as};
@@ -256,13 +257,14 @@ impl<D: SwapDev, T: Ledger, C: Ledger, O: Ledger, E: Ledger, B: CellAgreements> 
     }
 
     /// Runs the next one of dispatched turns: of their instance, and of as many charges at most as they say. The worker counts it,
-    /// and so do the books: one turn, and the charges by which the journal grew. One less is to be run then.
+    /// and so do the books: one turn, and the charges by which the journal grew. One less is to be run then. An instance that can't
+    /// go on has no turn: `Idle`, and no charge, are counted; so one that stands for a fault of the device stays where it stands.
     pub fn turn(&mut self, order: &mut ReceivedTurns, worker: &mut Worker<T, C>) -> TurnEnd
         requires room { worker.old.tally.turns < 2 ^ 64 - 1 }
         requires due { 0 < order.old.count }
         ensures order { order.new ≡ record order.old { count = order.old.count - 1 } }
         ensures turns { (w : World) → IsHost self.old.host w
-            → (w2 : World) × IsTurn w order.old.instance order.old.quantum result w2
+            → (w2 : World) × TurnsIfGoing w order.old.instance order.old.quantum result w2
             × IsHost self.new.host w2 }
         ensures counted { (taken : ℕ) × HasTakenOn self.old.host taken self.new.host
             × RanTurn worker.old taken worker.new
@@ -288,7 +290,7 @@ impl<D: SwapDev, T: Ledger, C: Ledger, O: Ledger, E: Ledger, B: CellAgreements> 
     pub fn own_turn(&mut self, shares: &mut Shares<T, C, O, E>, id: InstId, quantum: u32) -> TurnEnd
         requires room { shares.old.owner.turns < 2 ^ 64 - 1 }
         ensures turns { (w : World) → IsHost self.old.host w
-            → (w2 : World) × IsTurn w id quantum result w2 × IsHost self.new.host w2 }
+            → (w2 : World) × TurnsIfGoing w id quantum result w2 × IsHost self.new.host w2 }
         ensures counted { (taken : ℕ) × HasTakenOn self.old.host taken self.new.host
             × RanOwnTurn shares.old taken shares.new
             × (self.new.books ≡ record self.old.books {

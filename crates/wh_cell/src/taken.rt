@@ -1,9 +1,9 @@
 //! How many charges a turn took.
 
 ghost use Rattle.std.specs.Prelude.{◌≡◌, ◌<◌, ◌^◌};
-ghost use Rattle.wh_host_model.specs.Host.Happens.{IsTurn};
 ghost use Rattle.wh_host_model.specs.Host.Worlds.{World};
 ghost use Rattle.wh_cell.specs.Counted.{charges_between};
+ghost use Rattle.wh_cell.specs.Going.{TurnsIfGoing};
 ghost use Rattle.wh_cell.specs.LeftByOwner.{HasTakenOn};
 ghost use Rattle.wh_host.specs.Backing.{KeepsBacking};
 ghost use Rattle.wh_host.specs.Hosting.{IsHost};
@@ -29,15 +29,18 @@ fn charges_of_turn(before: Option<u64>, after: Option<u64>) -> u32
     taken as u32
 }
 
-/// Gives an instance a turn of `quantum` charges. Returns its end, and its charges.
+/// Gives an instance a turn of `quantum` charges where it can go on. Returns its end, and its charges; `Idle` and 0 where it has none.
 pub fn counted_turn(host: &mut Host, id: InstId, quantum: u32) -> (TurnEnd, u32)
     ensures turns { (w : World) → IsHost host.old w
-        → (w2 : World) × IsTurn w id quantum result.0 w2 × IsHost host.new w2 }
+        → (w2 : World) × TurnsIfGoing w id quantum result.0 w2 × IsHost host.new w2 }
     ensures taken { HasTakenOn host.old result.1 host.new }
     ensures backing { KeepsBacking host.old.space host.new.space }
     ensures memory { LeavesTurned id.place result.0 host.old.space host.new.space }
 {
     host.invariant();
+    if !host.can_go_on(id) {
+        return (TurnEnd::Idle, 0);
+    }
     let call = host.present_call(id);
     let before = host.charges(id, call);
     let end = host.turn(id, u64::from(quantum));

@@ -4,6 +4,7 @@ use Rattle.std.specs.List.{AllZip}
 use Rattle.wh_host_model.specs.declared.plain.InstId.{InstId}
 use Rattle.wh_host_model.specs.declared.plain.SwapError.{SwapError}
 use Rattle.wh_host_model.specs.SwapFaults.{swap_number}
+use Rattle.wh_host_model.specs.Space.Stores.{Epochs}
 use Rattle.wh_script_model.specs.Settings.{Settings}
 use Rattle.wh_script_model.specs.ScriptState as script
 use Rattle.wh_script_model.specs.ScriptState.{ScriptState, SomeCallMayGo}
@@ -14,7 +15,8 @@ use Rattle.wh_threads.specs.declared.channel.Message.{Message}
 use Rattle.wh_threads.specs.Handover.{SameMessages}
 use Rattle.wh_workers.specs.Serving.{AreRun, AreTurns}
 use Rattle.wh_cell.specs.Locking.{BooksState}
-use Rattle.wh_scheduler.specs.InHand.{OwnCount, RunsHere}
+use Rattle.wh_cell.specs.Owning.{ComesOn}
+use Rattle.wh_scheduler.specs.InHand.{OwnCount, OwnedState, RunsHere, left_of}
 use Rattle.wh_workers.specs.declared.crew.Served.{Served}
 use Rattle.wh_workers.specs.declared.crew.ServeError.{ServeError}
 use Rattle.wh_engine.specs.declared.fault.RunFault.{RunFault}
@@ -109,6 +111,13 @@ pub record RunsTurns (q : ℕ) (books : BooksState) (own : OwnCount) (books2 : B
   pub once : SameMessages sent received
   pub ran : AreRun between.turns left received books2.turns
   pub grown : books2.turns ≡ between.turns + turns
+
+-- A new epoch began on the host, in which no page was touched yet; what came then was work alone.
+pub record WorksInNewEpoch {D : Type 0} (keeps honest : D → Type 0) (faults : D → List SwapError) (o o2 : OwnedState D) : Type 0 where
+  pub begun : OwnedState D
+  pub clears : Epochs o.host.space begun.host.space
+  pub same : begun.device ≡ o.device
+  pub works : ComesOn keeps honest faults (left_of begun) (left_of o2)
 
 -- a call of some instance can go on, and whatever script the engine represents, an instance of it has an open call and
 -- stands for no fault of a device

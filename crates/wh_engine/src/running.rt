@@ -3,7 +3,7 @@
 ghost use Rattle.std.specs.Prelude.{◌≡◌, ◌<◌, ◌≤◌, ◌⊎◌, IfErr, OnOk};
 ghost use Rattle.wh_cell.specs.Owning.{ComesOn};
 ghost use Rattle.wh_scheduler.specs.InHand.{left_of};
-ghost use Rattle.wh_engine.specs.Draining.{AllRest, DeviceMayFail, DeviceHoldsAmid, DeviceStaysTrue, IsServedWhole, RunsEach, RunsTurns, StopsOnlyOpen, StopsServing, WasOpen};
+ghost use Rattle.wh_engine.specs.Draining.{AllRest, DeviceMayFail, DeviceHoldsAmid, DeviceStaysTrue, IsServedWhole, RunsEach, RunsTurns, StopsOnlyOpen, StopsServing, WasOpen, WorksInNewEpoch};
 
 use crate::fault::RunFault;
 use crate::script_host::ScriptHost;
@@ -78,8 +78,8 @@ impl<
 > ScriptHost<D, T, C, O, E, B> {
     /// Runs the calls of all instances, in turns of so many charges, until none can go on: that is so where `print` finds it so. The
     /// calling thread runs up to 31 turns itself; where a call can still go on, so many workers run the further ones, though no
-    /// more than instances that can, since each of these has one turn out at most. Where none can from the beginning, no epoch
-    /// begins and no turn is run.
+    /// more than instances that can, since each of these has one turn out at most. Before the first turn a new epoch
+    /// begins; where no call can go on from the beginning, none begins and no turn is run.
     ///
     /// # Errors
     /// `Memory` where room was refused, and `Threads` where a thread couldn't be started; some calls may have run then. Not
@@ -99,6 +99,8 @@ impl<
             self.old.host.own self.new.host.books self.new.host.own) }
         ensures others { self.new ≡ record self.old { host = self.new.host } }
         ensures begins { (self.new ≡ self.old) ⊎ WasOpen self.old }
+        ensures epoch { (self.new ≡ self.old) ⊎ WorksInNewEpoch D.keeps D.honest D.faults
+            self.old.host self.new.host }
         ensures err { IfErr result StopsServing }
         ensures open { IfErr result (StopsOnlyOpen self.old) }
     {

@@ -20,6 +20,7 @@ use Rattle.wh_host.specs.Beside.{HasRun, RunsBeside}
 use Rattle.wh_host.specs.Hosting.{HostState, IsHost, entry_at}
 use Rattle.wh_host.specs.Left.{LeavesTurned}
 use Rattle.wh_host.specs.Lying.{LiesAt}
+use Rattle.wh_host.specs.Paging.{IsGoing}
 use Rattle.wh_host.specs.Series.{SeriesOf}
 use Rattle.wh_host.specs.Rounds.{AllAreFree, AllMayRun, AllRun, AllTurn, AreTakenOut, RunnersStay, IsFree, IsOut, NoneIsLeftOut, RanThere, RunsAt, SitsThere, TakesTurns, lent_in, lent_to, lent_to_all}
 use Rattle.wh_host.specs.Joining.{CanFinish, HasAnswer, HaveRun, IsLeftOut, LaysAt, Returns, host_with, series_end}
@@ -153,6 +154,16 @@ module _ (h : HostState) (s : Space) (q most : ℕ) (w : World) (F : List (Optio
       let c = run.runs.computes in
       (λ none. (let bad = sym none ∙ c.calls in cc bad), r.finishes.turns so.0 so.1 loaded.linked entry.page_limit s entry.tenant t run)))
 
+  -- it computes, so that a turn can bring it on
+  goes : IsGoing st.world y.id
+  goes =
+      let o = it.out in
+      let l = lies_here (host_with h st.before m) st.world y.id.place y.id.number entry it.loaded st.host o.was o.number it.is_loaded in
+      let lies = l.2 in
+      let run = it.run l.0 lies in
+      let c = run.runs.computes in
+      (l.0, (l.1, lies.place_is), (λ none. (let bad = sym none ∙ c.calls in cc bad), inl c.waits))
+
   entries_are : F2 ≡ slice_set F y.id.place (Some entry2)
   entries_are =
       let o = it.out in
@@ -200,7 +211,7 @@ module _ (h : HostState) (s : Space) (q most : ℕ) (w : World) (F : List (Optio
       let backs = subst (λ z. KeepsBacking st.world.space z) host.space (subst (λ z. KeepsBacking z m2) st.host.space f.backing) in
       let o = it.out in
       let so = o.so in
-      let takes : TakesTurns q most st.world y.id (Some made) t.0 = (so.2.0, t.1, left_so, backs) in
+      let takes : TakesTurns q most st.world y.id (Some made) t.0 = (goes, so.2.0, t.1, left_so, backs) in
       let takes2 = subst (λ a. TakesTurns q most st.world y2.id a t.0) (sym r.answer) (subst (λ (n : InstId). TakesTurns q most st.world n (Some made) t.0) (sym r.id) takes) in
       record {
         before = slice_set st.before y.id.place (Some entry2);

@@ -26,15 +26,16 @@ use Rattle.wh_host.specs.Beside.{RunsBeside}
 use Rattle.wh_host.specs.Hosting.{entry_at}
 use Rattle.wh_host.specs.Left.{LeavesTurned}
 use Rattle.wh_host.specs.Lying.{LiesAt}
+use Rattle.wh_host.specs.Paging.{IsGoing}
 use Rattle.wh_host.specs.Series.{SeriesOf}
 
 -- ---- turns one after the other
 
--- so many turns of this instance, at most, each with q charges at most, came to that; or none was taken
+-- so many turns of this instance, at most, each with q charges at most, came to that, and a turn could bring it on; or none was taken
 abbrev pub TakesTurns : ℕ → ℕ → World → InstId → Option SeriesEnd → World → Type 0
 TakesTurns q most w id None w2 = w2 ≡ w
 TakesTurns q most w id (Some made) w2 =
-    (made.turns ≤ most) × SeriesOf q id w made.turns made.charges made.end w2
+    IsGoing w id × (made.turns ≤ most) × SeriesOf q id w made.turns made.charges made.end w2
     × LeavesTurned id.place made.end w.space w2.space × KeepsBacking w.space w2.space
 
 -- those of the runners, in their order

@@ -19,9 +19,6 @@ use wh_workers::{Next, Supply};
 // For how many turns that are dispatched the scanner offers a page.
 pub(crate) const TURNS_FOR_AN_OFFER: u64 = 64;
 
-// So often a worker in the midst of a series, which has released the host's lock, looks whether who wants it has it now.
-const LOOKS_WHILE_WANTED: u32 = 16;
-
 // So often a worker that has no series in hand looks whether the scanner, which waits for the lock, has it now.
 const LOOKS_WHILE_SCANNER_WAITS: u32 = 2000;
 
@@ -41,9 +38,6 @@ pub struct Schedule {
     pub offer_owed: Condvar,
     /// Which worker receives turns.
     pub turn_lock: TurnLock,
-    /// How many want the host's lock, or call its device, beside the workers and the scanner. While there are some, a worker
-    /// releases the lock after each turn of a series, and a round ends.
-    pub wanted: AtomicU64,
     /// Whether the scanner waits for the host's lock: 1 if it does. No series and no round ends for it.
     pub scanner_waits: AtomicU64,
     /// Room for the rounds of whichever worker has the host's lock.
@@ -58,7 +52,6 @@ impl Drop for Schedule {
             frame_wanted: _,
             offer_owed: _,
             turn_lock: _,
-            wanted: _,
             scanner_waits: _,
             round_room: _,
         } = self;
@@ -86,40 +79,13 @@ impl Schedule {
             frame_wanted: Condvar::new(),
             offer_owed: Condvar::new(),
             turn_lock: TurnLock::new(alloc, workers)?,
-            wanted: AtomicU64::new(0),
             scanner_waits: AtomicU64::new(0),
             round_room: Mutex::new(RoundRoom::new(alloc, MOST_AT_ONCE)?),
         })
     }
 
-    // The host's lock, or its device, is wanted.
-    pub(crate) fn begin_wanting(&self) {
-        let _ = self.wanted.fetch_add(1, Ordering::SeqCst);
-    }
-
-    // It is wanted no more by who wanted it.
-    pub(crate) fn end_wanting(&self) {
-        let _ = self.wanted.fetch_sub(1, Ordering::SeqCst);
-    }
-
-    // Whether somebody wants it.
-    pub(crate) fn is_wanted(&self) -> bool {
-        self.wanted.load(Ordering::SeqCst) > 0
-    }
-
-    // Who wants the host's lock, which is free, has some time to get it.
-    pub(crate) fn pause_while_wanted(&self) {
-        for _ in 0..LOOKS_WHILE_WANTED {
-            if !self.is_wanted() {
-                return;
-            }
-            hint::spin_loop();
-        }
-    }
-
-    // The same, and so has the scanner some more, which may have to be woken.
-    pub(crate) fn make_way(&self) {
-        self.pause_while_wanted();
+    // The scanner, where it waits for the host's lock, which is free, has some time to get it: it may have to be woken.
+    pub(crate) fn make_way_for_scanner(&self) {
         for _ in 0..LOOKS_WHILE_SCANNER_WAITS {
             if self.scanner_waits.load(Ordering::SeqCst) == 0 {
                 return;
@@ -191,9 +157,7 @@ impl<D: SwapDev + Drop, T: Ledger, C: Ledger, O: Ledger, E: Ledger, B: CellAgree
 > {
     // Whose step is made ready now, if one waits.
     fn next_waiter<R: Wait>(&self, rt: &R) -> Option<Waiter> {
-        self.schedule.begin_wanting();
         let locked = self.cell.lock(rt);
-        self.schedule.end_wanting();
         let mut run_queue = self.schedule.run_queue.lock(rt);
         run_queue.next_waiter(locked.host())
     }
@@ -211,11 +175,9 @@ impl<D: SwapDev + Drop, T: Ledger, C: Ledger, O: Ledger, E: Ledger, B: CellAgree
         let Some(waiter) = self.next_waiter(rt) else {
             return HelpOutcome::Waits;
         };
-        self.schedule.begin_wanting();
         let moved = self
             .cell
             .bring_nearer(rt, waiter.id, waiter.at_once, helper);
-        self.schedule.end_wanting();
         if self.note(rt, waiter.id, moved) {
             self.schedule.turn_completed.notify_all();
         }
@@ -290,9 +252,7 @@ impl<D: SwapDev + Drop, T: Ledger, C: Ledger, O: Ledger, E: Ledger, B: CellAgree
     // Chooses a turn of each that can go on and has none out. What comes then: `Rest` where none can go on any more, and no
     // turn is out.
     fn choose_all<R: Wait>(&mut self, rt: &R) -> Choice {
-        self.schedule.begin_wanting();
         let locked = self.cell.lock(rt);
-        self.schedule.end_wanting();
         let mut run_queue = self.schedule.run_queue.lock(rt);
         for _ in rt.forever() {
             let choice = run_queue.choose(locked.host());

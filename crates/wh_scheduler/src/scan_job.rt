@@ -89,7 +89,7 @@ impl<
     // Waits for the host's lock, and acquires it.
     fn lock<R: Wait>(&self, rt: &R) -> MutexGuard<'_, Locked<D, T, C, O, E, B>> {
         self.schedule.scanner_waits.store(1, Ordering::SeqCst);
-        let locked = self.cell.lock(rt);
+        let locked = self.cell.lock_to_work(rt);
         self.schedule.scanner_waits.store(0, Ordering::SeqCst);
         locked
     }

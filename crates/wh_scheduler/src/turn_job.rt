@@ -8,6 +8,7 @@ use crate::jobs::{Schedule, TURNS_FOR_AN_OFFER};
 use crate::round_room::{Aim, MOST_AT_ONCE};
 use crate::run_queue::Series;
 use std::alloc::{AllocError, Global};
+use std::hint;
 use std::sync::atomic::{AtomicU64, Ordering};
 use std::sync::ledger::Ledger;
 use std::sync::{Arc, Wait};
@@ -32,6 +33,9 @@ const TIMES_SHORTER: u32 = 8;
 
 // A round of fewer charges for each of its threads would take longer to begin than it saves.
 const FEWEST_CHARGES: u64 = 100_000;
+
+// So often a worker in the midst of a series, which has released the host's lock, looks whether who wants it has it now.
+const LOOKS_WHILE_WANTED: u32 = 16;
 
 // So many rounds series are in at most, before they are run one after the other.
 const MOST_ROUNDS: u32 = 1024;
@@ -158,6 +162,22 @@ impl<D: SwapDev + Drop, T: Ledger, C: Ledger, O: Ledger, E: Ledger, B: CellAgree
     B,
     X,
 > {
+    // Who wants the host's lock, which is free, has some time to get it.
+    fn pause_while_wanted(&self) {
+        for _ in 0..LOOKS_WHILE_WANTED {
+            if !self.cell.is_wanted() {
+                return;
+            }
+            hint::spin_loop();
+        }
+    }
+
+    // The same, and so has the scanner some more.
+    fn make_way(&self) {
+        self.pause_while_wanted();
+        self.schedule.make_way_for_scanner();
+    }
+
     // Runs these turns under one hold of the lock, one at least, until all are run or somebody wants the lock.
     fn hold<R: Wait>(
         &self,
@@ -172,10 +192,10 @@ impl<D: SwapDev + Drop, T: Ledger, C: Ledger, O: Ledger, E: Ledger, B: CellAgree
             ≡ worker.old.tally.turns + order.old.count }
         ensures fewer { order.new.count < order.old.count }
     {
-        let mut locked = self.cell.lock(rt);
+        let mut locked = self.cell.lock_to_work(rt);
         let mut last = locked.turn(order, worker);
         let mut is_of_use = has_done(last);
-        while order.count() > 0 && !self.schedule.is_wanted() {
+        while order.count() > 0 && !self.cell.is_wanted() {
             last = locked.turn(order, worker);
             is_of_use = is_of_use && has_done(last);
         }
@@ -205,7 +225,7 @@ impl<D: SwapDev + Drop, T: Ledger, C: Ledger, O: Ledger, E: Ledger, B: CellAgree
                 is_of_use: end.is_of_use && held.is_of_use,
             };
             if order.count() > 0 {
-                self.schedule.pause_while_wanted();
+                self.pause_while_wanted();
             }
         }
         order.finish();
@@ -259,14 +279,14 @@ impl<D: SwapDev + Drop, T: Ledger, C: Ledger, O: Ledger, E: Ledger, B: CellAgree
         ensures turns { worker.new.tally.turns + turns_due orders.new
             ≡ worker.old.tally.turns + turns_due orders.old }
     {
-        let mut locked = self.cell.lock(rt);
+        let mut locked = self.cell.lock_to_work(rt);
         let mut at = from;
         while at < orders.len() {
             if orders[at].count() <= few || locked.turn(&mut orders[at], worker) != TurnEnd::Again {
                 return (at, true);
             }
             at += 1;
-            if self.schedule.is_wanted() {
+            if self.cell.is_wanted() {
                 return (at, false);
             }
         }
@@ -295,7 +315,7 @@ impl<D: SwapDev + Drop, T: Ledger, C: Ledger, O: Ledger, E: Ledger, B: CellAgree
                 let order = orders.swap_remove(at);
                 self.run(rt, order, group, worker);
             } else {
-                self.schedule.pause_while_wanted();
+                self.pause_while_wanted();
             }
         }
     }
@@ -325,12 +345,12 @@ impl<
         if orders.len() > MOST_AT_ONCE || worker.is_full() {
             return false;
         }
-        let Some(aim) = aim_of(orders, self.workers, &self.schedule.wanted) else {
+        let Some(aim) = aim_of(orders, self.workers, self.cell.wanted()) else {
             return false;
         };
         let fork = AtOnce::new(&*self.threads, self.workers.max(1));
-        self.schedule.pause_while_wanted();
-        let mut locked = self.cell.lock(rt);
+        self.pause_while_wanted();
+        let mut locked = self.cell.lock_to_work(rt);
         let mut room = self.schedule.round_room.lock(rt);
         room.run(&fork, &mut locked, orders, aim, worker)
     }
@@ -355,7 +375,7 @@ impl<
             if !self.run_round(rt, orders, worker) {
                 return;
             }
-            self.schedule.make_way();
+            self.make_way();
         }
     }
 }
@@ -405,7 +425,7 @@ impl<
     fn run_all<R: Wait>(&self, rt: &R, orders: &mut Vec<ReceivedTurns>, worker: &mut Worker<T, C>) {
         let turns = self.note_received(orders);
         if turns >= TURNS_FOR_AN_OFFER {
-            self.schedule.make_way();
+            self.make_way();
         }
         let mut group = ALONE;
         let are_several = orders.len() > 1;

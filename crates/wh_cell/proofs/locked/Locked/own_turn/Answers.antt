@@ -1,7 +1,7 @@
-use Rattle.std.proofs.Common.{◌≡◌, ◌+◌, ℕ, ap, subst}
-use Rattle.wh_host_model.specs.Host.Happens.{IsTurn}
+use Rattle.std.proofs.Common.{◌≡◌, ◌+◌, ap, subst}
 use Rattle.wh_host_model.specs.Host.Worlds.{World}
-use Rattle.wh_host.specs.Hosting.{HostState, IsHost}
+use Rattle.wh_host.specs.Hosting.{IsHost}
+use Rattle.wh_cell.specs.Going.{TurnsIfGoing}
 use Rattle.wh_cell.specs.LeftByOwner.{HasTakenOn}
 use Rattle.wh_cell.specs.Locking.{BooksState, LockedState}
 use Rattle.wh_cell.proofs.Steps.{turned_in_step}
@@ -15,7 +15,7 @@ invariant_of-self g c =
 pub returns-clause-turns : goal.returns-clause-turns
 returns-clause-turns g c =
     let t = c.counted_turn-end in
-    subst (λ (l : LockedState g.row.D.Denot). ((w : World) → IsHost l.host w → (w2 : World) × IsTurn w c.args.id c.args.quantum t.result.0 w2 × IsHost t.new.host w2)) c.self.view_is t.ensures.turns
+    subst (λ (l : LockedState g.row.D.Denot). ((w : World) → IsHost l.host w → (w2 : World) × TurnsIfGoing w c.args.id c.args.quantum t.result.0 w2 × IsHost t.new.host w2)) c.self.view_is t.ensures.turns
 
 pub returns-clause-counted : goal.returns-clause-counted
 returns-clause-counted g c =

@@ -1,8 +1,8 @@
 use Rattle.std.proofs.Common.{◌≡◌, ◌+◌, ℕ, ap, subst}
 use Rattle.wh_host_model.specs.declared.plain.InstId.{InstId}
-use Rattle.wh_host_model.specs.Host.Happens.{IsTurn}
 use Rattle.wh_host_model.specs.Host.Worlds.{World}
 use Rattle.wh_host.specs.Hosting.{HostState, IsHost}
+use Rattle.wh_cell.specs.Going.{TurnsIfGoing}
 use Rattle.wh_cell.specs.LeftByOwner.{HasTakenOn}
 use Rattle.wh_cell.specs.Locking.{BooksState, LockedState}
 use Rattle.wh_cell.proofs.Steps.{turned_in_step}
@@ -16,7 +16,7 @@ invariant_of-self g c =
 pub returns-clause-turns : goal.returns-clause-turns
 returns-clause-turns g c =
     let t = c.counted_turn-end in
-    let of : HostState → InstId → ℕ → Type 0 = λ h id q. ((w : World) → IsHost h w → (w2 : World) × IsTurn w id q t.result.0 w2 × IsHost t.new.host w2) in
+    let of : HostState → InstId → ℕ → Type 0 = λ h id q. ((w : World) → IsHost h w → (w2 : World) × TurnsIfGoing w id q t.result.0 w2 × IsHost t.new.host w2) in
     let here : of c.args.self.now.host c.instance-instance.result c.quantum-quantum.result =
     subst (λ (l : LockedState g.row.D.Denot). of l.host c.instance-instance.result c.quantum-quantum.result) c.self.view_is t.ensures.turns in
     subst (λ q. of c.args.self.now.host c.args.order.now.instance q) c.quantum-quantum.ensures

@@ -1,7 +1,7 @@
 use Rattle.std.proofs.Common.{sym, subst}
 use Rattle.wh_host_model.specs.Space.Laws.{IsProvided}
 use Rattle.wh_cell.specs.Locking.{IsInStep, LockedState}
-use Rattle.wh_cell.proofs.cell.HostCell.bring_nearer.Goals as goal
+use Rattle.wh_cell.proofs.cell.HostCell.move_nearer.Goals as goal
 
 pub returns-in-Ok-clause-ready : goal.returns-in-Ok-clause-ready
 returns-in-Ok-clause-ready g c is =
@@ -9,7 +9,7 @@ returns-in-Ok-clause-ready g c is =
       before,
       c.deref-2.result.now,
       subst (IsInStep g.D.SwapDev.held g.D.SwapDev.keeps g.D.SwapDev.honest g.D.SwapDev.faults)
-          (sym c.deref_mut-2.ensures.value) c.lock-locked.ensures,
+          (sym c.deref_mut-2.ensures.value) c.lock_to_work-locked.ensures,
       c.invariant.ensures,
       λ need waits. (
         c.in-Ok.field-0,
