@@ -118,13 +118,13 @@ places_of e = map (λ (x : NamedInstance). x.id.place) e.instances
 one_run : (faults : List ℕ) (k : ℕ) (x : NamedInstance) (g r : script.NamedInstance) → RunsAmid faults g r → IsNamedInstance k x g → IsNamedInstance k x r
 one_run faults k x g _ (gone_still gone) is = is
 one_run faults k x g _ (stands_still live stands) is = is
-one_run faults k x g _ (runs_on live come replay rest) is =
+one_run faults k x g _ (runs_on live faultless come replay rest) is =
     record { number = is.number; name = is.name; starts = is.starts; released = is.released; last_printed = is.last_printed }
 
 name_run : (faults : List ℕ) (g r : script.NamedInstance) → RunsAmid faults g r → r.name ≡ g.name
 name_run faults g _ (gone_still gone) = refl
 name_run faults g _ (stands_still live stands) = refl
-name_run faults g _ (runs_on live come replay rest) = refl
+name_run faults g _ (runs_on live faultless come replay rest) = refl
 
 run_keeps : (faults : List ℕ) (k : ℕ) (xs : List NamedInstance) (gs run : List script.NamedInstance) → ZipAmid RunsAmid faults gs run → AreNamedInstances k xs gs → AreNamedInstances k xs run
 run_keeps faults k [] [] [] all are = tt

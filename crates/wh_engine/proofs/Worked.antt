@@ -1,20 +1,20 @@
 -- Work brings the calls of a script's instances further.
 use Rattle.std.proofs.Common.{◌≡◌, ℕ, List, [], ◌∷◌, ◌++◌, Option, None, Some, ap, refl, sym, subst, ◌∙◌, arith, map, inl, inr, append-nil, append_assoc}
-use Rattle.std.specs.List.{AllByRecursion, Contains}
+use Rattle.std.specs.List.{Contains}
 use Rattle.wh_host_model.specs.declared.Tax.{Tax}
 use Rattle.wh_host_model.specs.declared.plain.InstId.{InstId}
 use Rattle.wh_host_model.specs.declared.plain.SwapError.{SwapError}
 use Rattle.wh_host_model.specs.Space.Parts.{claim}
 use Rattle.wh_host_model.specs.Host.Events.{Event, turn, load, admit, invoke, refuel, cancel, retry, release, offer, evict_begin, evict_commit, fetch_begin, fetch_commit, provide, epoch}
-use Rattle.wh_host_model.specs.Host.Happens.{AllHappen, AwaitsFrame, AwaitsFrameFor, Happens, MovesPages, OnlyMoves, has_failed, moved}
+use Rattle.wh_host_model.specs.Host.Happens.{AwaitsFrame, AwaitsFrameFor, Happens, MovesPages, OnlyMoves, has_failed, moved}
 use Rattle.wh_host_model.specs.Host.Worlds.{Tenant, World, for_device, journal, journal_calls, with_tenant}
 use Rattle.wh_script_model.specs.ScriptState.{ScriptState, NamedInstance}
 use Rattle.wh_script_model.specs.Settings.{Settings}
 use Rattle.wh_host_model.proofs.Host.Holding.{memory_is_sound}
 use Rattle.wh_host.specs.Hosting.{IsReached}
 use Rattle.wh_host.proofs.Hosts.{reached_on}
-use Rattle.wh_cell.specs.Going.{IsWork, WorksTo, fault_in, fault_or_none, faults_in, IsPartOf}
-use Rattle.wh_script_laws.specs.Following.{AreRunAmid, ComeFurther, IsRunAmid, RunsKnown, StaysWhole, is_there, IsPlaced, StandsAmid}
+use Rattle.wh_cell.specs.Going.{AllWork, IsWork, WorksTo, fault_in, fault_or_none, faults_in, IsPartOf}
+use Rattle.wh_script_laws.specs.Following.{AreRunAmid, ComeFurther, IsRunAmid, RunsKnown, StaysWhole, is_there, IsPlaced, StandsAmid, device_fault}
 use Rattle.wh_script_model.specs.Failing.{AreMixed, none_left, one_own, one_other, ZipAmid}
 use Rattle.wh_script_laws.proofs.Drains.{moved_followed, moved_run}
 use Rattle.wh_script_laws.proofs.Mixing.{mixed_others, zip_given, zip_more}
@@ -22,7 +22,7 @@ use Rattle.wh_script_laws.proofs.Sums.{claims_decide}
 use Rattle.wh_script_laws.proofs.Turning.{AreFollowed, AreFollowedOn, turn_followed, zip_set}
 use Rattle.wh_host_model.specs.SwapFaults.{swap_number}
 use Rattle.wh_script_model.specs.Served.{IsTenantOf}
-use Rattle.std.proofs.lemmas.Option.{same_Some}
+use Rattle.std.proofs.lemmas.Option.{none-some, same_Some}
 
 -- ---- faults by their numbers
 
@@ -85,10 +85,11 @@ moves_followed met w w2 m places moves h =
       sound = moves.1.1;
     })
 
--- where a device has failed, the fault is kept with who waits
-failed_followed : (w w2 : World) (t : Tenant) (e : SwapError) → w2.modules ≡ w.modules → (own : List ℕ) (g : NamedInstance)
+-- where a device has failed, the fault is kept with who waits, and stood for none
+failed_followed : (w w2 : World) (t : Tenant) (e : SwapError) → w2.modules ≡ w.modules → AwaitsFrame t → (own : List ℕ) (g : NamedInstance)
     → IsRunAmid w own g (Some t) → IsRunAmid w2 (swap_number e ∷ own) g (Some (record t { waiting_for = Some (for_device e) }))
-failed_followed w w2 t e same own g (is_there of_one further stands) =
+failed_followed w w2 t e same waits own g (is_there of_one further (inr (was, stood, yet, still))) = absurd (none-some was (sym (ap device_fault waits) ∙ yet))
+failed_followed w w2 t e same waits own g (is_there of_one further (inl stands)) =
     let t2 : Tenant = record t { waiting_for = Some (for_device e) } in
     let of_one2 : IsTenantOf w2 t2 g = record {
       loaded = of_one.loaded;
@@ -99,7 +100,7 @@ failed_followed w w2 t e same own g (is_there of_one further stands) =
       is_live = of_one.is_live;
       calls = of_one.calls;
     } in
-    is_there of_one2 further (λ fault is. inl (subst (Contains (swap_number e ∷ own)) (same_Some (swap_number e) fault is) first)) where
+    is_there of_one2 further (inl (stands.0, λ fault is. subst (Contains (swap_number e ∷ own)) (same_Some (swap_number e) fault is) first)) where
       first : Contains (swap_number e ∷ own) (swap_number e)
       first = (0, omega arith, refl)
 
@@ -117,18 +118,18 @@ more_followed met w w2 m places (Some e) h = record {
   sound = h.sound;
 }
 
-pages_followed : (met : List ℕ) (w w2 : World) (m : ScriptState) (places : List ℕ) (id : InstId) (awaits : Tenant → Type 0) (fault : Option SwapError)
+pages_followed : (met : List ℕ) (w w2 : World) (m : ScriptState) (places : List ℕ) (id : InstId) (awaits : Tenant → Type 0) (fault : Option SwapError) → ((t : Tenant) → awaits t → AwaitsFrame t)
     → MovesPages w id awaits fault w2 → AreFollowed met w m places → AreFollowedOn (numbers (fault_or_none fault) ++ met) w w2 m places
-pages_followed met w _ m places id awaits fault (moved {s2 = s2} alone why) h =
+pages_followed met w _ m places id awaits fault waits (moved {s2 = s2} alone why) h =
     more_followed met w (record w { space = s2 }) m places fault (moves_followed met w (record w { space = s2 }) m places (s2, alone, refl) h)
-pages_followed met w _ m places id awaits fault (has_failed {t = t} {e = e} {s2 = s2} alone is live awaited) h =
+pages_followed met w _ m places id awaits fault waits (has_failed {t = t} {e = e} {s2 = s2} alone is live awaited) h =
     let t2 : Tenant = record t { waiting_for = Some (for_device e) } in
     let after = with_tenant w id.number (Some t2) s2 in
     subst (λ o. AreFollowedOn (numbers (fault_or_none o) ++ met) w after m places) (sym is)
     (record {
       are = record {
         modules = h.modules;
-        instances = zip_given (IsRunAmid w) (IsRunAmid after) (swap_number e) t t2 (λ own. moved_followed ComeFurther (StandsAmid own) w after refl) (failed_followed w after t e refl) met m.instances w.tenants id.number live.0 h.instances;
+        instances = zip_given (IsRunAmid w) (IsRunAmid after) (swap_number e) t t2 (λ own. moved_followed ComeFurther (StandsAmid own) w after refl) (failed_followed w after t e refl (waits t awaited)) met m.instances w.tenants id.number live.0 h.instances;
         placed = zip_set IsPlaced IsPlaced t t2 (λ place o at. at) (λ place at. at) places w.tenants id.number live.0 h.placed;
       };
       claims = λ j. (alone.0 j).claim;
@@ -137,10 +138,10 @@ pages_followed met w _ m places id awaits fault (has_failed {t = t} {e = e} {s2 
 
 -- ---- work
 
-event_followed : (met : List ℕ) (w w2 : World) (m : ScriptState) (places : List ℕ) (e : Event) → IsReached w → IsWork e → Happens w e w2 → AreFollowed met w m places
+event_followed : (met : List ℕ) (w w2 : World) (m : ScriptState) (places : List ℕ) (e : Event) → IsReached w → IsWork w e → Happens w e w2 → AreFollowed met w m places
     → AreFollowedOn (numbers (fault_in e) ++ met) w w2 m places
 event_followed met w w2 m places (turn id q) r work happens h =
-    turn_followed r.frames r.slots r.tax r.events w r.happen met m places id q happens.0 w2 h happens.1
+    turn_followed r.frames r.slots r.tax r.events w r.happen met m places id q work.0 happens.0 w2 h work.1 work.2 happens.1
 event_followed met w w2 m places (load bytes) r work happens h = absurd work
 event_followed met w w2 m places (admit of p) r work happens h = absurd work
 event_followed met w w2 m places (invoke id name given fuel) r work happens h = absurd work
@@ -150,10 +151,10 @@ event_followed met w w2 m places (retry id) r work happens h = absurd work
 event_followed met w w2 m places (release id) r work happens h = absurd work
 event_followed met w w2 m places (offer page hash) r work happens h = moves_followed met w w2 m places happens h
 event_followed met w w2 m places (evict_begin id) r work happens h = moves_followed met w w2 m places happens h
-event_followed met w w2 m places (evict_commit id call fault) r work happens h = pages_followed met w w2 m places id (AwaitsFrameFor call) fault happens h
+event_followed met w w2 m places (evict_commit id call fault) r work happens h = pages_followed met w w2 m places id (AwaitsFrameFor call) fault (λ t awaits. awaits.0) happens h
 event_followed met w w2 m places (fetch_begin id) r work happens h = moves_followed met w w2 m places happens h
-event_followed met w w2 m places (fetch_commit id call fault) r work happens h = pages_followed met w w2 m places id (AwaitsFrameFor call) fault happens h
-event_followed met w w2 m places (provide id fault) r work happens h = pages_followed met w w2 m places id AwaitsFrame fault happens h
+event_followed met w w2 m places (fetch_commit id call fault) r work happens h = pages_followed met w w2 m places id (AwaitsFrameFor call) fault (λ t awaits. awaits.0) happens h
+event_followed met w w2 m places (provide id fault) r work happens h = pages_followed met w w2 m places id AwaitsFrame fault (λ t awaits. awaits) happens h
 event_followed met w w2 m places epoch r work happens h = absurd work
 
 -- ---- one after the other
@@ -164,16 +165,16 @@ pub record HasWorked (met : List ℕ) (w w2 : World) (m : ScriptState) (places :
   pub are : AreFollowed met w2 m places
   pub claims : (j : ℕ) → claim w2.space j ≡ claim w.space j
 
-works_followed : (met : List ℕ) (w w2 : World) (m : ScriptState) (places : List ℕ) (es : List Event) → IsReached w → AllByRecursion IsWork es → AllHappen w es w2 → AreFollowed met w m places
+works_followed : (met : List ℕ) (w w2 : World) (m : ScriptState) (places : List ℕ) (es : List Event) → IsReached w → AllWork w es w2 → AreFollowed met w m places
     → HasWorked (numbers (faults_in es) ++ met) w w2 m places
-works_followed met w w2 m places [] r work happen h =
-    subst (λ v. HasWorked met w v m places) (sym happen) (record { reached = r; are = h; claims = λ j. refl })
-works_followed met w w2 m places (e ∷ es) r work happen h =
-    let mid = happen.0 in
+works_followed met w w2 m places [] r work h =
+    subst (λ v. HasWorked met w v m places) (sym work) (record { reached = r; are = h; claims = λ j. refl })
+works_followed met w w2 m places (e ∷ es) r work h =
+    let mid = work.0 in
     let now = numbers (fault_in e) in
     let later = numbers (faults_in es) in
-    let first = event_followed met w mid m places e r work.0 happen.1 h in
-    let rest = works_followed (now ++ met) mid w2 m places es (reached_on w mid e r happen.1) work.1 happen.2 first.are in
+    let first = event_followed met w mid m places e r work.1 work.2 h in
+    let rest = works_followed (now ++ met) mid w2 m places es (reached_on w mid e r work.2) work.3 first.are in
     let all : later ++ (now ++ met) ≡ numbers (faults_in es ++ fault_in e) ++ met =
     sym (append_assoc later now met) ∙ ap (λ xs. xs ++ met) (sym (numbers_both (faults_in es) (fault_in e))) in
     subst (λ faults. HasWorked faults w w2 m places) all
@@ -184,7 +185,7 @@ pub works_known : (more : List SwapError) (settings : Settings) (w w2 : World) (
     → RunsKnown [] settings w m places → IsReached w2 × RunsKnown (map swap_number more) settings w2 m places
 works_known more settings w w2 m places r works whole h =
     let met = numbers (faults_in works.events) in
-    let did = works_followed [] w w2 m places works.events r works.work works.happen (record { modules = h.modules; instances = h.instances; placed = h.placed }) in
+    let did = works_followed [] w w2 m places works.events r works.work (record { modules = h.modules; instances = h.instances; placed = h.placed }) in
     let run = subst (λ faults. AreRunAmid faults w2 m.instances w2.tenants) (append-nil met) did.are.instances in
     let r2 = did.reached in
     let sound = memory_is_sound r.frames r.slots r.tax r.events w r.happen in

@@ -1,6 +1,7 @@
 -- Drains: where they begin, moves of pages, and what is said at the end.
 use Rattle.std.proofs.Common.{◌≡◌, ℕ, suc, ◌+◌, ◌-◌, ◌⊎◌, ⊎_elim, inl, inr, Bool, true, false, List, [], ◌∷◌, Option, Some, None, get_or, refl, sym, ap, subst, ◌∙◌, arith}
-use Rattle.std.specs.List.{AllZip, Contains}
+use Rattle.std.proofs.lemmas.Option.{none-some}
+use Rattle.std.specs.List.{AllZip}
 use Rattle.wh_model.specs.Execution.Replay.{Outcome, cancelled, Call}
 use Rattle.wh_host_model.specs.declared.Tax.{Tax}
 use Rattle.wh_host_model.specs.Space.Parts.{Space, minima, spreads}
@@ -75,9 +76,17 @@ both_further = zip_both ComesTo LosesNothing
 
 -- ---- a drain begins
 
+none_or_some : (o : Option ℕ) → (o ≡ None) ⊎ ((fault : ℕ) × (o ≡ Some fault))
+none_or_some None = inl refl
+none_or_some (Some fault) = inr (fault, refl)
+
 begins_so : (w : World) (g : NamedInstance) (o : Option Tenant) → IsFollowed AreSame IsAtSameFault w g o → IsRunAmid w [] g o
 begins_so w g (Some t) (is_there of_one same stands) =
-    is_there of_one (subst (λ cs. ComeFurther g.calls cs) same (go_nowhere g.calls)) (λ fault e. inr (stands ∙ e, same))
+    is_there of_one (subst (λ cs. ComeFurther g.calls cs) same (go_nowhere g.calls))
+    (⊎_elim
+    (λ (none : g.at_fault ≡ None). inl (none, λ fault e. absurd (none-some fault (sym none ∙ stands ∙ e))))
+    (λ (some : (fault : ℕ) × (g.at_fault ≡ Some fault)). inr (some.0, some.1, sym stands ∙ some.1, same))
+    (none_or_some g.at_fault))
 begins_so w g None (is_gone gone) = is_gone gone
 
 pub drains_begin : DrainsBegin
@@ -282,29 +291,29 @@ all_run faults w (g ∷ gs) (o ∷ ts) so_far h =
 -- ---- whom no turn brings further
 
 -- who has been run alone stands for no fault
-from_alone : (faults : List ℕ) (g : NamedInstance) (t : Tenant) (g2 : NamedInstance) → g2 ≡ record g { calls = journal_calls (journal t) } → RunsAlone g g2 → g.is_released ≡ false
+from_alone : (faults : List ℕ) (g : NamedInstance) (t : Tenant) (g2 : NamedInstance) → g2 ≡ record g { calls = journal_calls (journal t) } → RunsAlone g g2 → g.is_released ≡ false → g.at_fault ≡ None
     → RunsAmid faults g (record g { calls = journal_calls (journal t); at_fault = None })
-from_alone faults g t _ e (drains.is_gone gone) live = absurd (cc (gone, live))
-from_alone faults g t _ e (drains.has_run {calls = calls} alive come replay rest) live =
+from_alone faults g t _ e (drains.is_gone gone) live faultless = absurd (cc (gone, live))
+from_alone faults g t _ e (drains.has_run {calls = calls} alive come replay rest) live faultless =
     let same : calls ≡ journal_calls (journal t) = ap (λ (x : NamedInstance). x.calls) e in
-    subst (λ (cs : List Call). RunsAmid faults g (record g { calls = cs; at_fault = None })) same (runs_on live come replay (rests_alone rest))
+    subst (λ (cs : List Call). RunsAmid faults g (record g { calls = cs; at_fault = None })) same (runs_on live faultless come replay (rests_alone rest))
 
 served_so : (faults : List ℕ) (g : NamedInstance) (t : Tenant) → RunsAlone g (record g { calls = journal_calls (journal t) }) → g.is_released ≡ false → device_fault t.waiting_for ≡ None
-    → RunsAmid faults g (run_guest g (Some t))
-served_so faults g t alone live none =
+    → StandsAmid faults g t → RunsAmid faults g (run_guest g (Some t))
+served_so faults g t alone live none (inl stands) =
     subst (λ (o : Option ℕ). RunsAmid faults g (record g { calls = journal_calls (journal t); at_fault = o })) (sym none)
-    (from_alone faults g t (record g { calls = journal_calls (journal t) }) refl alone live)
+    (from_alone faults g t (record g { calls = journal_calls (journal t) }) refl alone live stands.0)
+served_so faults g t alone live none (inr (other, was, is, same)) = absurd (none-some other (sym none ∙ is))
 
 -- who waits for a device has met one of the faults, or stands still
 stopped_so : (faults : List ℕ) (w : World) (g : NamedInstance) (t : Tenant) (fault : ℕ) → IsTenantOf w t g → IsStuck w t g → device_fault t.waiting_for ≡ Some fault
-    → AllZip LosesNothing g.calls (journal_calls (journal t))
-    → Contains faults fault ⊎ ((g.at_fault ≡ Some fault) × (g.calls ≡ journal_calls (journal t))) → RunsAmid faults g (run_guest g (Some t))
-stopped_so faults w g t fault of_one stuck is lost (inl met) =
+    → AllZip LosesNothing g.calls (journal_calls (journal t)) → StandsAmid faults g t → RunsAmid faults g (run_guest g (Some t))
+stopped_so faults w g t fault of_one stuck is lost (inl stands) =
     subst (λ (o : Option ℕ). RunsAmid faults g (record g { calls = journal_calls (journal t); at_fault = o })) (sym is)
-    (runs_on of_one.is_live of_one.calls stuck.replay (meets_fault stuck.call stuck.first stuck.needs lost met))
-stopped_so faults w g t fault of_one stuck is lost (inr still) =
-    subst (λ (o : Option ℕ). RunsAmid faults g (record g { calls = journal_calls (journal t); at_fault = o })) (still.0 ∙ sym is)
-    (subst (λ (cs : List Call). RunsAmid faults g (record g { calls = cs })) still.1 (stands_still of_one.is_live still.0))
+    (runs_on of_one.is_live stands.0 of_one.calls stuck.replay (meets_fault stuck.call stuck.first stuck.needs lost (stands.1 fault is)))
+stopped_so faults w g t fault of_one stuck is lost (inr (was, stood, yet, same)) =
+    subst (λ (o : Option ℕ). RunsAmid faults g (record g { calls = journal_calls (journal t); at_fault = o })) (stood ∙ sym yet)
+    (subst (λ (cs : List Call). RunsAmid faults g (record g { calls = cs })) same (stands_still of_one.is_live stood))
 
 no_device : (t : Tenant) → (t.open_calls ≡ [] → t.waiting_for ≡ None) → GoesNoFurther t → device_fault t.waiting_for ≡ None
 no_device t rests (inl none) = ap device_fault (rests none)
@@ -319,10 +328,10 @@ drains_end frames slots tax events w happens faults settings m places h served =
     let so_far : (i : ℕ) (t : Tenant) → get_or w.tenants i None ≡ Some t → RunSoFar w t = λ i t there own g of_one further stands.
     let lost = (both_further g.calls (journal_calls (journal t)) further).1 in
     ⊎_elim
-    (λ (no_further : GoesNoFurther t). served_so own g t (alone i t g there no_further of_one) of_one.is_live (no_device t (rests i t there) no_further))
+    (λ (no_further : GoesNoFurther t). served_so own g t (alone i t g there no_further of_one) of_one.is_live (no_device t (rests i t there) no_further) stands)
     (λ (device : StandsForDevice t).
     let is : device_fault t.waiting_for ≡ Some (swap_number device.0) = ap device_fault device.1 in
-    stopped_so own w g t (swap_number device.0) of_one (stuck i t g device.0 there device.1 of_one) is lost (stands (swap_number device.0) is))
+    stopped_so own w g t (swap_number device.0) of_one (stuck i t g device.0 there device.1 of_one) is lost stands)
     (served i t there) in
     let have = all_run faults w m.instances w.tenants so_far h.instances in (
       run,

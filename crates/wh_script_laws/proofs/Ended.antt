@@ -169,7 +169,7 @@ pub run_ended : (faults : List ℕ) (g r : NamedInstance) (place : ℕ) (c c2 : 
     → HasEndedSo g place c last_printed → HasEndedSo r place c2 last_printed
 run_ended faults g _ place c c2 last_printed (gone_still gone) at at2 was = subst (λ (d : Call). HasEndedSo g place d last_printed) (same_Some c c2 (sym at ∙ at2)) was
 run_ended faults g _ place c c2 last_printed (stands_still live stands) at at2 was = subst (λ (d : Call). HasEndedSo g place d last_printed) (same_Some c c2 (sym at ∙ at2)) was
-run_ended faults g _ place c c2 last_printed (runs_on {calls = calls} {at_fault = stands} live come replay rest) at at2 was =
+run_ended faults g _ place c c2 last_printed (runs_on {calls = calls} {at_fault = stands} live faultless come replay rest) at at2 was =
     stays_ended g (record g { calls = calls; at_fault = stands }) place c c2 last_printed live
     (λ closed. same_Some c2 c (sym at2 ∙ run_changes g.calls calls come place c at closed)) was
 
@@ -177,12 +177,12 @@ run_ended faults g _ place c c2 last_printed (runs_on {calls = calls} {at_fault 
 pub run_start : (faults : List ℕ) (g r : NamedInstance) → RunsAmid faults g r → (HasStart r → HasStart g) × (r.last_printed ≡ g.last_printed)
 run_start faults g _ (gone_still gone) = (λ has. has, refl)
 run_start faults g _ (stands_still live stands) = (λ has. has, refl)
-run_start faults g _ (runs_on live come replay rest) = (λ has. has, refl)
+run_start faults g _ (runs_on live faultless come replay rest) = (λ has. has, refl)
 
 pub run_starts_first : (faults : List ℕ) (g r : NamedInstance) → RunsAmid faults g r → StartsFirst g.calls → StartsFirst r.calls
 run_starts_first faults g _ (gone_still gone) first = first
 run_starts_first faults g _ (stands_still live stands) first = first
-run_starts_first faults g _ (runs_on {calls = calls} {z = z} live come replay rest) first = starts_first_replayed g.m _ calls z replay
+run_starts_first faults g _ (runs_on {calls = calls} {z = z} live faultless come replay rest) first = starts_first_replayed g.m _ calls z replay
 
 -- ---- it is said how a start is
 

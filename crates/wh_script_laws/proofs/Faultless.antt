@@ -40,14 +40,14 @@ with_one P (y ∷ xs) (suc i) x h p = (h.0, with_one P xs i x h.1 p)
 amid_alone : (g g2 : NamedInstance) → IsAtNoFault g → RunsAmid [] g g2 → RunsAlone g g2
 amid_alone g _ none (gone_still gone) = drains.is_gone gone
 amid_alone g _ none (stands_still {fault = fault} live stands) = absurd (none-some fault (sym none ∙ stands))
-amid_alone g _ none (runs_on {calls = calls} live come replay (rests_alone rest)) =
+amid_alone g _ none (runs_on {calls = calls} live faultless come replay (rests_alone rest)) =
     subst (λ (o : Option ℕ). RunsAlone g (record g { calls = calls; at_fault = o })) none (drains.has_run live come replay rest)
-amid_alone g _ none (runs_on live come replay (meets_fault c first needs lost met)) = let bad = met.1 in absurd (omega (arith, bad))
+amid_alone g _ none (runs_on live faultless come replay (meets_fault c first needs lost met)) = let bad = met.1 in absurd (omega (arith, bad))
 
 alone_amid : (g g2 : NamedInstance) → IsAtNoFault g → RunsAlone g g2 → RunsAmid [] g g2
 alone_amid g _ none (drains.is_gone gone) = gone_still gone
 alone_amid g _ none (drains.has_run {calls = calls} live come replay rest) =
-    subst (λ (o : Option ℕ). RunsAmid [] g (record g { calls = calls; at_fault = o })) (sym none) (runs_on live come replay (rests_alone rest))
+    subst (λ (o : Option ℕ). RunsAmid [] g (record g { calls = calls; at_fault = o })) (sym none) (runs_on live none come replay (rests_alone rest))
 
 alone_for_none : (g g2 : NamedInstance) → IsAtNoFault g → RunsAlone g g2 → IsAtNoFault g2
 alone_for_none g _ none (drains.is_gone gone) = none

@@ -172,13 +172,13 @@ ran_at faults (y ∷ gs) (x ∷ run) (suc j) g all e = ran_at all.1 gs run j g a
 run_places : (faults : List ℕ) (g r : NamedInstance) → RunsAmid faults g r → KeepsPlaces g.calls r.calls
 run_places faults g _ (gone_still gone) = places_stay g.calls
 run_places faults g _ (stands_still live stands) = places_stay g.calls
-run_places faults g _ (runs_on {calls = calls} live come replay rest) = zip_places g.calls calls come
+run_places faults g _ (runs_on {calls = calls} live faultless come replay rest) = zip_places g.calls calls come
 
 -- who is released then was so, and has the same calls
 gone_before : (faults : List ℕ) (g r : NamedInstance) → RunsAmid faults g r → IsReleased r → r ≡ g
 gone_before faults g _ (gone_still gone) released = refl
 gone_before faults g _ (stands_still live stands) released = refl
-gone_before faults g _ (runs_on live come replay rest) released = absurd (cc (live, released))
+gone_before faults g _ (runs_on live faultless come replay rest) released = absurd (cc (live, released))
 
 pub runs_well : (faults : List ℕ) (m : ScriptState) (run : List NamedInstance) → IsWellMade m → ZipAmid RunsAmid faults m.instances run → IsWellMade (record m { instances = run })
 runs_well faults m run h all = record {
@@ -393,7 +393,7 @@ says_well m starts calls instances invoked h print_starts print_calls =
 run_name : (faults : List ℕ) (g r : NamedInstance) → RunsAmid faults g r → r.name ≡ g.name
 run_name faults g _ (gone_still gone) = refl
 run_name faults g _ (stands_still live stands) = refl
-run_name faults g _ (runs_on live come replay rest) = refl
+run_name faults g _ (runs_on live faultless come replay rest) = refl
 
 said_name : (g g2 : NamedInstance) (here : List Reply) → PrintsStart g here g2 → g2.name ≡ g.name
 said_name g _ here (has_none p q) = refl

@@ -1,12 +1,12 @@
--- Faults stop few, and bring no call back.
-use Rattle.std.proofs.Common.{◌≡◌, ◌≤◌, ℕ, ◌+◌, List, [], ◌∷◌, length, Option, Some, None, refl, arith}
+-- Faults stop few, and bring no call back; and who stands for one goes on only where it is tried again.
+use Rattle.std.proofs.Common.{◌≡◌, ◌≤◌, ◌∙◌, ℕ, ◌+◌, List, [], ◌∷◌, length, Option, Some, None, refl, sym, arith}
 use Rattle.std.proofs.lemmas.Option.{none-some}
 use Rattle.std.specs.List.{AllZip}
 use Rattle.wh_model.specs.Execution.Replay.{Call, Standing}
 use Rattle.wh_model.specs.Execution.Store.{Instance}
 use Rattle.wh_script_model.specs.ScriptState.{NamedInstance}
 use Rattle.wh_script_model.specs.Failing.{LosesNothing, RestsAmid, rests_alone, meets_fault, RunsAmid, gone_still, stands_still, runs_on, AreMixed, none_left, one_own, one_other}
-use Rattle.wh_script_laws.specs.Failures.{newly_stopped, NoCallGoesBack, FaultsStopFew}
+use Rattle.wh_script_laws.specs.Failures.{newly_stopped, NoCallGoesBack, NoneGoesOnUnasked, FaultsStopFew}
 
 loses_none : (calls : List Call) → AllZip LosesNothing calls calls
 loses_none [] = tt
@@ -20,8 +20,13 @@ rest_loses_none faults inst before calls z _ fault (meets_fault c first needs lo
 pub no_call_goes_back : NoCallGoesBack
 no_call_goes_back faults fault g _ (gone_still gone) e = loses_none g.calls
 no_call_goes_back faults fault g _ (stands_still live stands) e = loses_none g.calls
-no_call_goes_back faults fault g _ (runs_on {calls = calls} {z = z} {at_fault = o} live come replay rest) e =
+no_call_goes_back faults fault g _ (runs_on {calls = calls} {z = z} {at_fault = o} live faultless come replay rest) e =
     rest_loses_none faults g.inst g.calls calls z o fault rest e
+
+pub none_goes_on_unasked : NoneGoesOnUnasked
+none_goes_on_unasked faults fault g _ (gone_still gone) e = refl
+none_goes_on_unasked faults fault g _ (stands_still live stands) e = refl
+none_goes_on_unasked faults fault g _ (runs_on live faultless come replay rest) e = absurd (none-some fault (sym faultless ∙ e))
 
 -- who stands as before isn't stopped
 not_newly : (o : Option ℕ) → newly_stopped o o ≡ 0
@@ -47,7 +52,7 @@ rest_stops faults inst before calls z was _ (meets_fault {fault = fault} c first
 run_stops : (own : List ℕ) (g g2 : NamedInstance) → RunsAmid own g g2 → newly_stopped g.at_fault g2.at_fault ≤ length own
 run_stops own g _ (gone_still gone) = let none = not_newly g.at_fault in omega (arith, none)
 run_stops own g _ (stands_still live stands) = let none = not_newly g.at_fault in omega (arith, none)
-run_stops own g _ (runs_on {calls = calls} {z = z} {at_fault = o} live come replay rest) = rest_stops own g.inst g.calls calls z g.at_fault o rest
+run_stops own g _ (runs_on {calls = calls} {z = z} {at_fault = o} live faultless come replay rest) = rest_stops own g.inst g.calls calls z g.at_fault o rest
 
 mixed_length : (own others all : List ℕ) → AreMixed own others all → length own + length others ≡ length all
 mixed_length _ _ _ none_left = refl

@@ -1,7 +1,7 @@
 -- Turns bring the calls of an instance further.
 use Rattle.std.proofs.Common.{◌≡◌, ◌≢◌, ℕ, zero, suc, ◌+◌, ◌⊎◌, ⊎_elim, inl, inr, Bool, true, List, [], ◌∷◌, ◌++◌, map, Option, Some, None, get_or, slice_set, refl, sym, ap, subst, ◌∙◌, arith, append_assoc}
-use Rattle.std.proofs.lemmas.Option.{none-some}
-use Rattle.std.specs.List.{AllZip, AllByRecursion, Contains}
+use Rattle.std.proofs.lemmas.Option.{none-some, same_Some}
+use Rattle.std.specs.List.{AllZip, AllByRecursion}
 use Rattle.wh_model.specs.declared.memory.Need.{Need}
 use Rattle.wh_model.specs.Format.Syntax.{Module}
 use Rattle.wh_model.specs.Execution.Store.{Instance}
@@ -11,18 +11,20 @@ use Rattle.wh_host_model.specs.declared.plain.InstId.{InstId}
 use Rattle.wh_host_model.specs.declared.plain.TurnEnd.{TurnEnd}
 use Rattle.wh_host_model.specs.Space.Parts.{Space, claim}
 use Rattle.wh_host_model.specs.Space.Sound.{IsSound}
-use Rattle.wh_host_model.specs.Host.Worlds.{Rest, Doing, Suspension, for_fuel, for_frame, for_device, Tenant, Loaded, World, journal, journal_calls, with_tenant}
+use Rattle.wh_host_model.specs.Host.Worlds.{Rest, Doing, Suspension, for_frame, for_device, Tenant, Loaded, World, journal, journal_calls, with_tenant}
 use Rattle.wh_host_model.specs.Owners.{Entry, is_open}
 use Rattle.wh_host_model.specs.Host.Turns.{to_end, Proceeds, returns, traps, writes_all}
 use Rattle.wh_host_model.specs.Host.CallAnswers.{ended_by, gone_further, Closes, faces_next, is_dead, at_frame, Turn, is_idle, has_ended, has_no_fuel, has_no_frame, can_go_on, keeps_its_fault}
 use Rattle.wh_host_model.specs.Host.Journals.{IsOpenCall, InOrder, is_starting, has_started, has_died}
-use Rattle.wh_host_model.specs.Host.Happens.{IsTurn, of_none, of_one}
+use Rattle.wh_host_model.specs.Host.Happens.{IsLive, IsTurn, of_none, of_one}
 use Rattle.wh_host_model.specs.Host.Laws.{AfterEvents}
+use Rattle.wh_host_model.specs.Host.Suspensions.{CanGoOn}
+use Rattle.wh_host_model.specs.declared.plain.SwapError.{SwapError}
 use Rattle.wh_script_model.specs.ScriptState.{NamedModule, NamedInstance, ScriptState}
 use Rattle.wh_script_model.specs.Drains.{ComesTo, had_ended, goes_on}
 use Rattle.wh_script_model.specs.Served.{IsTenantOf}
 use Rattle.wh_host_model.proofs.Host.Holding.{memory_is_sound, journals_are_in_order}
-use Rattle.wh_host_model.proofs.Host.Opening.{Apart, apart_none, apart_then, apart_steps, proceeds_apart}
+use Rattle.wh_host_model.proofs.Host.Opening.{Apart, apart_then, apart_steps, proceeds_apart}
 use Rattle.wh_script_model.specs.Failing.{LosesNothing}
 use Rattle.wh_script_laws.specs.Following.{ComesFurther, ComeFurther, is_there, IsPlaced, IsRunAmid, AreRunAmid, StandsAmid, device_fault}
 use Rattle.wh_script_laws.specs.Laws.{TurnsFollow}
@@ -89,56 +91,27 @@ never_cancelled (returns x y) e = absurd (cc e)
 never_cancelled (traps x) e = absurd (cc e)
 never_cancelled (writes_all x y z) e = absurd (cc e)
 
--- where the call stands for a fault of a device then, it stood for it before, and came no further
-abbrev StandsStill : Tenant → Tenant → Type 0
-StandsStill t t2 =
-    (fault : ℕ) → device_fault t2.waiting_for ≡ Some fault
-    → (device_fault t.waiting_for ≡ Some fault) × (journal_calls (journal t) ≡ journal_calls (journal t2))
+-- who stood for nothing, or waited for a frame, stands for no fault of a device where it waits for a frame then
+no_fault_at_frame : (steps : ℕ) (o : Option Suspension) → (o ≡ None) ⊎ (o ≡ Some for_frame) → device_fault (at_frame steps o) ≡ None
+no_fault_at_frame steps o (inl none) = subst (λ x. device_fault (at_frame steps x) ≡ None) (sym none) (of_none steps) where
+  of_none : (n : ℕ) → device_fault (at_frame n None) ≡ None
+  of_none zero = refl
+  of_none (suc n) = refl
+no_fault_at_frame steps o (inr frame) = subst (λ x. device_fault (at_frame steps x) ≡ None) (sym frame) (of_frame steps) where
+  of_frame : (n : ℕ) → device_fault (at_frame n (Some for_frame)) ≡ None
+  of_frame zero = refl
+  of_frame (suc n) = refl
 
-still_at_frame : (steps : ℕ) (o : Option Suspension) (fault : ℕ) → device_fault (at_frame steps o) ≡ Some fault
-    → (device_fault o ≡ Some fault) × (steps ≡ 0)
-still_at_frame zero None fault e = absurd (none-some fault e)
-still_at_frame zero (Some for_fuel) fault e = absurd (none-some fault e)
-still_at_frame zero (Some for_frame) fault e = absurd (none-some fault e)
-still_at_frame zero (Some (for_device f)) fault e = (e, refl)
-still_at_frame (suc steps) o fault e = absurd (none-some fault e)
-
-comes_none : (e : Entry) (k n : ℕ) → k ≡ 0 → n ≡ 0 → (gone_further e k n).call ≡ e.call
-comes_none e k n p q =
-    let pieces : e.call.fragments + k ≡ e.call.fragments = omega (arith, p) in
-    let charges : e.call.charges + n ≡ e.call.charges = omega (arith, q) in
-    rw (pieces, charges) refl
-
-still_so : (t : Tenant) (e : Entry) (es : List Entry) (k n : ℕ) → t.open_calls ≡ e ∷ es → k ≡ 0 → n ≡ 0
-    → journal_calls (journal t) ≡ journal_calls (t.ended ++ gone_further e k n ∷ es)
-still_so t e es k n are p q =
-    ap (λ os. journal_calls (t.ended ++ os)) are ∙ behind_same t.ended e (gone_further e k n) es (sym (comes_none e k n p q)) where
-      behind_same : (before : List Entry) (a b : Entry) (rest : List Entry) → a.call ≡ b.call → journal_calls (before ++ a ∷ rest) ≡ journal_calls (before ++ b ∷ rest)
-      behind_same [] a b rest same = ap (λ c. c ∷ journal_calls rest) same
-      behind_same (x ∷ before) a b rest same = ap (λ cs. x.call ∷ cs) (behind_same before a b rest same)
-
--- the same instance, of which calls have come further, and no device has failed for it meanwhile
+-- the same instance, of which calls have come further, and which stands for no fault of a device
 record TurnLeaves (s s2 : Space) (t t2 : Tenant) : Type 0 where
   place : t2.place ≡ t.place
   of : t2.of ≡ t.of
   params : t2.params ≡ t.params
   inst : t2.inst ≡ t.inst
   further : ComeFurther (journal_calls (journal t)) (journal_calls (journal t2))
-  still : StandsStill t t2
+  faultless : device_fault t2.waiting_for ≡ None
   apart : Apart t.place s s2
   sound : IsSound s2
-
-left_as_it_was : (s : Space) (t : Tenant) → IsSound s → TurnLeaves s s t t
-left_as_it_was s t sound = record {
-  place = refl;
-  of = refl;
-  params = refl;
-  inst = refl;
-  further = go_nowhere (journal_calls (journal t));
-  still = λ fault e. (e, refl);
-  apart = apart_none t.place s;
-  sound = sound;
-}
 
 -- the first open call has come further
 grown_so : (e : Entry) (k n : ℕ) → LosesNothing e.call (gone_further e k n).call
@@ -164,7 +137,7 @@ closed_leaves s0 s t t2 e e2 es r are open_ones first apart sound (faces_next li
   params = refl;
   inst = refl;
   further = rw append_assoc (further_behind t e e2 es are first);
-  still = λ fault is. absurd (none-some fault is);
+  faultless = refl;
   apart = apart;
   sound = sound;
 }
@@ -174,19 +147,23 @@ closed_leaves s0 s t t2 e e2 es r are open_ones first apart sound (is_dead died)
   params = refl;
   inst = refl;
   further = rw append_assoc (behind t.ended t.open_calls e e2 es (map (λ w. ended_by w dead) es ++ []) are first (all_dead es (subst (AllByRecursion IsOpenYet) are open_ones).1));
-  still = λ fault is. absurd (none-some fault is);
+  faultless = refl;
   apart = apart;
   sound = sound;
 }
 
-turn_leaves : (q : ℕ) (s s2 : Space) (t t2 : Tenant) (answer : TurnEnd) → IsSound s → AllByRecursion IsOpenYet t.open_calls
+no_device_fault : (o : Option Suspension) (fault : SwapError) → (o ≡ None) ⊎ (o ≡ Some for_frame) → o ≡ Some (for_device fault) → ⊥
+no_device_fault o fault (inl none) is = none-some (for_device fault) (sym none ∙ is)
+no_device_fault o fault (inr frame) is = let bad : Some for_frame ≡ Some (for_device fault) = sym frame ∙ is in cc bad
+
+turn_leaves : (q : ℕ) (s s2 : Space) (t t2 : Tenant) (answer : TurnEnd) → CanGoOn t → IsSound s → AllByRecursion IsOpenYet t.open_calls
     → Turn q s t answer s2 t2 → TurnLeaves s s2 t t2
-turn_leaves q s s2 t t2 answer sound open_ones (is_idle none) = left_as_it_was s t sound
-turn_leaves q s s2 t t2 answer sound open_ones (has_ended {e = e} {es = es} {o = o} {k = k} {n = n} {r = r} are goes alone pins closes) =
+turn_leaves q s s2 t t2 answer going sound open_ones (is_idle none) = absurd (going.0 none)
+turn_leaves q s s2 t t2 answer going sound open_ones (has_ended {e = e} {es = es} {o = o} {k = k} {n = n} {r = r} are goes alone pins closes) =
     let steps = alone.steps in
     let is = subst (AllByRecursion IsOpenYet) are open_ones in
     closed_leaves s s2 t t2 e (ended_by (gone_further e k n) o) es r are open_ones (ends_further e k n o is.0 (never_cancelled goes)) (apart_then (proceeds_apart t e goes) (apart_steps steps)) steps.sound closes
-turn_leaves q s s2 t t2 answer sound open_ones (has_no_fuel {e = e} {es = es} {k = k} {n = n} are goes alone pins) =
+turn_leaves q s s2 t t2 answer going sound open_ones (has_no_fuel {e = e} {es = es} {k = k} {n = n} are goes alone pins) =
     let steps = alone.steps in
     let is = subst (AllByRecursion IsOpenYet) are open_ones in
     record {
@@ -195,11 +172,11 @@ turn_leaves q s s2 t t2 answer sound open_ones (has_no_fuel {e = e} {es = es} {k
       params = refl;
       inst = refl;
       further = further_behind t e (gone_further e k n) es are (goes_further e k n is.0);
-      still = λ fault is. absurd (none-some fault is);
+      faultless = refl;
       apart = apart_then (proceeds_apart t e goes) (apart_steps steps);
       sound = steps.sound;
     }
-turn_leaves q s s2 t t2 answer sound open_ones (has_no_frame {e = e} {es = es} {k = k} {n = n} are goes alone pins) =
+turn_leaves q s s2 t t2 answer going sound open_ones (has_no_frame {e = e} {es = es} {k = k} {n = n} are goes alone pins) =
     let steps = alone.steps in
     let is = subst (AllByRecursion IsOpenYet) are open_ones in
     record {
@@ -208,14 +185,11 @@ turn_leaves q s s2 t t2 answer sound open_ones (has_no_frame {e = e} {es = es} {
       params = refl;
       inst = refl;
       further = further_behind t e (gone_further e k n) es are (goes_further e k n is.0);
-      still = λ fault is.
-          let so = still_at_frame (k + n) t.waiting_for fault is in
-          let steps = so.1 in
-          (so.0, still_so t e es k n are (omega (arith, steps)) (omega (arith, steps)));
+      faultless = no_fault_at_frame (k + n) t.waiting_for going.1;
       apart = apart_then (proceeds_apart t e goes) (apart_steps steps);
       sound = steps.sound;
     }
-turn_leaves q s s2 t t2 answer sound open_ones (can_go_on {e = e} {es = es} {k = k} {n = n} are goes alone pins keeps) =
+turn_leaves q s s2 t t2 answer going sound open_ones (can_go_on {e = e} {es = es} {k = k} {n = n} are goes alone pins keeps) =
     let steps = alone.steps in
     let is = subst (AllByRecursion IsOpenYet) are open_ones in
     record {
@@ -224,11 +198,12 @@ turn_leaves q s s2 t t2 answer sound open_ones (can_go_on {e = e} {es = es} {k =
       params = refl;
       inst = refl;
       further = further_behind t e (gone_further e k n) es are (goes_further e k n is.0);
-      still = λ fault is. absurd (none-some fault is);
+      faultless = refl;
       apart = apart_then (proceeds_apart t e goes) (apart_steps steps);
       sound = steps.sound;
     }
-turn_leaves q s s2 t t2 answer sound open_ones (keeps_its_fault a b c d e f g) = left_as_it_was s t sound
+turn_leaves q s s2 t t2 answer going sound open_ones (keeps_its_fault {fault = fault} are stands a b c d e) =
+    absurd (no_device_fault t.waiting_for fault going.1 stands)
 
 -- ---- the host behind a turn
 
@@ -248,16 +223,16 @@ zip_set R S t t2 so changed (x ∷ xs) [] i there h = absurd h
 zip_set R S t t2 so changed (x ∷ xs) (y ∷ ys) zero there h = (changed x (subst (R x) there h.0), zip_so R S so xs ys h.1)
 zip_set R S t t2 so changed (x ∷ xs) (y ∷ ys) (suc i) there h = (so x y h.0, zip_set R S t t2 so changed xs ys i there h.1)
 
-stands_yet : (faults : List ℕ) (g : NamedInstance) (t t2 : Tenant) → StandsStill t t2 → StandsAmid faults g t → StandsAmid faults g t2
-stands_yet faults g t t2 still stands fault e =
-    let so = still fault e in
-    ⊎_elim (λ (met : Contains faults fault). inl met)
-    (λ (yet : (g.at_fault ≡ Some fault) × (g.calls ≡ journal_calls (journal t))). inr (yet.0, yet.1 ∙ so.1))
-    (stands fault so.0)
+-- who could go on stood for no fault
+stands_on : (faults : List ℕ) (g : NamedInstance) (t t2 : Tenant) → (t.waiting_for ≡ None) ⊎ (t.waiting_for ≡ Some for_frame) → device_fault t2.waiting_for ≡ None
+    → StandsAmid faults g t → StandsAmid faults g t2
+stands_on faults g t t2 going none (inl stands) = inl (stands.0, λ fault is. absurd (none-some fault (sym none ∙ is)))
+stands_on faults g t t2 (inl free) none (inr (was, stood, yet, same)) = absurd (none-some was (sym (ap device_fault free) ∙ yet))
+stands_on faults g t t2 (inr frame) none (inr (was, stood, yet, same)) = absurd (none-some was (sym (ap device_fault frame) ∙ yet))
 
-turned_followed : (w w2 : World) (s s2 : Space) (t t2 : Tenant) → w2.modules ≡ w.modules → TurnLeaves s s2 t t2
+turned_followed : (w w2 : World) (s s2 : Space) (t t2 : Tenant) → w2.modules ≡ w.modules → CanGoOn t → TurnLeaves s s2 t t2
     → (faults : List ℕ) (g : NamedInstance) → IsRunAmid w faults g (Some t) → IsRunAmid w2 faults g (Some t2)
-turned_followed w w2 s s2 t t2 same leaves faults g (is_there same_one further stands) =
+turned_followed w w2 s s2 t t2 same going leaves faults g (is_there same_one further stands) =
     let on = come_then g.calls (journal_calls (journal t)) (journal_calls (journal t2)) further leaves.further in
     let of_one2 : IsTenantOf w2 t2 g = record {
       loaded = same_one.loaded;
@@ -268,7 +243,7 @@ turned_followed w w2 s s2 t t2 same leaves faults g (is_there same_one further s
       is_live = same_one.is_live;
       calls = (both_further g.calls (journal_calls (journal t2)) on).0;
     } in
-    is_there of_one2 on (stands_yet faults g t t2 leaves.still stands)
+    is_there of_one2 on (stands_on faults g t t2 going.1 leaves.faultless stands)
 
 -- each instance of a script is that of the host, and lies at its place
 pub record AreFollowed (faults : List ℕ) (w : World) (m : ScriptState) (places : List ℕ) : Type 0 where
@@ -282,20 +257,24 @@ pub record AreFollowedOn (faults : List ℕ) (w w2 : World) (m : ScriptState) (p
   pub claims : (j : ℕ) → claim w2.space j ≡ claim w.space j
   pub sound : IsSound w2.space
 
-pub turn_followed : AfterEvents (λ w. (faults : List ℕ) (m : ScriptState) (places : List ℕ) (id : InstId) (q : ℕ) (answer : TurnEnd) (w2 : World) → AreFollowed faults w m places
-    → IsTurn w id q answer w2 → AreFollowedOn faults w w2 m places)
-turn_followed frames slots tax events w happens faults m places id q answer w2 h (of_none none) =
-    record { are = h; claims = λ j. refl; sound = memory_is_sound frames slots tax events w happens }
-turn_followed frames slots tax events w happens faults m places id q answer w2 h (of_one {t = t} {t2 = t2} {s2 = s2} there turned) =
+-- the instance whose turn it was is the one that could go on
+one_live : (w : World) (id : InstId) (t u : Tenant) → IsLive w id t → IsLive w id u → t ≡ u
+one_live w id t u is there = same_Some t u (sym is.0 ∙ there.0)
+
+pub turn_followed : AfterEvents (λ w. (faults : List ℕ) (m : ScriptState) (places : List ℕ) (id : InstId) (q : ℕ) (t : Tenant) (answer : TurnEnd) (w2 : World) → AreFollowed faults w m places
+    → IsLive w id t → CanGoOn t → IsTurn w id q answer w2 → AreFollowedOn faults w w2 m places)
+turn_followed frames slots tax events w happens faults m places id q u answer w2 h live going (of_none none) = absurd (none u live)
+turn_followed frames slots tax events w happens faults m places id q u answer w2 h live going (of_one {t = t} {t2 = t2} {s2 = s2} there turned) =
+    let can = subst CanGoOn (one_live w id u t live there) going in
     let order = journals_are_in_order frames slots tax events w happens id.number t there.0 in
     let sound = memory_is_sound frames slots tax events w happens in
-    let leaves = turn_leaves q w.space s2 t t2 answer sound (open_ones order.calls) turned in
+    let leaves = turn_leaves q w.space s2 t t2 answer can sound (open_ones order.calls) turned in
     let apart = leaves.apart in
     let after = with_tenant w id.number (Some t2) s2 in
     record {
       are = record {
         modules = h.modules;
-        instances = zip_amid_set (IsRunAmid w) (IsRunAmid after) t t2 (λ own. moved_followed ComeFurther (StandsAmid own) w after refl) (turned_followed w after w.space s2 t t2 refl leaves) faults m.instances w.tenants id.number there.0 h.instances;
+        instances = zip_amid_set (IsRunAmid w) (IsRunAmid after) t t2 (λ own. moved_followed ComeFurther (StandsAmid own) w after refl) (turned_followed w after w.space s2 t t2 refl can leaves) faults m.instances w.tenants id.number there.0 h.instances;
         placed = zip_set IsPlaced IsPlaced t t2 (λ place o at. at) (λ place at. leaves.place ∙ at) places w.tenants id.number there.0 h.placed;
       };
       claims = λ j.
@@ -307,9 +286,9 @@ turn_followed frames slots tax events w happens faults m places id q answer w2 h
     }
 
 pub turns_follow : TurnsFollow
-turns_follow frames slots tax events w happens faults settings m places id q answer w2 h turned whole =
+turns_follow frames slots tax events w happens faults settings m places id q t answer w2 h live going turned whole =
     let sound = memory_is_sound frames slots tax events w happens in
-    let after = turn_followed frames slots tax events w happens faults m places id q answer w2 (record { modules = h.modules; instances = h.instances; placed = h.placed }) turned in
+    let after = turn_followed frames slots tax events w happens faults m places id q t answer w2 (record { modules = h.modules; instances = h.instances; placed = h.placed }) live going turned in
     let sums = claims_decide w.space w2.space sound after.sound h.none_out (whole.none_out ∙ h.none_out) after.claims in
     record {
       frames = whole.frames ∙ h.frames;

@@ -21,6 +21,11 @@ NoCallGoesBack =
     (faults : List ℕ) (fault : ℕ) (g g2 : NamedInstance) → RunsAmid faults g g2 → g2.at_fault ≡ Some fault
     → AllZip LosesNothing g.calls g2.calls
 
+-- who stands for a fault stays as it is at any drain: it goes on once it is tried again, and not before
+abbrev pub NoneGoesOnUnasked : Type 0
+NoneGoesOnUnasked =
+    (faults : List ℕ) (fault : ℕ) (g g2 : NamedInstance) → RunsAmid faults g g2 → g.at_fault ≡ Some fault → g2 ≡ g
+
 -- a drain stops no more instances than calls of the device failed
 abbrev pub FaultsStopFew : Type 0
 FaultsStopFew =

@@ -32,12 +32,20 @@ device_fault other = None
 abbrev pub IsAtSameFault : NamedInstance → Tenant → Type 0
 IsAtSameFault g t = g.at_fault ≡ device_fault t.waiting_for
 
--- while calls of the device had these faults for it: it stands for one of them, or for the same as before, where it was,
--- or for none
+-- it stood for a fault, and stands for it where it was
+abbrev pub StandsYet : NamedInstance → Tenant → Type 0
+StandsYet g t =
+    (fault : ℕ) × (g.at_fault ≡ Some fault) × (device_fault t.waiting_for ≡ Some fault)
+    × (g.calls ≡ journal_calls (journal t))
+
+-- it stood for none, and stands for one of these, or for none
+abbrev pub MayStand : (faults : List ℕ) → NamedInstance → Tenant → Type 0
+MayStand faults g t =
+    (g.at_fault ≡ None) × ((fault : ℕ) → device_fault t.waiting_for ≡ Some fault → Contains faults fault)
+
+-- while calls of the device had these faults for it
 abbrev pub StandsAmid : (faults : List ℕ) → NamedInstance → Tenant → Type 0
-StandsAmid faults g t =
-    (fault : ℕ) → device_fault t.waiting_for ≡ Some fault
-    → Contains faults fault ⊎ ((g.at_fault ≡ Some fault) × (g.calls ≡ journal_calls (journal t)))
+StandsAmid faults g t = MayStand faults g t ⊎ StandsYet g t
 
 -- An instance of a script is that of the host, whose present call stands as the script knows; or it was released.
 pub data IsFollowed (come : List Call → List Call → Type 0) (stands : NamedInstance → Tenant → Type 0) (w : World)

@@ -6,7 +6,8 @@ use Rattle.wh_host_model.specs.declared.plain.TurnEnd.{TurnEnd}
 use Rattle.wh_host_model.specs.Host.Worlds.{for_device, Tenant, World, tenant}
 use Rattle.wh_host_model.specs.Owners.{Params}
 use Rattle.wh_host_model.specs.Host.Laws.{AfterEvents}
-use Rattle.wh_host_model.specs.Host.Happens.{IsTurn, LoadAnswer, IsLoad, AdmitAnswer, admit_ok, admit_refused, admit_out_of_memory, IsAdmit, InvokeAnswer, IsInvoke, CallAnswer, IsRefuel, IsCancel, IsRetry, IsRelease, OnlyMoves}
+use Rattle.wh_host_model.specs.Host.Happens.{IsLive, IsTurn, LoadAnswer, IsLoad, AdmitAnswer, admit_ok, admit_refused, admit_out_of_memory, IsAdmit, InvokeAnswer, IsInvoke, CallAnswer, IsRefuel, IsCancel, IsRetry, IsRelease, OnlyMoves}
+use Rattle.wh_host_model.specs.Host.Suspensions.{CanGoOn}
 use Rattle.wh_script_model.specs.Settings.{Settings}
 use Rattle.wh_script_model.specs.Commands.{Command, refuel, cancel, retry, release}
 use Rattle.wh_script_model.specs.Texts.{CallStatus, Reply}
@@ -101,12 +102,12 @@ DrainsBegin =
     (settings : Settings) (w : World) (m : ScriptState) (places : List ℕ) → Knows settings w m places
     → RunsKnown [] settings w m places
 
--- turns bring calls further
+-- turns of who can go on bring calls further
 abbrev pub TurnsFollow : Type 0
 TurnsFollow =
     AfterEvents (λ w. (faults : List ℕ) (settings : Settings) (m : ScriptState) (places : List ℕ) (id : InstId) (q : ℕ)
-    (answer : TurnEnd) (w2 : World) → RunsKnown faults settings w m places → IsTurn w id q answer w2
-    → StaysWhole w.space w2.space → RunsKnown faults settings w2 m places)
+    (t : Tenant) (answer : TurnEnd) (w2 : World) → RunsKnown faults settings w m places → IsLive w id t → CanGoOn t
+    → IsTurn w id q answer w2 → StaysWhole w.space w2.space → RunsKnown faults settings w2 m places)
 
 -- moves of pages don't, and what is known stays so
 abbrev pub MovesFollow : Type 0

@@ -3,7 +3,7 @@
 #![tactic(auto)]
 
 ghost use Rattle.wh_script_laws.specs.Determined.{AnswersAreDetermined, LinesAreDetermined, AnswersOutOfMemoryAreDetermined};
-ghost use Rattle.wh_script_laws.specs.Failures.{FaultsStopFew, NoCallGoesBack};
+ghost use Rattle.wh_script_laws.specs.Failures.{FaultsStopFew, NoCallGoesBack, NoneGoesOnUnasked};
 ghost use Rattle.wh_script_laws.specs.Faultless.{LinesLeaveNobody, FaultlessLines, FaultlessScripts};
 ghost use Rattle.wh_script_laws.specs.WorkedFaults.{StoreIsCancelled, StoreIsRetried};
 ghost use Rattle.wh_script_laws.specs.Laws.{AsksWell, BeginsWell, CallsFollow, CancelsFollow, DrainsBegin, DrainsEnd, EndedStays, GoingIsKnown, InstancesFollow, ModulesFollow, MovesFollow, ObeysWell, OpenIsKnown, RefuelsFollow, ReleasesFollow, RetriesFollow, RunsWell, PrintingFollows, SaysWell, TurnsFollow, OutOfMemoryIsNamed};
@@ -49,14 +49,15 @@ pub fn answers_are_determined()
 
 /// Where no call of a swap device fails, lines and scripts get what they get by the definitions that know of no fault, and
 /// nothing else; and nobody stands for a fault then. Where calls of it fail, a drain stops no more instances than calls failed,
-/// and none of the calls of those goes back. What two scripts get while one fails. The function does nothing; what it ensures are
-/// the laws and the examples.
+/// none of the calls of those goes back, and who stands for a fault stays as it is until it is tried again. What two scripts get
+/// while one fails. The function does nothing; what it ensures are the laws and the examples.
 pub fn faults_alone_change_answers()
     ensures nobody { LinesLeaveNobody }
     ensures lines { FaultlessLines }
     ensures scripts { FaultlessScripts }
     ensures stop_few { FaultsStopFew }
     ensures none_goes_back { NoCallGoesBack }
+    ensures none_goes_on_unasked { NoneGoesOnUnasked }
     ensures store_is_retried { StoreIsRetried }
     ensures store_is_cancelled { StoreIsCancelled }
 {}

@@ -1,6 +1,6 @@
 -- The answers to a script while calls of the swap device fail. An instance may come to stand for a fault of one, its
--- present call being where it asks for bytes, and goes on from there. Which one meets which fault depends on the order of
--- turns; nothing else does.
+-- present call being where it asks for bytes, and goes on from there once it is tried again. Which one meets which fault
+-- depends on the order of turns; nothing else does.
 use Rattle.std.specs.Prelude.{◌≡◌, ℕ, ◌+◌, ◌<◌, ◌≤◌, Bool, true, false, List, [], ◌∷◌, ◌++◌, length, Option, Some, None, ℤ}
 use Rattle.std.specs.List.{AllZip, Contains}
 use Rattle.wh_model.specs.declared.memory.Need.{Need}
@@ -43,12 +43,12 @@ pub data RestsAmid (faults : List ℕ) (inst : Instance) (before calls : List Ca
       → Contains faults fault → RestsAmid faults inst before calls z (Some fault)
 
 -- The calls of an instance come as far as they can meanwhile, one after the other, as its journal says. Who stood for a
--- fault before may stand where it stood.
+-- fault before stands where it stood.
 pub data RunsAmid (faults : List ℕ) (g : NamedInstance) : NamedInstance → Type 0 where
   gone_still : g.is_released ≡ true → RunsAmid faults g g
   stands_still : {fault : ℕ} → g.is_released ≡ false → g.at_fault ≡ Some fault → RunsAmid faults g g
   runs_on : {calls : List Call} {z : Standing} {at_fault : Option ℕ}
-      → g.is_released ≡ false → AllZip ComesTo g.calls calls → Replay g.m (given_of g.params) calls z
+      → g.is_released ≡ false → g.at_fault ≡ None → AllZip ComesTo g.calls calls → Replay g.m (given_of g.params) calls z
       → RestsAmid faults g.inst g.calls calls z at_fault
       → RunsAmid faults g (record g { calls = calls; at_fault = at_fault })
 

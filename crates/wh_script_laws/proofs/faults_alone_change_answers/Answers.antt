@@ -1,5 +1,5 @@
 use Rattle.wh_script_laws.proofs.Faultless.{faultless_lines, faultless_scripts, lines_leave_nobody}
-use Rattle.wh_script_laws.proofs.Stopping.{faults_stop_few, no_call_goes_back}
+use Rattle.wh_script_laws.proofs.Stopping.{faults_stop_few, no_call_goes_back, none_goes_on_unasked}
 use Rattle.wh_script_laws.proofs.WorkedFaults.{store_is_cancelled, store_is_retried}
 use Rattle.wh_script_laws.proofs.faults_alone_change_answers.Goals as goal
 
@@ -23,3 +23,6 @@ returns-clause-stop_few c = faults_stop_few
 
 pub returns-clause-none_goes_back : goal.returns-clause-none_goes_back
 returns-clause-none_goes_back c = no_call_goes_back
+
+pub returns-clause-none_goes_on_unasked : goal.returns-clause-none_goes_on_unasked
+returns-clause-none_goes_on_unasked c = none_goes_on_unasked
