@@ -104,21 +104,27 @@ impl SwapDev for GatedSwap {
     }
 }
 
-// One instance stores 1 to 5 on five pages, another goes on forever.
+// One instance stores 1 to 8 on eight pages, two others go on forever.
 fn ask_locked<T: Ledger, C: Ledger, O: Ledger, E: Ledger, B: CellAgreements>(
     alloc: Global,
     locked: &mut Locked<GatedSwap, T, C, O, E, B>,
     owner: &mut Owner<GatedSwap, B>,
-) -> Result<[InstId; 2], Fail> {
+) -> Result<[InstId; 3], Fail> {
     let stores = locked.ask(owner, loading(alloc, &STORES))?;
     let loops = locked.ask(owner, loading(alloc, &LOOPS))?;
     let a = locked.ask(owner, admission(alloc, stores))?;
     let b = locked.ask(owner, admission(alloc, loops))?;
-    for (at, byte) in [(0, 1), (4096, 2), (8192, 3), (12288, 4), (16384, 5)] {
-        let _ = locked.ask(owner, invocation(alloc, a, "s", &[at, byte], 1000))?;
+    let c = locked.ask(owner, admission(alloc, loops))?;
+    for page in 0..8 {
+        let _ = locked.ask(
+            owner,
+            invocation(alloc, a, "s", &[page * 4096, page + 1], 1000),
+        )?;
     }
-    let _ = locked.ask(owner, invocation(alloc, b, "f", &[], u64::MAX))?;
-    Ok([a, b])
+    for id in [b, c] {
+        let _ = locked.ask(owner, invocation(alloc, id, "f", &[], u64::MAX))?;
+    }
+    Ok([a, b, c])
 }
 
 // The same, under the lock of the cell.
@@ -127,7 +133,7 @@ fn ask<T: Ledger, C: Ledger, O: Ledger, E: Ledger, B: CellAgreements, R: Wait>(
     alloc: Global,
     cell: &HostCell<GatedSwap, T, C, O, E, B>,
     owner: &mut Owner<GatedSwap, B>,
-) -> Result<[InstId; 2], Fail> {
+) -> Result<[InstId; 3], Fail> {
     let mut locked = cell.lock(rt);
     ask_locked(alloc, &mut locked, owner)
 }
@@ -164,7 +170,7 @@ fn both_grow<T: Ledger, C: Ledger, O: Ledger, E: Ledger, B: CellAgreements, R: W
 // How many of the first calls of an instance have returned.
 fn returned_on(host: &Host, id: InstId) -> u32 {
     let mut many: u32 = 0;
-    for at in 1..6 {
+    for at in 1..9 {
         if let Some(CallStatus::Returned { .. }) = host.call_status(id, at) {
             many = many.saturating_add(1);
         }
@@ -190,7 +196,7 @@ struct Seen {
     returned: u32,
 }
 
-// All calls of these instances, by two workers. Whether they ran.
+// All calls of these instances, by two workers, in turns of so many charges. Whether they ran.
 fn run_all<
     T: Ledger + Send + 'static,
     C: Ledger + Send + 'static,
@@ -203,12 +209,13 @@ fn run_all<
     alloc: Global,
     cell: HostCell<GatedSwap, T, C, O, E, B>,
     shares: Shares<T, C, O, E>,
-    ids: [InstId; 2],
+    ids: [InstId; 3],
+    quantum: u32,
 ) -> bool {
     let mut shares = shares;
     let manner = RunConfig {
         hasher: FnvHash,
-        quantum: 10,
+        quantum,
         workers: 2,
     };
     match run_calls(rt, alloc, &cell, &mut shares, &ids, manner) {
@@ -217,16 +224,16 @@ fn run_all<
     }
 }
 
-// Looks whether charges and offers grow, cancels the call that goes on forever, and lets the device go on.
+// Looks whether charges and offers grow, cancels the calls that go on forever, and lets the device go on.
 fn look_on<T: Ledger, C: Ledger, O: Ledger, E: Ledger, B: CellAgreements, R: Wait>(
     rt: &R,
     cell: &HostCell<GatedSwap, T, C, O, E, B>,
     owner: &mut Owner<GatedSwap, B>,
     gate: &Gate,
-    id: InstId,
+    forever: [InstId; 2],
 ) -> bool {
     let grew = both_grow(rt, cell, gate);
-    {
+    for id in forever {
         let mut locked = cell.lock(rt);
         let _ = locked.ask(owner, Cancel { id });
     }
@@ -249,12 +256,13 @@ fn look_beside<
     cell: &HostCell<GatedSwap, T, C, O, E, B>,
     owner: &mut Owner<GatedSwap, B>,
     shares: Shares<T, C, O, E>,
+    quantum: u32,
 ) -> Result<Seen, Fail> {
     let ids = ask(&rt, alloc, cell, owner)?;
     let theirs = cell.share()?;
-    let run = move || -> bool { run_all(rt, alloc, theirs, shares, ids) };
+    let run = move || -> bool { run_all(rt, alloc, theirs, shares, ids, quantum) };
     let runner = thread::spawn(&rt, run)?;
-    let grew = look_on(&rt, cell, owner, gate, ids[1]);
+    let grew = look_on(&rt, cell, owner, gate, [ids[1], ids[2]]);
     let ran = runner.join(&rt);
     Ok(Seen {
         grew,
@@ -263,7 +271,7 @@ fn look_beside<
     })
 }
 
-// The same on a new host with four frames and 64 slots.
+// The same on a new host with six frames and 64 slots.
 fn look_on_new<
     T: Ledger + Send + 'static,
     C: Ledger + Send + 'static,
@@ -271,17 +279,23 @@ fn look_on_new<
     E: Ledger + Send + 'static,
     B: CellAgreements + Send + 'static,
     R: Threads + Wait + Copy + Send + Sync + 'static,
->(rt: R, alloc: Global, gate: &Gate, cell_parts: CellParts<GatedSwap>) -> Result<Seen, Fail>
+>(
+    rt: R,
+    alloc: Global,
+    gate: &Gate,
+    cell_parts: CellParts<GatedSwap>,
+    quantum: u32,
+) -> Result<Seen, Fail>
     requires empty { memory_held cell_parts.device.memory ≡ replicate 64 [] }
     requires owned { cell_parts.to_owner ≡ B.to_owner }
     requires backed { cell_parts.to_device ≡ B.to_device }
     requires ledgers { HasLedgers T.Ledger C.Ledger O.Ledger E.Ledger cell_parts }
 {
-    let host = Host::new(alloc, 4, 64, Tax { num: 0, den: 1 })?;
+    let host = Host::new(alloc, 6, 64, Tax { num: 0, den: 1 })?;
     let (cell, mut owner, shares) = HostCell::<GatedSwap, T, C, O, E, B>::new(
         alloc, host, cell_parts,
     )?;
-    look_beside(rt, alloc, gate, &cell, &mut owner, shares)
+    look_beside(rt, alloc, gate, &cell, &mut owner, shares, quantum)
 }
 
 // A device behind this gate.
@@ -294,32 +308,49 @@ fn gated(alloc: Global, gate: &Arc<Gate, Global>) -> Result<GatedSwap, AllocErro
     })
 }
 
-// What is seen at this gate of a device.
+// What is seen at this gate of a device, while calls run in turns of so many charges.
 fn see<R: AllocGlobal + Threads + Wait + Copy + Send + Sync + 'static>(
     rt: R,
     gate: &Arc<Gate, Global>,
+    quantum: u32,
 ) -> Result<Seen, Fail> {
     let alloc = rt.alloc();
     let device = gated(alloc, gate)?;
     let cell_parts = CellParts::new(alloc, device)?;
-    look_on_new::<Brand, Brand, Brand, Brand, Brand, R>(rt, alloc, gate, cell_parts)
+    look_on_new::<Brand, Brand, Brand, Brand, Brand, R>(rt, alloc, gate, cell_parts, quantum)
 }
 
-#[test]
-fn turns_go_on_while_the_device_is_called(rt: HostRuntime) -> Result<(), Fail> {
+// What was seen, where all went well.
+const ALL_SEEN: Seen = Seen {
+    grew: true,
+    ran: true,
+    returned: 8,
+};
+
+// A gate that is shut.
+fn shut_gate(alloc: Global) -> Result<Arc<Gate, Global>, Fail> {
     let shut = Gate {
         is_called: AtomicBool::new(false),
         may_go_on: AtomicBool::new(false),
     };
-    let Ok(gate) = Arc::new(rt.alloc(), shut) else {
-        return Err(Fail::from(AllocError));
-    };
-    let wanted = Seen {
-        grew: true,
-        ran: true,
-        returned: 5,
-    };
-    assert_eq!(rt; see(rt, &gate)?, wanted);
+    match Arc::new(alloc, shut) {
+        Ok(gate) => Ok(gate),
+        Err(_) => Err(Fail::from(AllocError)),
+    }
+}
+
+#[test]
+fn turns_go_on_while_the_device_is_called(rt: HostRuntime) -> Result<(), Fail> {
+    let gate = shut_gate(rt.alloc())?;
+    assert_eq!(rt; see(rt, &gate, 10)?, ALL_SEEN);
+    Ok(())
+}
+
+// Two instances compute at once, in rounds, and whoever wants the lock gets it.
+#[test]
+fn rounds_end_for_whoever_wants_the_lock(rt: HostRuntime) -> Result<(), Fail> {
+    let gate = shut_gate(rt.alloc())?;
+    assert_eq!(rt; see(rt, &gate, 100_000)?, ALL_SEEN);
     Ok(())
 }
 
