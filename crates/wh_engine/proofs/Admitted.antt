@@ -30,7 +30,7 @@ use Rattle.wh_host.specs.Paging.{IsGoing, Tells}
 use Rattle.wh_admit.specs.declared.error.AdmitError.{AdmitError}
 use Rattle.wh_admit.specs.declared.error.AdmitError.TheVariants.{NoModule, Shares, MinMax, Frames, Swap, Instances, MemoryMin, SegmentBounds, Memory}
 use Rattle.wh_admit.specs.AdmitErrors.{admit_number, fault_of}
-use Rattle.wh_script_laws.specs.Following.{AreSame, IsFollowed, is_there, Knows, StaysWhole, IsAtSameFault}
+use Rattle.wh_script_laws.specs.Following.{AreSame, IsFollowed, is_there, Knows, StaysWhole, StandsSame}
 use Rattle.wh_script_laws.specs.Replies.{admit_reply}
 use Rattle.wh_script_laws.specs.Laws.{places_after}
 use Rattle.wh_script_laws.proofs.CommandsInstances.{guests_follow}
@@ -148,10 +148,10 @@ comes_there : {w w2 : World} {k number place : ℕ} {p : Params} (l : LetsIn w k
 comes_there {w = w} {w2 = w2} {number = number} l =
     ap (λ ts. get_or ts number None) (tenants_after l) ∙ ap (λ n. get_or (w.tenants ++ Some (tenant_of l) ∷ []) n None) l.next ∙ get_or-append_seam w.tenants (Some (tenant_of l)) [] None
 
-calls_known : {w : World} {g : script.NamedInstance} {t : Tenant} → IsFollowed AreSame IsAtSameFault w g (Some t) → g.calls ≡ journal_calls (journal t)
+calls_known : {w : World} {g : script.NamedInstance} {t : Tenant} → IsFollowed AreSame StandsSame w g (Some t) → g.calls ≡ journal_calls (journal t)
 calls_known (is_there of_one same none) = same
 
-start_known : {w w2 : World} {k number place : ℕ} {p : Params} (l : LetsIn w k p place number w2) {g : script.NamedInstance} → IsFollowed AreSame IsAtSameFault w2 g (Some (tenant_of l)) → g.m.start ≡ l.loaded.m.start
+start_known : {w w2 : World} {k number place : ℕ} {p : Params} (l : LetsIn w k p place number w2) {g : script.NamedInstance} → IsFollowed AreSame StandsSame w2 g (Some (tenant_of l)) → g.m.start ≡ l.loaded.m.start
 start_known {w = w} {w2 = w2} {k = k} l {g} (is_there of_one same none) =
     let here : slice_get w2.modules k ≡ Some l.loaded = ap (λ (z : World). slice_get z.modules k) l.after ∙ l.is_loaded in
     let one : of_one.loaded ≡ l.loaded = same_Some of_one.loaded l.loaded (sym of_one.is_loaded ∙ here) in
@@ -162,10 +162,10 @@ open_of l going = let same : going.0 ≡ tenant_of l = same_Some going.0 (tenant
 
 -- so it has a start where it can go on
 has_start : {w w2 : World} {k number place : ℕ} {p : Params} (l : LetsIn w k p place number w2) (gs : List script.NamedInstance) (g : script.NamedInstance) (pieces : List Piece) (h2 : HostState) (told : Bool)
-    → AllZip (IsFollowed AreSame IsAtSameFault w2) (gs ++ g ∷ []) w2.tenants → g.calls ≡ (start_entry g.m.start p.fuel (first_outcome pieces g.m.start)).call ∷ []
+    → AllZip (IsFollowed AreSame StandsSame w2) (gs ++ g ∷ []) w2.tenants → g.calls ≡ (start_entry g.m.start p.fuel (first_outcome pieces g.m.start)).call ∷ []
     → IsHost h2 w2 → Tells h2 told (λ z. IsGoing z (record { place = place; number = number })) → (told ≡ true) ↔ ¬ (HasNone pieces g.m.start)
 has_start {w = w} {w2 = w2} {k = k} {number = number} {place = place} {p = p} l gs g pieces h2 told all calls is2 tells =
-    let followed = zip_end (IsFollowed AreSame IsAtSameFault w2) gs w.tenants g (Some (tenant_of l)) (subst (AllZip (IsFollowed AreSame IsAtSameFault w2) (gs ++ g ∷ [])) (tenants_after l) all) in
+    let followed = zip_end (IsFollowed AreSame StandsSame w2) gs w.tenants g (Some (tenant_of l)) (subst (AllZip (IsFollowed AreSame StandsSame w2) (gs ++ g ∷ [])) (tenants_after l) all) in
     let known = calls_known followed in
     let start : g.m.start ≡ l.loaded.m.start = start_known l followed in
     let same : first_outcome pieces l.loaded.m.start ≡ outcome_of (journal_calls (l.ended ++ l.open_calls)) =

@@ -1,7 +1,5 @@
--- Where a call can go on, the script has an open one.
-use Rattle.std.proofs.Common.{◌≡◌, ◌∙◌, ◌⊎◌, inl, inr, ap, Option, None, Some, Result, Ok, Err, IfErr, refl, sym, subst, map}
-use Rattle.wh_host_model.specs.Host.Worlds.{for_frame, Tenant}
-use Rattle.wh_script_laws.specs.Following.{device_fault}
+-- Where a call can go on, the script has one that may.
+use Rattle.std.proofs.Common.{◌≡◌, ◌∙◌, ◌⊎◌, inl, inr, Result, Ok, Err, IfErr, refl, sym, subst, map}
 use Rattle.wh_script_laws.proofs.Opening.{going_is_known}
 use Rattle.wh_engine.specs.declared.fault.RunFault.{RunFault}
 use Rattle.wh_engine.specs.declared.fault.RunFault.TheVariants.{Memory, Threads, Transcript}
@@ -11,16 +9,12 @@ use Rattle.wh_engine.specs.Draining.{SomeGoes, StopsOnlyOpen, StopsOpenOr, Stops
 use Rattle.wh_engine.specs.RepresentedScript.{ScriptHostState, RepresentsScript}
 use Rattle.wh_engine.specs.declared.parts.NamedInstance.{NamedInstance}
 
-no_fault_yet : (t : Tenant) → (t.waiting_for ≡ None) ⊎ (t.waiting_for ≡ Some for_frame) → device_fault t.waiting_for ≡ None
-no_fault_yet t (inl none) = ap device_fault none
-no_fault_yet t (inr frame) = ap device_fault frame
-
 opens : {D : Type 0} (e : ScriptHostState D) → SomeGoes e.host.host → (settings : Settings) (m : ScriptState) → RepresentsScript settings e m → SomeCallMayGo m
 opens e goes settings m s =
     let known = s.stands in
     let reached = known.is.1 in
     let going = goes.1 known.world known.is.0 in
-    going_is_known reached.frames reached.slots reached.tax reached.events known.world reached.happen settings m (map (λ (x : NamedInstance). x.id.place) s.instances) goes.0.number going.0 known.knows going.1.0 going.2.0 (no_fault_yet going.0 going.2.1)
+    going_is_known reached.frames reached.slots reached.tax reached.events known.world reached.happen settings m (map (λ (x : NamedInstance). x.id.place) s.instances) goes.0.number going.0 known.knows going.1.0 going.2
 
 pub goes_open : {D : Type 0} (e : ScriptHostState D) → SomeGoes e.host.host → WasOpen e
 goes_open e goes = (goes, opens e goes)

@@ -108,16 +108,16 @@ as_many_calls instances n (v ∷ vs) last_printed lines (first, rest, k, ks, l, 
 
 -- ---- what the host shows
 
-one_followed : (w : World) (g : script.NamedInstance) (o : Option Tenant) → follow.IsFollowed follow.AreSame follow.IsAtSameFault w g o → g.is_released ≡ false
+one_followed : (w : World) (g : script.NamedInstance) (o : Option Tenant) → follow.IsFollowed follow.AreSame follow.StandsSame w g o → g.is_released ≡ false
     → (t : Tenant) × (o ≡ Some t) × (g.calls ≡ journal_calls (journal t)) × follow.IsAtSameFault g t
-one_followed w g _ (follow.is_there {t = t} of_one same sound) live = (t, refl, same, sound)
+one_followed w g _ (follow.is_there {t = t} of_one same stands) live = (t, refl, same, stands.0)
 one_followed w g _ (follow.is_gone gone) live = absurd (cc (gone, live))
 
-followed_same : (w : World) (gs : List script.NamedInstance) (ts : List (Option Tenant)) (i : ℕ) (g : script.NamedInstance) → AllZip (follow.IsFollowed follow.AreSame follow.IsAtSameFault w) gs ts → slice_get gs i ≡ Some g
+followed_same : (w : World) (gs : List script.NamedInstance) (ts : List (Option Tenant)) (i : ℕ) (g : script.NamedInstance) → AllZip (follow.IsFollowed follow.AreSame follow.StandsSame w) gs ts → slice_get gs i ≡ Some g
     → g.is_released ≡ false → (t : Tenant) × (get_or ts i None ≡ Some t) × (g.calls ≡ journal_calls (journal t)) × follow.IsAtSameFault g t
 followed_same w [] ts i g h e live = absurd (none-some g e)
 followed_same w (y ∷ gs) [] i g h e live = absurd h
-followed_same w (y ∷ gs) (o ∷ ts) zero g h e live = one_followed w g o (subst (λ z. follow.IsFollowed follow.AreSame follow.IsAtSameFault w z o) (same_Some y g e) h.0) live
+followed_same w (y ∷ gs) (o ∷ ts) zero g h e live = one_followed w g o (subst (λ z. follow.IsFollowed follow.AreSame follow.StandsSame w z o) (same_Some y g e) h.0) live
 followed_same w (y ∷ gs) (o ∷ ts) (suc i) g h e live = followed_same w gs ts i g h.1 e live
 
 one_name : (g g2 : script.NamedInstance) (here : List Reply) → PrintsStart g here g2 → g2.name ≡ g.name

@@ -7,7 +7,7 @@ use Rattle.wh_script_model.specs.Settings.{Settings}
 use Rattle.wh_script_model.specs.ScriptState.{NamedInstance, ScriptState}
 use Rattle.wh_host.specs.Reporting.{ReportState, ReportsHost, all_sharers, report_of, row_in, rows_in, shared_frames}
 use Rattle.wh_replies.specs.ReportTexts.{report_text, row_of, rows_text}
-use Rattle.wh_script_laws.specs.Following.{AreSame, IsFollowed, is_there, is_gone, Knows, IsAtSameFault}
+use Rattle.wh_script_laws.specs.Following.{AreSame, IsFollowed, is_there, is_gone, Knows, StandsSame}
 use Rattle.wh_engine.specs.RepresentedScript.{ScriptHostState, RepresentsScript}
 use Rattle.wh_script.specs.Reports.{AreRowsOf, no_rows, row_left_out, row_shown, IsReportOf, row_texts}
 
@@ -15,7 +15,7 @@ module _ (settings : Settings) (w : World) (num : w.space.tax.num ≡ settings.n
   abbrev RowsAre : ℕ → List NamedInstance → List (Option Tenant) → Type 0
   RowsAre number gs ts = (rows : List Row) × AreRowsOf settings number gs rows × (rows_text w.space.tax (rows_in w.space number ts) ≡ row_texts rows)
 
-  one_row : (number : ℕ) (g : NamedInstance) (gs : List NamedInstance) (o : Option Tenant) (ts : List (Option Tenant)) → IsFollowed AreSame IsAtSameFault w g o
+  one_row : (number : ℕ) (g : NamedInstance) (gs : List NamedInstance) (o : Option Tenant) (ts : List (Option Tenant)) → IsFollowed AreSame StandsSame w g o
       → RowsAre (number + 1) gs ts → RowsAre number (g ∷ gs) (o ∷ ts)
   one_row number g gs None ts (is_gone gone) rest = (rest.0, row_left_out gone rest.1, rest.2)
   one_row number g gs (Some t) ts (is_there of_one same faultless) rest = (
@@ -31,7 +31,7 @@ module _ (settings : Settings) (w : World) (num : w.space.tax.num ≡ settings.n
     ap (λ text. row_text (row_of w.space.tax (row_in w.space number t)) ++ text) rest.2,
   )
 
-  rows_are : (number : ℕ) (gs : List NamedInstance) (ts : List (Option Tenant)) → AllZip (IsFollowed AreSame IsAtSameFault w) gs ts → RowsAre number gs ts
+  rows_are : (number : ℕ) (gs : List NamedInstance) (ts : List (Option Tenant)) → AllZip (IsFollowed AreSame StandsSame w) gs ts → RowsAre number gs ts
   rows_are number [] [] all = ([], no_rows, refl)
   rows_are number [] (o ∷ ts) all = absurd all
   rows_are number (g ∷ gs) [] all = absurd all

@@ -51,7 +51,7 @@ pub record IsPartialAmid (settings : Settings) (files : Files) (faults : List �
   pub answers : AnswersLinesAmid true settings files earlier empty_script 1 lines replies made
   pub says : LinesSayAmid settings files earlier empty_script 1 lines replies text made
 
--- and behind them an instance has an open call and stands for no fault
+-- and behind them a call may go on
 pub record IsPartialAtCallAmid (settings : Settings) (files : Files) (faults : List ℕ) (lines : List (List ℕ)) (text : List ℕ)
     : Type 0 where
   pub partial : IsPartialAmid settings files faults lines text
@@ -65,7 +65,7 @@ StopsBetweenAmid settings files faults script before after =
     (lines : List (List ℕ)) × (text : List ℕ) × AreFirstLines script lines
     × IsPartialAmid settings files faults lines text × Appends before after text
 
--- and an instance that these have made has an open call
+-- and an instance that these have made has a call that may go on
 abbrev pub StopsAtCallsAmid : Settings → Files → List ℕ → Option (List ℕ) → Option (List ℕ) → Option (List ℕ) → Type 0
 StopsAtCallsAmid settings files faults script before after =
     (lines : List (List ℕ)) × (text : List ℕ) × AreFirstLines script lines

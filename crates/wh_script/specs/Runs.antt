@@ -73,7 +73,7 @@ pub record IsPartial (settings : Settings) (files : Files) (lines : List (List �
   pub answers : AnswersLines true settings files empty_script 1 lines replies made
   pub says : LinesSay settings files empty_script 1 lines replies text made
 
--- and behind them an instance has an open call and stands for no fault
+-- and behind them a call may go on: it is open, stands for no fault, and has fuel left or took no charge
 pub record IsPartialAtCall (settings : Settings) (files : Files) (lines : List (List ℕ)) (text : List ℕ) : Type 0 where
   pub partial : IsPartial settings files lines text
   pub may_go : SomeCallMayGo partial.made
@@ -86,7 +86,7 @@ StopsBetween settings files script before after =
     (lines : List (List ℕ)) × (text : List ℕ) × AreFirstLines script lines × IsPartial settings files lines text
     × Appends before after text
 
--- and an instance that these have made has an open call
+-- and an instance that these have made has a call that may go on
 abbrev pub StopsAtCalls : Settings → Files → Option (List ℕ) → Option (List ℕ) → Option (List ℕ) → Type 0
 StopsAtCalls settings files script before after =
     (lines : List (List ℕ)) × (text : List ℕ) × AreFirstLines script lines × IsPartialAtCall settings files lines text
@@ -101,9 +101,9 @@ StopsAtScan settings files script before after =
 -- What a run did, from the script to what the reader has left, and from the writer's bytes before to those after, by
 -- how it ended. To the end: what answers the script was written. Where the writer failed: a beginning of what answers
 -- the first lines. Where the reader failed: what answers the lines that it gave. Where memory ran out: what answers
--- the first lines. Where a thread was wanted: what answers the first lines, behind which a call is open that stands for no
--- fault, or a line asks for a scan. Where calls didn't run to their ends: what answers the first lines, behind which a call
--- is open that stands for no fault. It ends in no other way.
+-- the first lines. Where a thread was wanted: what answers the first lines, behind which a call may go on, or a line asks
+-- for a scan. Where calls didn't run to their ends: what answers the first lines, behind which a call may go on. It ends in
+-- no other way.
 abbrev pub Runs : Settings → Files → Option (List ℕ) → Option (List ℕ) → Option (List ℕ) → Option (List ℕ)
     → Result Unit ScriptFault → Type 0
 Runs settings files script left before after (Ok _) =

@@ -8,7 +8,7 @@ use Rattle.wh_script_model.specs.Texts.{Refusal, module_ok, module_refused}
 use Rattle.wh_script_model.specs.ScriptState.{NamedModule, ScriptState}
 use Rattle.wh_script_model.specs.Receiving as receiving
 use Rattle.wh_script_model.specs.Receiving.{ReceivesModule}
-use Rattle.wh_script_laws.specs.Following.{AreSame, IsFollowed, Knows, IsAtSameFault}
+use Rattle.wh_script_laws.specs.Following.{AreSame, IsFollowed, Knows, StandsSame}
 use Rattle.wh_script_laws.specs.Replies.{SaysWhy, SaysOutOfMemory}
 use Rattle.wh_script_laws.specs.Laws.{ModulesFollow}
 use Rattle.wh_script_laws.proofs.CommandsKnown.{zip_long, zip_map, zip_last, last_there, followed_there}
@@ -30,7 +30,7 @@ module_came {w = w} {m = m} named loaded same known =
       minima = known.minima;
       spreads = known.spreads;
       modules = zip_last (λ (n : NamedModule) (l : Loaded). n.m ≡ l.m) m.modules w.modules named loaded known.modules same;
-      instances = zip_map (IsFollowed AreSame IsAtSameFault w) (IsFollowed AreSame IsAtSameFault w2) m.instances w.tenants
+      instances = zip_map (IsFollowed AreSame StandsSame w) (IsFollowed AreSame StandsSame w2) m.instances w.tenants
           (λ g o. followed_there w w2 g o (λ k l. last_there w.modules loaded k l)) known.instances;
       placed = known.placed;
     }

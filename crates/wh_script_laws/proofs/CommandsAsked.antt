@@ -1,5 +1,6 @@
 -- What is asked of the present call of an instance.
 use Rattle.std.proofs.Common.{◌≡◌, ℕ, inl, inr, true, List, [], ◌∷◌, ◌++◌, slice_get, Option, Some, None, refl, sym, ap, subst, ◌∙◌}
+use Rattle.std.proofs.lemmas.Option.{none-some}
 use Rattle.wh_model.specs.Execution.Replay.{Call}
 use Rattle.wh_host_model.specs.Host.Worlds.{Suspension, for_fuel, for_frame, for_device, Tenant, World, journal, journal_calls, tenant, with_tenant}
 use Rattle.wh_host_model.specs.Host.OwnerCalls.{more_fuel, WaitsAfter, Refuels, has_more, Retries, may_try}
@@ -15,9 +16,10 @@ use Rattle.wh_script_model.specs.Answers as answers
 use Rattle.wh_script_model.specs.Answers.{Files, with_fuel, IsObeyed}
 use Rattle.wh_script_model.specs.Served.{IsTenantOf}
 use Rattle.wh_host_model.proofs.Host.Holding.{journals_are_in_order}
-use Rattle.wh_script_laws.specs.Following.{Knows, StaysWhole, IsAtSameFault, device_fault}
+use Rattle.wh_script_laws.specs.Following.{Knows, StaysWhole, StandsSame, device_fault}
 use Rattle.wh_script_laws.specs.Replies.{refuel_reply, retry_reply}
 use Rattle.wh_script_laws.specs.Laws.{RefuelsFollow, RetriesFollow}
+use Rattle.wh_script_laws.proofs.Fuel.{refueled_first}
 use Rattle.wh_script_laws.proofs.Journals.{ordered, none_open, first_is, refueled_is}
 use Rattle.wh_script_laws.proofs.CommandsKnown.{IsFound, found_gone, found_live, found, live_same, not_live, tenant_calls, changed}
 use Rattle.wh_script_model.proofs.Standing.{at_no_fault}
@@ -35,19 +37,19 @@ no_fault (e ∷ es) (Some (for_device fault)) t are is rests never = absurd (nev
 
 retried_so : {settings : Settings} {w : World} {m : ScriptState} {places : List ℕ} (files : Files) (number i place : ℕ) (name : List ℕ) (g : NamedInstance) (t t2 : Tenant)
     → Knows settings w m places → HasInstance m name i g → slice_get places i ≡ Some place → IsTenantOf w t g → t.place ≡ place → g.calls ≡ journal_calls (journal t)
-    → IsAtSameFault g t → Retries t t2 → StaysWhole w.space w.space
+    → StandsSame g t → Retries t t2 → StaysWhole w.space w.space
     → (m2 : ScriptState) × IsObeyed true settings files m number (retry name) (retry_reply name happen.call_ok ∷ []) m2
     × Knows settings (with_tenant w i (Some t2) w.space) m2 places
 retried_so {w = w} {m = m} files number i place name g t t2 known has lies of_one at same stands (may_try {fault = fault} there waits) whole =
     let g2 : NamedInstance = record g { at_fault = None } in (
       with_instance m i g2,
-      answers.is_retried i has of_one.is_live (stands ∙ ap device_fault waits),
+      answers.is_retried i has of_one.is_live (stands.0 ∙ ap device_fault waits),
       changed i place g g2 t2 w.space known has.0 lies whole refl refl (record {
         params = refl;
         gone = refl;
         of_one = tenant_calls w t t2 g g.calls None of_one refl refl refl same;
         calls = same;
-        stands = refl;
+        stands = (refl, λ e es are none. absurd (none-some for_frame (sym none)));
         lies = at;
       }),
     )
@@ -73,7 +75,7 @@ retry_obeyed {w = w} {m = m} files number i place name g answer known has lies r
     (happen.no_fault_to_retry {t = u} live none) whole =
     let one = live_same w i place t u here live in
     let never = subst (λ (x : Tenant). (t2 : Tenant) → ¬ (Retries x t2)) (sym one) none in
-    (m, answers.no_fault_to_retry i has of_one.is_live (stands ∙ no_fault t.open_calls t.waiting_for t refl refl (rests t here.0) never), known)
+    (m, answers.no_fault_to_retry i has of_one.is_live (stands.0 ∙ no_fault t.open_calls t.waiting_for t refl refl (rests t here.0) never), known)
 
 pub retries_follow : RetriesFollow
 retries_follow name frames slots tax events w happens settings files number m places i place g answer w2 known has lies asks whole =
@@ -91,7 +93,7 @@ after_fuel call (Some (for_device f)) o2 waits = ap device_fault (sym waits)
 refueled_so : {settings : Settings} {w : World} {m : ScriptState} {places : List ℕ} (files : Files) (number i place : ℕ)
     (name : List ℕ) (n : ℕ) (g : NamedInstance) (t t2 : Tenant) → Knows settings w m places → HasInstance m name i g
     → slice_get places i ≡ Some place → HasJournal w t → IsTenantOf w t g → t.place ≡ place
-    → g.calls ≡ journal_calls (journal t) → IsAtSameFault g t
+    → g.calls ≡ journal_calls (journal t) → StandsSame g t
     → Refuels t n t2 → StaysWhole w.space w.space
     → (m2 : ScriptState) × IsObeyed true settings files m number (refuel name n) (refuel_reply name happen.call_ok ∷ []) m2
     × Knows settings (with_tenant w i (Some t2) w.space) m2 places
@@ -111,7 +113,7 @@ refueled_so {settings} {w} {m} {places} files number i place name n g t t2 known
         gone = refl;
         of_one = tenant_calls w t t2 g g2.calls g.at_fault of_one refl refl refl after;
         calls = after;
-        stands = none ∙ after_fuel (more_fuel e n).call t.waiting_for o stands;
+        stands = (none.0 ∙ after_fuel (more_fuel e n).call t.waiting_for o stands, refueled_first e n t.waiting_for o order2 (none.1 e es there) stands);
         lies = at;
       }),
     )

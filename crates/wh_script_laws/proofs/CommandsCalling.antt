@@ -1,5 +1,5 @@
 -- A call that is asked of an instance.
-use Rattle.std.proofs.Common.{◌≡◌, ℕ, ℤ, true, List, [], ◌∷◌, ◌++◌, length, slice_get, Some, None, refl, sym, ap, subst, ◌∙◌, arith}
+use Rattle.std.proofs.Common.{inr, ◌≡◌, ℕ, ℤ, true, List, [], ◌∷◌, ◌++◌, length, slice_get, Some, None, refl, sym, ap, subst, ◌∙◌, arith}
 use Rattle.std.proofs.lemmas.Option.{same_Some}
 use Rattle.wh_model.specs.Format.Syntax.{FuncType, Body, Module}
 use Rattle.wh_host_model.specs.Space.Parts.{Space}
@@ -16,9 +16,10 @@ use Rattle.wh_script_model.specs.Receiving as receiving
 use Rattle.wh_script_model.specs.Receiving.{MeetsBar, MeetsNoBar, IsFirstBar, ReceivesCall}
 use Rattle.wh_script_model.specs.Served.{IsTenantOf}
 use Rattle.wh_host_model.proofs.Host.Holding.{journals_are_in_order}
-use Rattle.wh_script_laws.specs.Following.{Knows, StaysWhole, IsAtSameFault}
+use Rattle.wh_script_laws.specs.Following.{Knows, StaysWhole, StandsSame}
 use Rattle.wh_script_laws.specs.Replies.{invoke_outcome}
 use Rattle.wh_script_laws.specs.Laws.{CallsFollow}
+use Rattle.wh_script_laws.proofs.Fuel.{pushed_may}
 use Rattle.wh_script_laws.proofs.Journals.{ordered, open_behind_is, start_failed_is, calls_long, calls_last}
 use Rattle.wh_script_laws.proofs.CommandsKnown.{IsFound, found_gone, found_live, found, live_same, not_live, IsNext, tenant_calls, changed}
 
@@ -114,7 +115,7 @@ still_known outcome known = record {
 -- the calls with the new one
 called : {w : World} {m : Module} (t t2 : Tenant) (g : NamedInstance) (name : List ℕ) (given : List ℤ) (fuel at place : ℕ)
     (takes : TakesCall m w.space t name given fuel at t2) → IsTenantOf w t g → t.place ≡ place
-    → g.calls ≡ journal_calls (journal t) → IsAtSameFault g t
+    → g.calls ≡ journal_calls (journal t) → StandsSame g t
     → IsNext w g (record g { calls = g.calls ++ (new_entry takes.func takes.vs given fuel).call ∷ [] }) t2 place
 called {w = w} t t2 g name given fuel at place takes of_one lies same stands =
     let e : Entry = new_entry takes.func takes.vs given fuel in
@@ -127,14 +128,14 @@ called {w = w} t t2 g name given fuel at place takes of_one lies same stands =
       gone = refl;
       of_one = tenant_calls w t t3 g calls g.at_fault of_one refl refl refl after;
       calls = after;
-      stands = stands;
+      stands = (stands.0, λ y ys are none. pushed_may t.open_calls e (inr refl) (λ x xs is. stands.1 x xs is none) y ys are);
       lies = lies;
     })
 
 called_so : {settings : Settings} {w : World} {m : ScriptState} {places : List ℕ} (i place : ℕ) (g : NamedInstance) (t t2 : Tenant) (l : Loaded)
     (name : List ℕ) (given : List ℤ) (fuel at : ℕ) → Knows settings w m places → slice_get m.instances i ≡ Some g
     → slice_get places i ≡ Some place → IsTenantOf w t g → t.place ≡ place → g.calls ≡ journal_calls (journal t)
-    → IsAtSameFault g t → IsAlike l.m t g
+    → StandsSame g t → IsAlike l.m t g
     → TakesCall l.m w.space t name given fuel at t2 → StaysWhole w.space w.space
     → Receives settings m places i g name given fuel (happen.invoke_ok at) (with_tenant w i (Some t2) w.space)
 called_so {settings} {w} {m} {places} i place g t t2 l name given fuel at known has lies of_one here same stands both takes whole =

@@ -19,14 +19,15 @@ use Rattle.wh_host_model.specs.Host.Laws.{HasJournal, IsReplayed, PlacesAreTenan
 use Rattle.wh_script_model.specs.Settings.{Settings}
 use Rattle.wh_script_model.specs.Commands.{cancel, release}
 use Rattle.wh_script_model.specs.Texts.{release_ok}
-use Rattle.wh_script_model.specs.ScriptState.{NamedInstance, ScriptState, HasInstance, with_instance, cancel_first}
+use Rattle.wh_script_model.specs.ScriptState.{MayUseFuel, NamedInstance, ScriptState, HasInstance, with_instance, cancel_first}
 use Rattle.wh_script_model.specs.Answers as answers
 use Rattle.wh_script_model.specs.Answers.{Files, IsObeyed}
 use Rattle.wh_script_model.specs.Served.{IsTenantOf}
 use Rattle.wh_host_model.proofs.Host.Holding.{memory_is_sound, places_are_right, instances_replay, journals_are_in_order}
-use Rattle.wh_script_laws.specs.Following.{AreSame, IsFollowed, is_gone, IsPlaced, Knows, StaysWhole, IsAtSameFault}
+use Rattle.wh_script_laws.specs.Following.{AreSame, IsFollowed, is_gone, IsPlaced, Knows, StaysWhole, StandsSame}
 use Rattle.wh_script_laws.specs.Replies.{cancel_reply, release_reply}
 use Rattle.wh_script_laws.specs.Laws.{CancelsFollow, ReleasesFollow}
+use Rattle.wh_script_laws.proofs.Fuel.{others_begin}
 use Rattle.wh_script_laws.proofs.Journals.{ordered, none_open, first_is, cancelled_next, cancelled_start}
 use Rattle.wh_script_laws.proofs.SumsChange.{minima_same, spreads_same, minima_less, spreads_less}
 use Rattle.wh_script_laws.proofs.CommandsKnown.{IsFound, found_gone, found_live, found, live_same, not_live, IsNext, tenant_calls, changed, zip_map, zip_set, zip_over, sum_goes, followed_there, quiet_before, quiet_after}
@@ -35,36 +36,36 @@ use Rattle.wh_script_laws.proofs.CommandsKnown.{IsFound, found_gone, found_live,
 
 closed_next : (w : World) {m : Module} (s2 : Space) (t t2 : Tenant) (g : NamedInstance) (e : Entry) (es : List Entry)
     (place : ℕ) → IsTenantOf w t g → t.place ≡ place → g.calls ≡ journal_calls (t.ended ++ e ∷ es)
-    → InOrder m t.inst t.dead t.ended (e ∷ es) → Closes s2 t (ended_by e cancelled) es t.rest t2
+    → InOrder m t.inst t.dead t.ended (e ∷ es) → ((y : Entry) (ys : List Entry) → es ≡ y ∷ ys → MayUseFuel y.call) → Closes s2 t (ended_by e cancelled) es t.rest t2
     → IsNext w g (record g { calls = cancel_first g.calls; at_fault = None }) t2 place
-closed_next w s2 t t2 g e es place of_one at calls order (faces_next alive faces) =
+closed_next w s2 t t2 g e es place of_one at calls order begin (faces_next alive faces) =
     let after = ap cancel_first calls ∙ cancelled_next order alive in
     record {
       params = refl;
       gone = refl;
       of_one = tenant_calls w t t2 g (cancel_first g.calls) None of_one refl refl refl after;
       calls = after;
-      stands = refl;
+      stands = (refl, λ y ys are none. begin y ys are);
       lies = at;
     }
-closed_next w s2 t t2 g e es place of_one at calls order (is_dead died) =
+closed_next w s2 t t2 g e es place of_one at calls order begin (is_dead died) =
     let after = ap cancel_first calls ∙ cancelled_start order died in
     record {
       params = refl;
       gone = refl;
       of_one = tenant_calls w t t2 g (cancel_first g.calls) None of_one refl refl refl after;
       calls = after;
-      stands = refl;
+      stands = (refl, λ y ys are none. absurd (cc are));
       lies = at;
     }
 
 cancelled_so : {settings : Settings} {w : World} {m : ScriptState} {places : List ℕ} (files : Files) (number i place : ℕ)
     (name : List ℕ) (g : NamedInstance) (t t2 : Tenant) (s2 : Space) → IsSound w.space → Knows settings w m places
-    → HasInstance m name i g → slice_get places i ≡ Some place → HasJournal w t → IsTenantOf w t g → t.place ≡ place
+    → HasInstance m name i g → slice_get places i ≡ Some place → HasJournal w t → IsReplayed w t → IsTenantOf w t g → t.place ≡ place
     → g.calls ≡ journal_calls (journal t) → Cancels w.space t s2 t2 → StaysWhole w.space s2
     → (m2 : ScriptState) × IsObeyed true settings files m number (cancel name) (cancel_reply name happen.call_ok ∷ []) m2
     × Knows settings (with_tenant w i (Some t2) s2) m2 places
-cancelled_so {settings} {w} {m} {places} files number i place name g t t2 s2 sound known has lies j of_one at same
+cancelled_so {settings} {w} {m} {places} files number i place name g t t2 s2 sound known has lies j x of_one at same
     (ends {e = e} {es = es} there leaves pins closes) whole =
     let order = ordered w t j in
     let order2 = subst (λ os. InOrder order.0 t.inst t.dead t.ended os) there order.1 in
@@ -73,35 +74,36 @@ cancelled_so {settings} {w} {m} {places} files number i place name g t t2 s2 sou
     let g2 : NamedInstance = record g { calls = cancel_first g.calls; at_fault = None } in
     let quiet = quiet_before sound known in
     let steps = leaves.steps in
+    let replay = subst (λ os. Replay x.loaded.m (given_of t.params) (journal_calls (t.ended ++ os)) (standing_in w.space t)) there x.replay in
     let quiet2 = quiet_after s2 steps.sound known whole in (
       with_instance m i g2,
       answers.is_cancelled i has of_one.is_live first,
       changed i place g g2 t2 s2 known has.0 lies whole
           (minima_same w.space s2 t.place quiet quiet2 steps.others steps.claim)
           (spreads_same w.space s2 t.place quiet quiet2 steps.others steps.claim)
-          (closed_next w s2 t t2 g e es place of_one at calls order2 closes),
+          (closed_next w s2 t t2 g e es place of_one at calls order2 (others_begin x.loaded.m (given_of t.params) t.ended es e (standing_in w.space t) order2 replay) closes),
     )
 
 cancel_obeyed : {settings : Settings} {w w2 : World} {m : ScriptState} {places : List ℕ} (files : Files) (number i place : ℕ)
     (name : List ℕ) (g : NamedInstance) (answer : happen.CallAnswer) → IsSound w.space → Knows settings w m places
-    → HasInstance m name i g → slice_get places i ≡ Some place → ((t : Tenant) → tenant w i ≡ Some t → HasJournal w t)
+    → HasInstance m name i g → slice_get places i ≡ Some place → ((t : Tenant) → tenant w i ≡ Some t → HasJournal w t) → ((t : Tenant) → tenant w i ≡ Some t → IsReplayed w t)
     → IsFound w g i place → IsCancel w (record { place = place; number = i }) answer w2 → StaysWhole w.space w2.space
     → (m2 : ScriptState) × IsObeyed true settings files m number (cancel name) (cancel_reply name answer ∷ []) m2
     × Knows settings w2 m2 places
-cancel_obeyed {w = w} files number i place name g answer sound known has lies orders (found_gone at gone)
+cancel_obeyed {w = w} files number i place name g answer sound known has lies orders replays (found_gone at gone)
     (happen.is_cancelled {t = u} live r) whole = absurd (not_live w i place u at live)
-cancel_obeyed {m = m} files number i place name g answer sound known has lies orders (found_gone at gone)
+cancel_obeyed {m = m} files number i place name g answer sound known has lies orders replays (found_gone at gone)
     (happen.no_one_to_cancel none) whole = (m, answers.no_one_to_cancel i has gone, known)
-cancel_obeyed {w = w} files number i place name g answer sound known has lies orders (found_gone at gone)
+cancel_obeyed {w = w} files number i place name g answer sound known has lies orders replays (found_gone at gone)
     (happen.no_call_to_cancel {t = u} live none) whole = absurd (not_live w i place u at live)
-cancel_obeyed {w = w} files number i place name g answer sound known has lies orders (found_live t at here of_one same stands)
+cancel_obeyed {w = w} files number i place name g answer sound known has lies orders replays (found_live t at here of_one same stands)
     (happen.is_cancelled {t = u} {t2 = t2} {s2 = s2} live r) whole =
     let one = live_same w i place t u here live in
-    cancelled_so files number i place name g t t2 s2 sound known has lies (orders t here.0) of_one here.1 same
+    cancelled_so files number i place name g t t2 s2 sound known has lies (orders t here.0) (replays t here.0) of_one here.1 same
     (subst (λ x. Cancels w.space x s2 t2) (sym one) r) whole
-cancel_obeyed files number i place name g answer sound known has lies orders (found_live t at here of_one same stands)
+cancel_obeyed files number i place name g answer sound known has lies orders replays (found_live t at here of_one same stands)
     (happen.no_one_to_cancel none) whole = absurd (none t here)
-cancel_obeyed {w = w} {m = m} files number i place name g answer sound known has lies orders
+cancel_obeyed {w = w} {m = m} files number i place name g answer sound known has lies orders replays
     (found_live t at here of_one same stands) (happen.no_call_to_cancel {t = u} live none) whole =
     let one = live_same w i place t u here live in
     let none_now : t.open_calls ≡ [] = ap (λ (x : Tenant). x.open_calls) one ∙ none in
@@ -110,7 +112,7 @@ cancel_obeyed {w = w} {m = m} files number i place name g answer sound known has
 pub cancels_follow : CancelsFollow
 cancels_follow name frames slots tax events w happens settings files number m places i place g answer w2 known has lies asks whole =
     cancel_obeyed files number i place name g answer (memory_is_sound frames slots tax events w happens) known has lies
-    (journals_are_in_order frames slots tax events w happens i) (found i place g known has.0 lies) asks whole
+    (journals_are_in_order frames slots tax events w happens i) (instances_replay frames slots tax events w happens i) (found i place g known has.0 lies) asks whole
 
 -- ---- an instance that goes
 
@@ -138,7 +140,7 @@ released_known : {settings : Settings} {w : World} {m : ScriptState} {places : L
 released_known {w = w} {m = m} {places = places} i place g t s2 known has lies live params whole least most =
     let w2 : World = with_tenant w i None s2 in
     let g2 : NamedInstance = record g { is_released = true } in
-    let stay = zip_map (IsFollowed AreSame IsAtSameFault w) (IsFollowed AreSame IsAtSameFault w2) m.instances w.tenants
+    let stay = zip_map (IsFollowed AreSame StandsSame w) (IsFollowed AreSame StandsSame w2) m.instances w.tenants
     (λ h o. followed_there w w2 h o (λ k l e. e)) known.instances in
     record {
       frames = whole.frames ∙ known.frames;
@@ -154,7 +156,7 @@ released_known {w = w} {m = m} {places = places} i place g t s2 known has lies l
           let same = ap (λ (p : Params). (p.max - p.min) + 1) params in
           let before = known.spreads in omega (arith, sum, same, before, most);
       modules = known.modules;
-      instances = zip_set (IsFollowed AreSame IsAtSameFault w2) m.instances w.tenants i g2 None stay (is_gone refl);
+      instances = zip_set (IsFollowed AreSame StandsSame w2) m.instances w.tenants i g2 None stay (is_gone refl);
       placed = zip_over IsPlaced places w.tenants i place None known.placed lies tt;
     }
 

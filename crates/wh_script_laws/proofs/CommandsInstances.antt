@@ -21,20 +21,21 @@ use Rattle.wh_script_model.specs.Receiving as receiving
 use Rattle.wh_script_model.specs.Receiving.{MeetsLimit, IsFirstLimit, first_outcome, new_instance, ReceivesInstance}
 use Rattle.wh_host_model.proofs.Host.Holding.{memory_is_sound}
 use Rattle.wh_host_model.proofs.Space.Putting.{there_of}
-use Rattle.wh_script_laws.specs.Following.{AreSame, IsFollowed, is_there, is_gone, IsPlaced, Knows, StaysWhole, IsAtSameFault}
+use Rattle.wh_script_laws.specs.Following.{AreSame, IsFollowed, is_there, is_gone, IsPlaced, Knows, StaysWhole, StandsSame}
 use Rattle.wh_script_laws.specs.Laws.{InstancesFollow}
+use Rattle.wh_script_laws.proofs.Fuel.{starts_may}
 use Rattle.wh_script_laws.proofs.SumsChange.{minima_more, spreads_more, claim_free}
 use Rattle.wh_script_laws.proofs.CommandsKnown.{zip_there, zip_long, zip_map, zip_last, sum_last, sum_on, all_come, followed_there, quiet_before, quiet_after}
 
 -- ---- how many are live
 
-gone_now : {w : World} {g : NamedInstance} → IsFollowed AreSame IsAtSameFault w g None → g.is_released ≡ true
+gone_now : {w : World} {g : NamedInstance} → IsFollowed AreSame StandsSame w g None → g.is_released ≡ true
 gone_now (is_gone gone) = gone
 
-live_now : {w : World} {g : NamedInstance} {t : Tenant} → IsFollowed AreSame IsAtSameFault w g (Some t) → g.is_released ≡ false
+live_now : {w : World} {g : NamedInstance} {t : Tenant} → IsFollowed AreSame StandsSame w g (Some t) → g.is_released ≡ false
 live_now (is_there of_one same none) = of_one.is_live
 
-live_many : (w : World) (gs : List NamedInstance) (ts : List (Option Tenant)) → AllZip (IsFollowed AreSame IsAtSameFault w) gs ts
+live_many : (w : World) (gs : List NamedInstance) (ts : List (Option Tenant)) → AllZip (IsFollowed AreSame StandsSame w) gs ts
     → live_count ts ≡ live_sum (λ q. 1) gs
 live_many w [] [] h = refl
 live_many w [] (o ∷ ts) h = absurd h
@@ -139,7 +140,7 @@ comer {k = k} {p = p} {place = place} lets = record {
 
 comer_followed : {w w2 : World} (w3 : World) (k : ℕ) (named : NamedModule) (name : List ℕ) (p : Params) (place number : ℕ)
     (lets : LetsIn w k p place number w2) → IsModuleOf w k named → ((x : ℕ) (l : Loaded) → slice_get w.modules x ≡ Some l → slice_get w3.modules x ≡ Some l)
-    → IsFollowed AreSame IsAtSameFault w3 (new_instance name named.m p lets.inst lets.pieces) (Some (comer lets))
+    → IsFollowed AreSame StandsSame w3 (new_instance name named.m p lets.inst lets.pieces) (Some (comer lets))
 comer_followed w3 k named name p place number lets of more =
     let one : of.loaded ≡ lets.loaded = same_Some of.loaded lets.loaded (sym of.at ∙ lets.is_loaded) in
     let modules : named.m ≡ lets.loaded.m = of.same ∙ ap (λ (l : Loaded). l.m) one in
@@ -154,7 +155,7 @@ comer_followed w3 k named name p place number lets of more =
       inst = refl;
       is_live = refl;
       calls = all_come g.calls (journal_calls (lets.ended ++ lets.open_calls)) calls;
-    }) calls refl
+    }) calls (refl, λ y ys are none. starts_may lets.starts y ys are)
 
 comer_known : {settings : Settings} {w w2 : World} {m : ScriptState} {places : List ℕ} (k : ℕ) (named : NamedModule) (name : List ℕ)
     (p : Params) (place number : ℕ) (lets : LetsIn w k p place number w2) → IsSound w.space → Knows settings w m places
@@ -183,8 +184,8 @@ comer_known {w = w} {m = m} {places = places} k named name p place number lets s
           most ∙ ap (λ n. n + ((p.max - p.min) + 1)) known.spreads
           ∙ sym (sum_last (λ q. (q.max - q.min) + 1) m.instances g refl);
       modules = known.modules;
-      instances = zip_last (IsFollowed AreSame IsAtSameFault w3) m.instances w.tenants g (Some (comer lets))
-          (zip_map (IsFollowed AreSame IsAtSameFault w) (IsFollowed AreSame IsAtSameFault w3) m.instances w.tenants
+      instances = zip_last (IsFollowed AreSame StandsSame w3) m.instances w.tenants g (Some (comer lets))
+          (zip_map (IsFollowed AreSame StandsSame w) (IsFollowed AreSame StandsSame w3) m.instances w.tenants
           (λ h o. followed_there w w3 h o (λ x l e. e)) known.instances)
           (comer_followed w3 k named name p place number lets of (λ x l e. e));
       placed = zip_last IsPlaced places w.tenants place (Some (comer lets)) known.placed refl;
@@ -200,7 +201,7 @@ guest_comes {settings} {w} {w2} {m} {places} k named name p place number lets so
     let modules : lets.loaded.m ≡ named.m = ap (λ (l : Loaded). l.m) one ∙ sym of.same in
     let g : NamedInstance = new_instance name named.m p lets.inst lets.pieces in
     let m2 : ScriptState = record m { instances = m.instances ++ g ∷ [] } in
-    let behind : length m.instances ≡ number = zip_long (IsFollowed AreSame IsAtSameFault w) m.instances w.tenants known.instances ∙ sym lets.next in
+    let behind : length m.instances ≡ number = zip_long (IsFollowed AreSame StandsSame w) m.instances w.tenants known.instances ∙ sym lets.next in
     let whole2 : StaysWhole w.space lets.space = subst (λ (x : World). StaysWhole w.space x.space) lets.after whole in (
       m2,
       subst (λ n. ReceivesInstance true settings m name named.m p (texts.admit_ok name n) m2) behind

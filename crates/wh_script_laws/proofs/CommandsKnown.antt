@@ -15,7 +15,7 @@ use Rattle.wh_script_model.specs.ScriptState.{NamedInstance, ScriptState, live_s
 use Rattle.wh_script_model.specs.Drains.{ComesTo, had_ended, goes_on}
 use Rattle.wh_script_model.specs.Served.{IsTenantOf}
 use Rattle.wh_host_model.proofs.Space.Putting.{get_or_is}
-use Rattle.wh_script_laws.specs.Following.{AreSame, IsFollowed, is_there, is_gone, IsPlaced, Knows, StaysWhole, IsAtSameFault}
+use Rattle.wh_script_laws.specs.Following.{AreSame, IsFollowed, is_there, is_gone, IsPlaced, Knows, StaysWhole, StandsSame}
 
 -- ---- two lists side by side
 
@@ -148,8 +148,8 @@ tenant_there w w2 t g more of_one = record {
   calls = of_one.calls;
 }
 
-pub followed_there : (w w2 : World) (g : NamedInstance) (o : Option Tenant) → HasModulesOf w w2 → IsFollowed AreSame IsAtSameFault w g o
-    → IsFollowed AreSame IsAtSameFault w2 g o
+pub followed_there : (w w2 : World) (g : NamedInstance) (o : Option Tenant) → HasModulesOf w w2 → IsFollowed AreSame StandsSame w g o
+    → IsFollowed AreSame StandsSame w2 g o
 followed_there w w2 g None more (is_gone gone) = is_gone gone
 followed_there w w2 g (Some t) more (is_there of_one same none) = is_there (tenant_there w w2 t g more of_one) same none
 
@@ -158,16 +158,16 @@ pub data IsFound (w : World) (g : NamedInstance) (i place : ℕ) : Type 0 where
   found_gone : slice_get w.tenants i ≡ Some None → g.is_released ≡ true → IsFound w g i place
   found_live : (t : Tenant) → slice_get w.tenants i ≡ Some (Some t) → IsLive w (record { place = place; number = i }) t
       → IsTenantOf w t g → g.calls ≡ journal_calls (journal t)
-      → IsAtSameFault g t → IsFound w g i place
+      → StandsSame g t → IsFound w g i place
 
 pub found : {settings : Settings} {w : World} {m : ScriptState} {places : List ℕ} (i place : ℕ) (g : NamedInstance)
     → Knows settings w m places → slice_get m.instances i ≡ Some g → slice_get places i ≡ Some place → IsFound w g i place
 found {w = w} {m = m} {places = places} i place g known has lies =
-    let there = zip_there (IsFollowed AreSame IsAtSameFault w) m.instances w.tenants i g known.instances has in
+    let there = zip_there (IsFollowed AreSame StandsSame w) m.instances w.tenants i g known.instances has in
     let placed = zip_there IsPlaced places w.tenants i place known.placed lies in
     let one : there.0 ≡ placed.0 = same_Some there.0 placed.0 (sym there.1 ∙ placed.1) in
     go there.0 there.1 there.2 (subst (IsPlaced place) (sym one) placed.2) where
-      go : (o : Option Tenant) → slice_get w.tenants i ≡ Some o → IsFollowed AreSame IsAtSameFault w g o → IsPlaced place o
+      go : (o : Option Tenant) → slice_get w.tenants i ≡ Some o → IsFollowed AreSame StandsSame w g o → IsPlaced place o
           → IsFound w g i place
       go None at (is_gone gone) here = found_gone at gone
       go (Some t) at (is_there of_one same none) here =
@@ -191,7 +191,7 @@ pub record IsNext (w : World) (g g2 : NamedInstance) (t2 : Tenant) (place : ℕ)
   pub gone : g2.is_released ≡ g.is_released
   pub of_one : IsTenantOf w t2 g2
   pub calls : g2.calls ≡ journal_calls (journal t2)
-  pub stands : IsAtSameFault g2 t2
+  pub stands : StandsSame g2 t2
   pub lies : t2.place ≡ place
 
 -- the calls of one are these now, and it stands for this fault
@@ -214,7 +214,7 @@ pub changed : {settings : Settings} {w : World} {m : ScriptState} {places : List
     → Knows settings (with_tenant w i (Some t2) s2) (with_instance m i g2) places
 changed {w = w} {m = m} {places = places} i place g g2 t2 s2 known has lies whole least most new =
     let w2 : World = with_tenant w i (Some t2) s2 in
-    let stay = zip_map (IsFollowed AreSame IsAtSameFault w) (IsFollowed AreSame IsAtSameFault w2) m.instances w.tenants
+    let stay = zip_map (IsFollowed AreSame StandsSame w) (IsFollowed AreSame StandsSame w2) m.instances w.tenants
     (λ h o. followed_there w w2 h o (λ k l e. e)) known.instances in
     record {
       frames = whole.frames ∙ known.frames;
@@ -226,7 +226,7 @@ changed {w = w} {m = m} {places = places} i place g g2 t2 s2 known has lies whol
       spreads = most ∙ known.spreads
           ∙ sym (sum_set (λ p. (p.max - p.min) + 1) m.instances i g g2 has new.params new.gone);
       modules = known.modules;
-      instances = zip_set (IsFollowed AreSame IsAtSameFault w2) m.instances w.tenants i g2 (Some t2) stay
+      instances = zip_set (IsFollowed AreSame StandsSame w2) m.instances w.tenants i g2 (Some t2) stay
           (is_there (tenant_there w w2 t2 g2 (λ k l e. e) new.of_one) new.calls new.stands);
       placed = zip_over IsPlaced places w.tenants i place (Some t2) known.placed lies new.lies;
     }

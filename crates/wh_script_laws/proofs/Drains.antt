@@ -5,7 +5,7 @@ use Rattle.std.specs.List.{AllZip}
 use Rattle.wh_model.specs.Execution.Replay.{Outcome, cancelled, Call}
 use Rattle.wh_host_model.specs.declared.Tax.{Tax}
 use Rattle.wh_host_model.specs.Space.Parts.{Space, minima, spreads}
-use Rattle.wh_host_model.specs.Host.Worlds.{Tenant, World, journal, journal_calls}
+use Rattle.wh_host_model.specs.Host.Worlds.{for_fuel, for_device, Tenant, World, journal, journal_calls}
 use Rattle.wh_host_model.specs.Owners.{Params, is_open}
 use Rattle.wh_script_model.specs.Settings.{Settings}
 use Rattle.wh_script_model.specs.Texts.{CallStatus, Reply}
@@ -15,7 +15,7 @@ use Rattle.wh_script_model.specs.Drains as drains
 use Rattle.wh_script_model.specs.Served.{IsTenantOf, GoesNoFurther}
 use Rattle.wh_host_model.proofs.Host.Holding.{memory_is_sound}
 use Rattle.wh_script_model.proofs.Serving.{served_as_alone}
-use Rattle.wh_script_laws.specs.Following.{AreSame, ComesFurther, ComeFurther, IsFollowed, is_there, is_gone, FollowsScript, FollowsSame, IsRunAmid, AreRunAmid, StaysWhole, IsAtSameFault, StandsAmid, device_fault}
+use Rattle.wh_script_laws.specs.Following.{IsFueled, AreSame, ComesFurther, ComeFurther, IsFollowed, is_there, is_gone, FollowsScript, FollowsSame, IsRunAmid, AreRunAmid, StaysWhole, StandsAmid, device_fault, StandsSame}
 use Rattle.wh_script_laws.specs.Laws.{DrainsBegin, MovesFollow, DrainsEnd, PrintingFollows, StandsForDevice}
 use Rattle.wh_script_laws.proofs.Mixing.{zip_amid_so, zip_none}
 use Rattle.wh_script_laws.proofs.Sums.{claims_decide}
@@ -80,12 +80,12 @@ none_or_some : (o : Option ℕ) → (o ≡ None) ⊎ ((fault : ℕ) × (o ≡ So
 none_or_some None = inl refl
 none_or_some (Some fault) = inr (fault, refl)
 
-begins_so : (w : World) (g : NamedInstance) (o : Option Tenant) → IsFollowed AreSame IsAtSameFault w g o → IsRunAmid w [] g o
+begins_so : (w : World) (g : NamedInstance) (o : Option Tenant) → IsFollowed AreSame StandsSame w g o → IsRunAmid w [] g o
 begins_so w g (Some t) (is_there of_one same stands) =
     is_there of_one (subst (λ cs. ComeFurther g.calls cs) same (go_nowhere g.calls))
     (⊎_elim
-    (λ (none : g.at_fault ≡ None). inl (none, λ fault e. absurd (none-some fault (sym none ∙ stands ∙ e))))
-    (λ (some : (fault : ℕ) × (g.at_fault ≡ Some fault)). inr (some.0, some.1, sym stands ∙ some.1, same))
+    (λ (none : g.at_fault ≡ None). inl (none, λ fault e. absurd (none-some fault (sym none ∙ stands.0 ∙ e))))
+    (λ (some : (fault : ℕ) × (g.at_fault ≡ Some fault)). inr (some.0, some.1, sym stands.0 ∙ some.1, same))
     (none_or_some g.at_fault))
 begins_so w g None (is_gone gone) = is_gone gone
 
@@ -99,7 +99,7 @@ drains_begin settings w m places h = record {
   minima = h.minima;
   spreads = h.spreads;
   modules = h.modules;
-  instances = zip_none (IsFollowed AreSame IsAtSameFault w) (IsRunAmid w) (begins_so w) [] m.instances w.tenants h.instances;
+  instances = zip_none (IsFollowed AreSame StandsSame w) (IsRunAmid w) (begins_so w) [] m.instances w.tenants h.instances;
   placed = h.placed;
 }
 
@@ -157,7 +157,7 @@ moves_follow frames slots tax events w happens faults settings m places w2 moves
     × (FollowsScript (AreRunAmid faults) settings w m places → FollowsScript (AreRunAmid faults) settings v m places) in
     let after : World = record w { space = s2 } in
     let known : FollowsSame w m.instances w.tenants → FollowsSame after m.instances w.tenants =
-    zip_so (IsFollowed AreSame IsAtSameFault w) (IsFollowed AreSame IsAtSameFault after) (moved_followed AreSame IsAtSameFault w after refl) m.instances w.tenants in
+    zip_so (IsFollowed AreSame StandsSame w) (IsFollowed AreSame StandsSame after) (moved_followed AreSame StandsSame w after refl) m.instances w.tenants in
     let so : goal after = λ stays. (
       λ h. moved_so FollowsSame settings w s2 m places known stays
           (claims_decide w.space s2 sound moves.1.1 h.none_out (stays.none_out ∙ h.none_out) (λ j. (moves.1.0 j).claim)) h,
@@ -183,8 +183,8 @@ same_live_sum amount (g ∷ gs) (g2 ∷ gs2) h =
     let rest = same_live_sum amount gs gs2 h.1 in
     rw (first.released, first.params, rest) refl
 
-resaid : (w : World) (g : NamedInstance) (o : Option Tenant) (status : Option CallStatus) → IsFollowed AreSame IsAtSameFault w g o
-    → IsFollowed AreSame IsAtSameFault w (record g { last_printed = status }) o
+resaid : (w : World) (g : NamedInstance) (o : Option Tenant) (status : Option CallStatus) → IsFollowed AreSame StandsSame w g o
+    → IsFollowed AreSame StandsSame w (record g { last_printed = status }) o
 resaid w g (Some t) status (is_there of_one same sound) =
     let last_printed : IsTenantOf w t (record g { last_printed = status }) = record {
       loaded = of_one.loaded;
@@ -199,20 +199,20 @@ resaid w g (Some t) status (is_there of_one same sound) =
 resaid w g None status (is_gone gone) = is_gone gone
 
 one_said : (w : World) (g g2 : NamedInstance) (o : Option Tenant) (lines : List Reply) → PrintsStart g lines g2
-    → IsFollowed AreSame IsAtSameFault w g o → IsFollowed AreSame IsAtSameFault w g2 o × SameGuest g g2
+    → IsFollowed AreSame StandsSame w g o → IsFollowed AreSame StandsSame w g2 o × SameGuest g g2
 one_said w g g2 o lines (has_none p q) h = (h, record { released = refl; params = refl })
 one_said w g g2 o lines (has_one n e x) h = (resaid w g o _ h, record { released = refl; params = refl })
 
 all_said : (w : World) (gs last_printed : List NamedInstance) (ts : List (Option Tenant)) (lines : List Reply) → PrintStarts gs lines last_printed
-    → AllZip (IsFollowed AreSame IsAtSameFault w) gs ts → AllZip (IsFollowed AreSame IsAtSameFault w) last_printed ts × AllZip SameGuest gs last_printed
+    → AllZip (IsFollowed AreSame StandsSame w) gs ts → AllZip (IsFollowed AreSame StandsSame w) last_printed ts × AllZip SameGuest gs last_printed
 all_said w [] last_printed [] lines says h =
-    subst (λ after. AllZip (IsFollowed AreSame IsAtSameFault w) after [] × AllZip SameGuest [] after) (sym says.1) (tt, tt)
+    subst (λ after. AllZip (IsFollowed AreSame StandsSame w) after [] × AllZip SameGuest [] after) (sym says.1) (tt, tt)
 all_said w [] last_printed (o ∷ ts) lines says h = absurd h
 all_said w (g ∷ gs) last_printed [] lines says h = absurd h
 all_said w (g ∷ gs) last_printed (o ∷ ts) lines (here, rest, g2, gs2, e, f, x, more) h =
     let first = one_said w g g2 o here x h.0 in
     let others = all_said w gs gs2 ts rest more h.1 in
-    subst (λ after. AllZip (IsFollowed AreSame IsAtSameFault w) after (o ∷ ts) × AllZip SameGuest (g ∷ gs) after) (sym f)
+    subst (λ after. AllZip (IsFollowed AreSame StandsSame w) after (o ∷ ts) × AllZip SameGuest (g ∷ gs) after) (sym f)
     ((first.0, others.0), (first.1, others.1))
 
 pub saying_follows : PrintingFollows
@@ -252,14 +252,14 @@ RunSoFar w t =
 -- one has run
 pub record HasRun (faults : List ℕ) (w : World) (g g2 : NamedInstance) (o : Option Tenant) : Type 0 where
   pub amid : RunsAmid faults g g2
-  pub followed : IsFollowed AreSame IsAtSameFault w g2 o
+  pub followed : IsFollowed AreSame StandsSame w g2 o
   pub same : SameGuest g g2
 
-one_runs : (faults : List ℕ) (w : World) (g : NamedInstance) (o : Option Tenant) → ((t : Tenant) → o ≡ Some t → RunSoFar w t)
+one_runs : (faults : List ℕ) (w : World) (g : NamedInstance) (o : Option Tenant) → ((t : Tenant) → o ≡ Some t → RunSoFar w t) → ((t : Tenant) → o ≡ Some t → IsFueled t)
     → IsRunAmid w faults g o → HasRun faults w g (run_guest g o) o
-one_runs faults w g None so_far (is_gone gone) =
+one_runs faults w g None so_far fueled (is_gone gone) =
     record { amid = gone_still gone; followed = is_gone gone; same = record { released = refl; params = refl } }
-one_runs faults w g (Some t) so_far (is_there of_one further stands) =
+one_runs faults w g (Some t) so_far fueled (is_there of_one further stands) =
     let calls = journal_calls (journal t) in
     let run : IsTenantOf w t (run_guest g (Some t)) = record {
       loaded = of_one.loaded;
@@ -270,22 +270,22 @@ one_runs faults w g (Some t) so_far (is_there of_one further stands) =
       is_live = of_one.is_live;
       calls = come_nowhere calls;
     } in
-    record { amid = so_far t refl faults g of_one further stands; followed = is_there run refl refl; same = record { released = refl; params = refl } }
+    record { amid = so_far t refl faults g of_one further stands; followed = is_there run refl (refl, fueled t refl); same = record { released = refl; params = refl } }
 
 -- all have
 pub record HaveRun (faults : List ℕ) (w : World) (gs run : List NamedInstance) (ts : List (Option Tenant)) : Type 0 where
   pub amid : ZipAmid RunsAmid faults gs run
-  pub followed : AllZip (IsFollowed AreSame IsAtSameFault w) run ts
+  pub followed : AllZip (IsFollowed AreSame StandsSame w) run ts
   pub same : AllZip SameGuest gs run
 
 all_run : (faults : List ℕ) (w : World) (gs : List NamedInstance) (ts : List (Option Tenant)) → ((i : ℕ) (t : Tenant) → get_or ts i None ≡ Some t → RunSoFar w t)
-    → AreRunAmid faults w gs ts → HaveRun faults w gs (run_guests gs ts) ts
-all_run faults w [] [] so_far h = record { amid = tt; followed = tt; same = tt }
-all_run faults w [] (o ∷ ts) so_far h = absurd h
-all_run faults w (g ∷ gs) [] so_far h = absurd h
-all_run faults w (g ∷ gs) (o ∷ ts) so_far h =
-    let first = one_runs h.0 w g o (so_far 0) h.3 in
-    let others = all_run h.1 w gs ts (λ i. so_far (suc i)) h.4 in
+    → ((i : ℕ) (t : Tenant) → get_or ts i None ≡ Some t → IsFueled t) → AreRunAmid faults w gs ts → HaveRun faults w gs (run_guests gs ts) ts
+all_run faults w [] [] so_far fueled h = record { amid = tt; followed = tt; same = tt }
+all_run faults w [] (o ∷ ts) so_far fueled h = absurd h
+all_run faults w (g ∷ gs) [] so_far fueled h = absurd h
+all_run faults w (g ∷ gs) (o ∷ ts) so_far fueled h =
+    let first = one_runs h.0 w g o (so_far 0) (fueled 0) h.3 in
+    let others = all_run h.1 w gs ts (λ i. so_far (suc i)) (λ i. fueled (suc i)) h.4 in
     record { amid = (h.0, h.1, h.2, first.amid, others.amid); followed = (first.followed, others.followed); same = (first.same, others.same) }
 
 -- ---- whom no turn brings further
@@ -319,6 +319,12 @@ no_device : (t : Tenant) → (t.open_calls ≡ [] → t.waiting_for ≡ None) �
 no_device t rests (inl none) = ap device_fault (rests none)
 no_device t rests (inr fuel) = ap device_fault fuel
 
+-- who waits for nothing has no open call
+served_fueled : (t : Tenant) → GoesNoFurther t ⊎ StandsForDevice t → IsFueled t
+served_fueled t (inl (inl none)) e es are free = let bad : [] ≡ e ∷ es = sym none ∙ are in absurd (cc bad)
+served_fueled t (inl (inr fuel)) e es are free = absurd (none-some for_fuel (sym free ∙ fuel))
+served_fueled t (inr device) e es are free = absurd (none-some (for_device device.0) (sym free ∙ device.1))
+
 pub drains_end : DrainsEnd
 drains_end frames slots tax events w happens faults settings m places h served =
     let run = run_guests m.instances w.tenants in
@@ -333,7 +339,7 @@ drains_end frames slots tax events w happens faults settings m places h served =
     let is : device_fault t.waiting_for ≡ Some (swap_number device.0) = ap device_fault device.1 in
     stopped_so own w g t (swap_number device.0) of_one (stuck i t g device.0 there device.1 of_one) is lost stands)
     (served i t there) in
-    let have = all_run faults w m.instances w.tenants so_far h.instances in (
+    let have = all_run faults w m.instances w.tenants so_far (λ i t there. served_fueled t (served i t there)) h.instances in (
       run,
       have.amid,
       record {

@@ -22,5 +22,6 @@ pub mod DeterminedCommands
 pub mod DeterminedOrder
 pub mod Determined
 pub mod Faultless
+pub mod Fuel
 pub mod WorkedFaults
 pub mod Stopping

@@ -1,13 +1,14 @@
 -- What a script knows of the host that runs its calls.
-use Rattle.std.specs.Prelude.{◌≡◌, ◌⊎◌, ℕ, ◌+◌, ◌-◌, true, List, length, Option, Some, None}
+use Rattle.std.specs.Prelude.{◌≡◌, ◌⊎◌, ℕ, ◌+◌, ◌-◌, true, List, ◌∷◌, length, Option, Some, None}
 use Rattle.std.specs.List.{AllZip, Contains}
 use Rattle.wh_model.specs.Execution.Replay.{Call}
+use Rattle.wh_host_model.specs.Owners.{Entry}
 use Rattle.wh_host_model.specs.SwapFaults.{swap_number}
 use Rattle.wh_host_model.specs.Space.Errands.{tickets}
 use Rattle.wh_host_model.specs.Space.Parts.{Space, minima, spreads}
 use Rattle.wh_host_model.specs.Host.Worlds.{Suspension, for_device, Tenant, Loaded, World, journal, journal_calls}
 use Rattle.wh_script_model.specs.Settings.{Settings}
-use Rattle.wh_script_model.specs.ScriptState.{NamedModule, NamedInstance, ScriptState, live_sum}
+use Rattle.wh_script_model.specs.ScriptState.{NamedModule, NamedInstance, ScriptState, live_sum, MayUseFuel}
 use Rattle.wh_script_model.specs.Drains.{ComesTo}
 use Rattle.wh_script_model.specs.Failing.{LosesNothing, ZipAmid}
 use Rattle.wh_script_model.specs.Served.{IsTenantOf}
@@ -31,6 +32,14 @@ device_fault other = None
 -- it stands for the same fault as the script knows, or for none
 abbrev pub IsAtSameFault : NamedInstance → Tenant → Type 0
 IsAtSameFault g t = g.at_fault ≡ device_fault t.waiting_for
+
+-- where its present call waits for nothing, it has fuel left, or took no charge
+abbrev pub IsFueled : Tenant → Type 0
+IsFueled t = (e : Entry) (es : List Entry) → t.open_calls ≡ e ∷ es → t.waiting_for ≡ None → MayUseFuel e.call
+
+-- it stands as the script knows
+abbrev pub StandsSame : NamedInstance → Tenant → Type 0
+StandsSame g t = IsAtSameFault g t × IsFueled t
 
 -- it stood for a fault, and stands for it where it was
 abbrev pub StandsYet : NamedInstance → Tenant → Type 0
@@ -77,7 +86,7 @@ pub record FollowsScript (follows : World → List NamedInstance → List (Optio
 
 -- and each instance's calls are as the script knows them
 abbrev pub FollowsSame : World → List NamedInstance → List (Option Tenant) → Type 0
-FollowsSame w = AllZip (IsFollowed AreSame IsAtSameFault w)
+FollowsSame w = AllZip (IsFollowed AreSame StandsSame w)
 
 abbrev pub Knows : Settings → World → ScriptState → List ℕ → Type 0
 Knows = FollowsScript FollowsSame

@@ -17,7 +17,7 @@ use Rattle.wh_script_model.specs.Served.{GoesNoFurther}
 use Rattle.wh_script_model.specs.Receiving.{ReceivesModule, ReceivesInstance, ReceivesCall}
 use Rattle.wh_script_model.specs.Answers.{Files, IsObeyed, AnswersScript}
 use Rattle.wh_script_model.specs.Failing.{RunsAmid, ZipAmid}
-use Rattle.wh_script_laws.specs.Following.{device_fault, Knows, RunsKnown, StaysWhole}
+use Rattle.wh_script_laws.specs.Following.{Knows, RunsKnown, StaysWhole}
 use Rattle.wh_script_laws.specs.Printed.{AllArePrinted, IsWellMade, is_final}
 use Rattle.wh_script_laws.specs.OutOfMemory.{NoneIsOutOfMemory}
 use Rattle.wh_script_laws.specs.Replies.{SaysModule, admit_reply, invoke_outcome, refuel_reply, cancel_reply, retry_reply, release_reply}
@@ -139,12 +139,11 @@ OpenIsKnown =
     AfterEvents (λ w. (settings : Settings) (m : ScriptState) (places : List ℕ) (i : ℕ) (t : Tenant)
     → Knows settings w m places → tenant w i ≡ Some t → t.open_calls ≢ [] → SomeCallIsOpen m)
 
--- one that stands for no fault, where that doesn't
+-- one that may go on, where that can
 abbrev pub GoingIsKnown : Type 0
 GoingIsKnown =
     AfterEvents (λ w. (settings : Settings) (m : ScriptState) (places : List ℕ) (i : ℕ) (t : Tenant)
-    → Knows settings w m places → tenant w i ≡ Some t → t.open_calls ≢ [] → device_fault t.waiting_for ≡ None
-    → SomeCallMayGo m)
+    → Knows settings w m places → tenant w i ≡ Some t → CanGoOn t → SomeCallMayGo m)
 
 -- to say how calls are changes nothing of that
 abbrev pub PrintingFollows : Type 0

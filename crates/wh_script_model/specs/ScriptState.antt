@@ -1,5 +1,5 @@
 -- What the lines of a script have made so far: modules, instances, and the calls that were asked of them.
-use Rattle.std.specs.Prelude.{◌≡◌, ℕ, ◌+◌, Bool, false, if◌then◌else◌, List, [], ◌∷◌, ◌++◌, map, slice_get, slice_set, Option, Some, None}
+use Rattle.std.specs.Prelude.{◌≡◌, ℕ, ◌+◌, ◌<◌, ◌⊎◌, Bool, false, if◌then◌else◌, List, [], ◌∷◌, ◌++◌, map, slice_get, slice_set, Option, Some, None}
 use Rattle.wh_model.specs.Format.Syntax.{Module}
 use Rattle.wh_model.specs.Execution.Store.{Instance}
 use Rattle.wh_model.specs.Execution.Instance.{Piece}
@@ -112,8 +112,12 @@ SomeCallIsOpen m =
     (i : ℕ) × (g : NamedInstance) × (c : Call) × (slice_get m.instances i ≡ Some g) × (g.is_released ≡ false)
     × (first_open g.calls ≡ Some c)
 
--- and stands for no fault of a device
+-- fuel is left, or no charge was taken
+abbrev pub MayUseFuel : Call → Type 0
+MayUseFuel c = (c.charges < c.fuel) ⊎ (c.charges ≡ 0)
+
+-- and the call may go on: it stands for no fault of a device, and has fuel left or took no charge
 abbrev pub SomeCallMayGo : ScriptState → Type 0
 SomeCallMayGo m =
     (i : ℕ) × (g : NamedInstance) × (c : Call) × (slice_get m.instances i ≡ Some g) × (g.is_released ≡ false)
-    × (first_open g.calls ≡ Some c) × (g.at_fault ≡ None)
+    × (first_open g.calls ≡ Some c) × (g.at_fault ≡ None) × MayUseFuel c
