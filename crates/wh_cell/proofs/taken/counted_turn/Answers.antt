@@ -20,9 +20,12 @@ returns-then-not-can_go_on-clause-taken c =
 
 pub returns-clause-turns : goal.returns-clause-turns
 returns-clause-turns c w st =
-    let x = c.turn-end.ensures.turns w st in
-    (x.0, has_turn (subst (λ b. MatchBool b (IsGoing w c.args.id) (¬ (IsGoing w c.args.id))) c.if-not-can_go_on.false (c.can_go_on.ensures w st))
-    (subst (λ q. IsTurn w c.args.id q c.turn-end.result x.0) c.from.ensures x.1), x.2)
+    let x = c.turn-end.ensures.turns w st in (
+      x.0,
+      has_turn (subst (λ b. MatchBool b (IsGoing w c.args.id) (¬ (IsGoing w c.args.id))) c.if-not-can_go_on.false (c.can_go_on.ensures w st))
+          (subst (λ q. IsTurn w c.args.id q c.turn-end.result x.0) c.from.ensures x.1),
+      x.2,
+    )
 
 pub returns-clause-taken : goal.returns-clause-taken
 returns-clause-taken c =
