@@ -8,7 +8,6 @@ pub mod Going
 pub mod Led
 pub mod Passing
 pub mod Requested
-pub mod Shown
 pub mod Steps
 pub mod Turned
 pub mod RoundTurns

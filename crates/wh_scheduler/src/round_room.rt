@@ -127,7 +127,8 @@ fn give_all(runners: &mut [Runner], orders: &[ReceivedTurns], aim: Aim) -> bool
 
 impl RoundRoom {
     /// Runs turns of all these series at once, under the lock, where there are runners for so many, and each series has turns of as
-    /// many charges as the aim says, and as many of them. Whether it did; else nothing has changed.
+    /// many charges as the aim says, and as many of them. Returns whether it ran some: `false` where there is no room, or none of
+    /// their calls computes.
     pub fn run<D: SwapDev, T: Ledger, C: Ledger, O: Ledger, E: Ledger, B: CellAgreements, F: Fork>(
         &mut self,
         fork: &F,
@@ -140,6 +141,7 @@ impl RoundRoom {
         requires few { (length orders.old ≤ 32) × (aim.further + 1 < 2 ^ 32) }
         requires room { worker.old.tally.turns ≤ 2 ^ 64 - 2 ^ 38 }
         ensures from { worker.new.from ≡ worker.old.from }
+        ensures ran { result ≡ true → worker.old.tally.turns < worker.new.tally.turns }
         ensures turns { worker.new.tally.turns + turns_due orders.new
             ≡ worker.old.tally.turns + turns_due orders.old }
     {
@@ -157,12 +159,13 @@ impl RoundRoom {
             further,
             wanted: aim.wanted,
         };
+        let turns = worker.tally().turns;
         locked.turns_at_once(fork, runners, orders, burst, worker);
         self.longest = if had_all(runners, u64::from(further) + 1) {
             self.longest.saturating_mul(2)
         } else {
             (further / 2).max(FEWEST_FURTHER)
         };
-        true
+        worker.tally().turns > turns
     }
 }

@@ -330,7 +330,7 @@ impl<
     B: CellAgreements,
     X: Threads + Sync,
 > TurnJob<D, T, C, O, E, B, X> {
-    // Runs a round of these series, each of which has many turns left. Whether it did: there were threads and room for it.
+    // Runs a round of these series, each of which has many turns left. Whether it ran some turns: there were threads and room for it.
     fn run_round<R: Wait>(
         &self,
         rt: &R,
@@ -339,6 +339,7 @@ impl<
     ) -> bool
         requires can { IsSync X.row }
         ensures from { worker.new.from ≡ worker.old.from }
+        ensures ran { result ≡ true → worker.old.tally.turns < worker.new.tally.turns }
         ensures turns { worker.new.tally.turns + turns_due orders.new
             ≡ worker.old.tally.turns + turns_due orders.old }
     {

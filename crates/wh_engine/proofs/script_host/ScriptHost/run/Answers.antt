@@ -1,7 +1,8 @@
-use Rattle.std.proofs.Common.{arith, ◌<◌, ◌∙◌, inr, length, ap, subst}
+use Rattle.std.proofs.Common.{arith, ◌<◌, ◌∙◌, inr, length, ap, subst, sym}
 use Rattle.wh_cell.specs.Locking.{BooksState}
 use Rattle.std.specs.Prelude.{OnOk}
 use Rattle.wh_scheduler.specs.InHand.{OwnCount, left_of}
+use Rattle.wh_host_model.specs.Space.Stores.{Epochs}
 use Rattle.wh_engine.specs.Draining.{DeviceMayFail, DeviceStaysTrue, RunsTurns, SomeGoes}
 use Rattle.wh_engine.specs.RepresentedScript.{ScriptHostState}
 use Rattle.wh_engine.proofs.Opened.{goes_open, only_open}
@@ -89,3 +90,27 @@ returns-clause-turns g c =
     let ran = subst (λ r. OnOk r (RunsTurns q was.books was.own new.books new.own)) c.in_default-ended.is c.run_host-ended.ensures.turns in
     subst (λ (o : OwnCount). RunsTurns q c.self.inside.host.books o new.books new.own) own
     (subst (λ (b : BooksState). RunsTurns q b was.own new.books new.own) books ran))
+
+pub returns-in-Err-clause-epoch : goal.returns-in-Err-clause-epoch
+returns-in-Err-clause-epoch g c =
+    inr (rw (← c.self.view_is) (
+    let space = ap (λ (z : ScriptHostState g.row.D.Denot). z.host.host.space) c.self-2.view_is in
+    let device = ap (λ (z : ScriptHostState g.row.D.Denot). z.host.device) c.self-2.view_is ∙ c.epoch.ensures.device in
+    record {
+      begun = c.self-2.inside.host;
+      clears = subst (λ s. Epochs c.self.inside.host.host.space s) (sym space) c.epoch.ensures.clears;
+      same = device;
+      works = c.run_host-ended.ensures.came;
+    }))
+
+pub returns-clause-epoch : goal.returns-clause-epoch
+returns-clause-epoch g c =
+    inr (rw (← c.self.view_is) (
+    let space = ap (λ (z : ScriptHostState g.row.D.Denot). z.host.host.space) c.self-2.view_is in
+    let device = ap (λ (z : ScriptHostState g.row.D.Denot). z.host.device) c.self-2.view_is ∙ c.epoch.ensures.device in
+    record {
+      begun = c.self-2.inside.host;
+      clears = subst (λ s. Epochs c.self.inside.host.host.space s) (sym space) c.epoch.ensures.clears;
+      same = device;
+      works = c.run_host-ended.ensures.came;
+    }))
