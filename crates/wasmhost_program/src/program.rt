@@ -101,7 +101,7 @@ pub struct ProgramOutcome<F> {
 /// A device over this file. What it held is lost.
 fn device_over<F: OpenFile + Read + Write + Seek + Drop>(
     alloc: Global,
-    own: &SwapFile<F>,
+    own: &SwapFile<'_, F>,
     slots: u32,
 ) -> Result<StreamSwap<F>, ProgramFault>
     ensures held { IfOk result (λ device. page_held device ≡ replicate slots []) }
@@ -200,7 +200,7 @@ fn run_on_file<
     folder: &S,
     settings: &Settings,
     given: Arguments<'_>,
-    own: &SwapFile<E::File>,
+    own: &SwapFile<'_, E::File>,
     input: &mut WatchedRead<R>,
     output: &mut WatchedWrite<W>,
 ) -> (
@@ -210,7 +210,7 @@ fn run_on_file<
 )
 where
     E::File: Send + 'static,
-    requires { (settings_of settings.now).swap ≡ Some (string_bytes own.now.path) }
+    requires { (settings_of settings.now).swap ≡ Some own.now.path.now }
     ensures amid { HoldsOver result.1 (λ met. RunsWith (runs_amid met) (S.known folder.now)
         (S.files folder.now) (settings_of settings.now) (option_map (λ p. p.now) given.entry.script)
         (R.remaining input.old.inner) (R.remaining input.new.inner) (W.contents output.old.inner)

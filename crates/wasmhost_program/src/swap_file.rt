@@ -1,6 +1,6 @@
 // The file to which pages are swapped: this host's own while it runs, and empty where it has ended in order.
 
-ghost use Rattle.std.specs.Prelude.{◌≡◌, IfOk, string_bytes};
+ghost use Rattle.std.specs.Prelude.{◌≡◌, IfOk};
 
 use std::fs::{File, OpenFile, OpenOptions, TryLockError};
 use std::io::{Error, ErrorKind, Result as IoResult};
@@ -26,14 +26,14 @@ impl Lockable for File {
 /// A file for swap. What keeps bytes, a file or a block device, is locked while it is open; what doesn't, as a pipe or
 /// `/dev/null`, is taken as it is.
 #[derive(Drop)]
-pub struct SwapFile<F> {
+pub struct SwapFile<'a, F> {
     file: F,
     is_regular: bool,
     // Where it was opened.
-    path: String,
+    path: &'a str,
 }
 
-impl<F: OpenFile> SwapFile<F> {
+impl<'a, F: OpenFile> SwapFile<'a, F> {
     /// Another handle of the file.
     ///
     /// # Errors
@@ -58,12 +58,11 @@ impl<F: OpenFile> SwapFile<F> {
 ///
 /// # Errors
 /// Where it can't be opened or emptied, and where another host has it.
-pub fn open_swap_file<E: Files + AllocGlobal>(rt: &E, path: &str) -> IoResult<SwapFile<E::File>>
+pub fn open_swap_file<'a, E: Files>(rt: &E, path: &'a str) -> IoResult<SwapFile<'a, E::File>>
 where
     E::File: Lockable,
-    ensures { IfOk result (λ own. string_bytes own.path ≡ path.now) }
+    ensures { IfOk result (λ own. own.path.now ≡ path.now) }
 {
-    let path_kept = String::from_str(rt.alloc(), path)?;
     let mut options = OpenOptions::new();
     options.read(true);
     options.write(true);
@@ -78,7 +77,7 @@ where
     let own = SwapFile {
         file,
         is_regular,
-        path: path_kept,
+        path,
     };
     own.empty()?;
     Ok(own)

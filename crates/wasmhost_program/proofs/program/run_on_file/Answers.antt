@@ -1,9 +1,8 @@
 use denote.Exit.{no}
 use denote.Param.Send.{arg_send, param_send}
-use Rattle.std.proofs.Common.{◌≡◌, ap, is_some, option_map, string_bytes, sym}
+use Rattle.std.proofs.Common.{ap, is_some, option_map}
 use Rattle.wh_settings.specs.View.{settings_of}
 use Rattle.wasmhost_program.specs.ProgramOutput.{has_run}
-use Rattle.wasmhost_program.specs.ProgramOutput.{RunsSo, StopsForOutput}
 use Rattle.wasmhost_program.proofs.Runs.{device_fault_so, holds_back, no_device, not_for_output, over_file, stops_for_output}
 use Rattle.wasmhost_program.proofs.Sent.{swap_send}
 use Rattle.wasmhost_program.proofs.program.run_on_file.Goals as goal
@@ -22,7 +21,7 @@ returns-in-Err-clause-amid g c =
 pub returns-in-Ok-clause-config : goal.returns-in-Ok-clause-config
 returns-in-Ok-clause-config g c =
     let settings = settings_of c.args.settings.now in
-    rw c.outcome_of.ensures (over_file settings c.args.given.workers.number (string_bytes c.args.own.now.path) c.run_over-outcome.result.0 c.run_over-outcome.result.1 c.run_over-outcome.result.2 c.requires c.run_over-outcome.ensures.config)
+    rw c.outcome_of.ensures (over_file settings c.args.given.workers.number c.args.own.now.path.now c.run_over-outcome.result.0 c.run_over-outcome.result.1 c.run_over-outcome.result.2 c.requires c.run_over-outcome.ensures.config)
 
 pub returns-in-Err-clause-config : goal.returns-in-Err-clause-config
 returns-in-Err-clause-config g c same = absurd (cc same)

@@ -1,7 +1,6 @@
-use Rattle.std.proofs.Common.{◌≡◌, ap, is_some, option_map, refl, string_bytes, subst, sym}
-use Rattle.wh_settings.specs.View.{settings_of}
+use Rattle.std.proofs.Common.{ap, is_some, option_map, refl, string_bytes}
 use Rattle.wasmhost_program.specs.ProgramOutput.{has_no_swap, has_run}
-use Rattle.wasmhost_program.proofs.Runs.{in_memory, stops_for_output}
+use Rattle.wasmhost_program.proofs.Runs.{stops_for_output}
 use Rattle.wasmhost_program.proofs.program.run_with.Goals as goal
 
 pub returns-in_default-clause-amid : goal.returns-in_default-clause-amid
