@@ -115,7 +115,8 @@ fn ask_locked<T: Ledger, C: Ledger, O: Ledger, E: Ledger, B: CellAgreements>(
     let a = locked.ask(owner, admission(alloc, stores))?;
     let b = locked.ask(owner, admission(alloc, loops))?;
     let c = locked.ask(owner, admission(alloc, loops))?;
-    for page in 0..8 {
+    for page in 0..8u32 {
+        let page = i128::from(page);
         let _ = locked.ask(
             owner,
             invocation(alloc, a, "s", &[page * 4096, page + 1], 1000),
