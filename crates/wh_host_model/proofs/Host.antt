@@ -2,9 +2,12 @@ pub mod Entries
 pub mod Ordered
 pub mod Opening
 pub mod Inputs
+pub mod Limits
+pub mod Arriving
 pub mod Keeping
 pub mod Running
 pub mod Empty
+pub mod Copied
 pub mod Lasting
 pub mod Holding
 pub mod StuckLemmas
@@ -24,3 +27,4 @@ pub mod Admitting
 pub mod Progress
 pub mod Stepping
 pub mod Starting
+pub mod Copying

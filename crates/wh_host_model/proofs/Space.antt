@@ -39,6 +39,8 @@ pub mod Enlarged
 pub mod Settled
 pub mod Voided
 pub mod Entered
+pub mod Forked
+pub mod ForkedCharges
 pub mod Exited
 pub mod Exiting
 pub mod Chained

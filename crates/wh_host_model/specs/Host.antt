@@ -5,6 +5,7 @@ pub mod Turns
 pub mod CallAnswers
 pub mod OwnerCalls
 pub mod Admission
+pub mod Forking
 pub mod Events
 pub mod Happens
 pub mod Journals

@@ -1,5 +1,5 @@
 -- What owners of instances give and ask, in plain words: parameters, arguments, limits, and faults by their numbers.
-use Rattle.std.specs.Prelude.{ℕ, ◌/◌, List, ◌-◌, ◌≢◌, ◌≡◌, ◌^◌, [], ◌∷◌, slice_get, Some, ℤ, pos, negsuc, ◌≤ℤ◌, Option, Bool, true, false, if◌then◌else◌, None}
+use Rattle.std.specs.Prelude.{ℕ, ◌/◌, ◌+◌, List, ◌-◌, ◌≢◌, ◌≡◌, ◌^◌, [], ◌∷◌, slice_get, Some, ℤ, pos, negsuc, ◌≤ℤ◌, Option, Bool, true, false, if◌then◌else◌, None}
 use Rattle.wh_model.specs.Execution.Instance.{Parameters}
 use Rattle.wh_model.specs.declared.faults.ValidKind.{ValidKind}
 use Rattle.wh_model.specs.declared.faults.ValidKind.TheVariants.{Memory as NoRoomToCheck}
@@ -57,6 +57,33 @@ admit_rank swap = 5
 admit_rank instances = 6
 admit_rank memory = 7
 admit_rank segments = 8
+
+-- What the owner of a copy of an instance gives it. All else that was given to the instance is given to its copy.
+pub record Quota : Type 0 where
+  pub shares : ℕ
+  pub min : ℕ
+  pub max : ℕ
+
+abbrev pub with_quota : Params → Quota → Params
+with_quota p q = record p { shares = q.shares; min = q.min; max = q.max }
+
+-- Why an instance isn't copied: one of its calls is open; its start has failed; an instance with this quota wouldn't be
+-- admitted; its copy's memory couldn't grow just as far, or would be greater than its maximum; or one of its pages
+-- isn't in memory, or is on its way.
+pub data ForkFault : Type 0 where
+  call_open : ForkFault
+  start_failed : ForkFault
+  not_admitted : AdmitFault → ForkFault
+  other_limit : ForkFault
+  page_away : ForkFault
+
+-- they are looked at in this order
+abbrev pub fork_rank : ForkFault → ℕ
+fork_rank call_open = 0
+fork_rank start_failed = 1
+fork_rank (not_admitted fault) = 1 + admit_rank fault
+fork_rank other_limit = 10
+fork_rank page_away = 11
 
 -- what the validator may find wrong: all of its kinds but out of memory
 abbrev pub IsValidFault : ValidKind → Type 0

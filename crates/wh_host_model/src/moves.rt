@@ -1,6 +1,6 @@
 //! The laws of what the memory's own moves are to a host.
 
-ghost use Rattle.wh_host_model.specs.Host.Bridges.{LoadsStep, StoresStep, GrowthSteps, WaitsWell, EndsWell, EpochsLeaveAll, OffersLeaveAll, EvictionsBegin, WritesLeaveAll, EvictionsEnd, FetchesBegin, FetchesEnd, ProvisionsLeaveAll, FailuresLeaveAll, FetchesSeeAsMany, ProvisionsSeeAsMany, FailuresSeeAsMany, EntrantsArrive, ExitsDepart};
+ghost use Rattle.wh_host_model.specs.Host.Bridges.{LoadsStep, StoresStep, GrowthSteps, WaitsWell, EndsWell, EpochsLeaveAll, OffersLeaveAll, EvictionsBegin, WritesLeaveAll, EvictionsEnd, FetchesBegin, FetchesEnd, ProvisionsLeaveAll, FailuresLeaveAll, FetchesSeeAsMany, ProvisionsSeeAsMany, FailuresSeeAsMany, EntrantsArrive, ExitsDepart, CopiesArrive};
 
 /// What the moves of the memory on which all instances lie leave, in the words in which a host's events ask for it. The
 /// function does nothing; what it ensures are the laws.
@@ -24,4 +24,5 @@ pub fn moves_hold()
     ensures failures_see_as_many { FailuresSeeAsMany }
     ensures entrants_arrive { EntrantsArrive }
     ensures exits_depart { ExitsDepart }
+    ensures copies_arrive { CopiesArrive }
 {}

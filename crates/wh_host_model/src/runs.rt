@@ -1,10 +1,10 @@
 //! The law over every run.
 
-ghost use Rattle.wh_host_model.specs.Host.Laws.{MemoryIsSound, PlacesAreRight, PromisesAreKept, InstancesReplay, ChargesAreWithin, JournalsAreInOrder, SuspensionsAreRight, FrameIsLacking, AgainIsReady, OneTurn};
+ghost use Rattle.wh_host_model.specs.Host.Laws.{MemoryIsSound, PlacesAreRight, PromisesAreKept, InstancesReplay, ChargesAreWithin, CopiedCallsHaveEnded, JournalsAreInOrder, SuspensionsAreRight, FrameIsLacking, AgainIsReady, OneTurn};
 ghost use Rattle.wh_host_model.specs.Host.Stuck.{NoCallIsStuck};
 ghost use Rattle.wh_host_model.specs.Host.TakenSteps.{ReadyStepsAreTaken};
 ghost use Rattle.wh_host_model.specs.Host.Apart.{NoBytesReachAnother};
-ghost use Rattle.wh_host_model.specs.Host.Progress.{EventsHappen, LoadsAreTaken, AdmissionsAreTaken, CallsAreTaken, IdleTurnsHappen, FuelTurnsHappen, ReadyTurnsHappen};
+ghost use Rattle.wh_host_model.specs.Host.Progress.{EventsHappen, LoadsAreTaken, AdmissionsAreTaken, CallsAreTaken, ForksAreTaken, IdleTurnsHappen, FuelTurnsHappen, ReadyTurnsHappen};
 ghost use Rattle.wh_host_model.specs.Host.Misreading.{MemoryStaysSound, PlacesStayRight, ModulesStayAccepted, JournalsStayInOrder, InputsStay, FramesAreAwaited};
 
 /// What holds of a host after every list of events from an empty one, and of what a turn answers. The function does
@@ -16,6 +16,7 @@ pub fn every_run()
     ensures instances_replay { InstancesReplay }
     ensures no_call_is_stuck { NoCallIsStuck }
     ensures charges_are_within { ChargesAreWithin }
+    ensures copied_calls_have_ended { CopiedCallsHaveEnded }
     ensures journals_are_in_order { JournalsAreInOrder }
     ensures suspensions_are_right { SuspensionsAreRight }
     ensures frame_is_lacking { FrameIsLacking }
@@ -27,6 +28,7 @@ pub fn every_run()
     ensures loads_are_taken { LoadsAreTaken }
     ensures admissions_are_taken { AdmissionsAreTaken }
     ensures calls_are_taken { CallsAreTaken }
+    ensures forks_are_taken { ForksAreTaken }
     ensures idle_turns_happen { IdleTurnsHappen }
     ensures fuel_turns_happen { FuelTurnsHappen }
     ensures ready_turns_happen { ReadyTurnsHappen }

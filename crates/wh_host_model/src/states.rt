@@ -47,6 +47,8 @@ pub enum Mark {
     Hint { hash: u64, place: u32, page: u32 },
     /// An entry under this hash: how many pages share the frame.
     Sharers { hash: u64, count: u32 },
+    /// No entry, but pages share the frame: how many. Its hash isn't known.
+    Unlisted { count: u32 },
 }
 
 /// What a slot is used for. A place is that of an instance.

@@ -43,7 +43,7 @@ loaded_there (x ∷ xs) (suc k) low = loaded_there xs k (omega (arith, low))
 below_length : (n k : ℕ) → ¬ (n ≤ k) → k < n
 below_length n k none = omega (arith, none)
 
-at_least : (a b : ℕ) → ¬ (a < b) → b ≤ a
+pub at_least : (a b : ℕ) → ¬ (a < b) → b ≤ a
 at_least a b none = omega (arith, none)
 
 -- ---- its beginning

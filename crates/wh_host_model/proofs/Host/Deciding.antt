@@ -1,22 +1,27 @@
 -- Which faults an admission and a new call meet is decided.
-use Rattle.std.proofs.Common.{◌≡◌, ℕ, ℤ, pos, negsuc, ◌≤ℤ◌, ◌+◌, ◌-◌, ◌<◌, ◌≤◌, ◌⊎◌, inl, inr, Bool, true, false, Option, Some, None, List, [], ◌∷◌, length, get_or, slice_get, zero, suc, refl, sym, ap, subst, ◌∙◌, arith}
+use Rattle.std.proofs.Common.{◌≡◌, ℕ, ℤ, pos, negsuc, ◌≤ℤ◌, ◌+◌, ◌-◌, ◌/◌, ◌≢◌, ◌<◌, ◌≤◌, ◌⊎◌, inl, inr, Bool, true, false, Option, Some, None, List, [], ◌∷◌, length, get_or, slice_get, zero, suc, refl, sym, ap, subst, ◌∙◌, arith}
 use Rattle.std.proofs.lemmas.Bool.{cases_lt}
 use Rattle.std.proofs.lemmas.Int.{by_lt_z, ints}
 use Rattle.wh_model.specs.declared.ExternKind.{ExternKind}
 use Rattle.wh_model.specs.declared.ExternKind.TheVariants.{Func, Table, Memory, Global}
 use Rattle.wh_model.specs.declared.ValType.{ValType}
 use Rattle.wh_model.specs.declared.ValType.TheVariants.{I32, I64}
-use Rattle.wh_model.specs.Execution.Instance.{Beginning, IsInitial, Parameters, begins, memory_min, segment_bounds}
+use Rattle.wh_model.specs.Execution.Instance.{Beginning, IsInitial, Parameters, begins, last_size, memory_min, segment_bounds}
 use Rattle.wh_model.specs.Execution.Numbers.{unsigned}
 use Rattle.wh_model.specs.Execution.Store.{FuncInst, Instance, Value, host, own, value}
 use Rattle.wh_model.specs.Format.Syntax.{Body, Export, FuncType, Module}
 use Rattle.wh_model.proofs.Instance.{one_beginning}
-use Rattle.wh_host_model.specs.Space.Parts.{minima, spreads}
-use Rattle.wh_host_model.specs.Host.Worlds.{Loaded, Tenant, World, journal}
+use Rattle.wh_host_model.specs.Space.Parts.{Space, minima, spreads}
+use Rattle.wh_host_model.specs.Host.Worlds.{Loaded, Tenant, World, journal, module_of}
 use Rattle.wh_host_model.specs.Owners.{Params, given_of, AdmitFault, admit_rank, frames, instances, memory, min_max, most_instances, no_module, segments, shares, swap, AreArguments, ExportsOwn, InvokeFault, IsArgument, arguments, instance_dead, journal_full, most_calls, most_open, no_export, queue_full, rank}
 use Rattle.wh_host_model.specs.Host.OwnerCalls.{IsFirst, Meets, open_count}
 use Rattle.wh_model.specs.Linking.Accepting.{IsAccepted}
 use Rattle.wh_host_model.specs.Host.Admission.{IsFirstMet, MeetsFault, live_count}
+use Rattle.wh_host_model.specs.Host.Forking.{IsAway, IsFirstForkFault, MeetsForkFault}
+use Rattle.wh_host_model.specs.declared.states.Page.{Page}
+use Rattle.wh_host_model.specs.Space.Claims.{stays}
+use Rattle.wh_host_model.specs.Space.States.{page_at, untouched}
+use Rattle.wh_host_model.specs.Owners.{Entry, ForkFault, Quota, call_open, fork_rank, not_admitted, other_limit, page_away, start_failed, with_quota}
 use Rattle.wh_model.proofs.Beginnings.{some_beginning}
 use Rattle.wh_host_model.proofs.Space.Putting.{here_or}
 
@@ -86,7 +91,7 @@ first_of order of is M decide (suc n) = elim (first_of order of is M decide n) [
 
 -- ---- an admission
 
-loaded_or_not : (o : Option Loaded) → (o ≡ None) ⊎ ((l : Loaded) × (o ≡ Some l))
+pub loaded_or_not : (o : Option Loaded) → (o ≡ None) ⊎ ((l : Loaded) × (o ≡ Some l))
 loaded_or_not None = inl refl
 loaded_or_not (Some l) = inr (l, refl)
 
@@ -100,8 +105,8 @@ begins_outside m p segment_bounds is = inl is
 begins_outside m p memory_min is = inr (λ other. (let bad = one_beginning m p memory_min segment_bounds is other in cc bad))
 begins_outside m p (begins inst s ps) is = inr (λ other. (let bad = one_beginning m p (begins inst s ps) segment_bounds is other in cc bad))
 
-of_loaded : (w : World) (k : ℕ) (P : Loaded → Type 0) → ((l : Loaded) → slice_get w.modules k ≡ Some l → Decided (P l)) → Decided ((l : Loaded) × (slice_get w.modules k ≡ Some l) × P l)
-of_loaded w k P decide = elim (loaded_or_not (slice_get w.modules k)) [
+of_loaded : (w : World) (k : ℕ) (P : Loaded → Type 0) → ((l : Loaded) → module_of w k ≡ Some l → Decided (P l)) → Decided ((l : Loaded) × (module_of w k ≡ Some l) × P l)
+of_loaded w k P decide = elim (loaded_or_not (module_of w k)) [
   | inl none ↦ inr (λ one. (let bad : None ≡ Some one.0 = sym none ∙ one.1 in cc bad))
   | inr (l, is) ↦ elim (decide l is) [
     | inl so ↦ inl (l, is, so)
@@ -109,7 +114,7 @@ of_loaded w k P decide = elim (loaded_or_not (slice_get w.modules k)) [
   ]
 ]
 
-admit_fault : (w : World) (k : ℕ) (p : Params) → ((i : ℕ) (l : Loaded) → slice_get w.modules i ≡ Some l → IsAccepted l.bytes l.m) → (f : AdmitFault) → Decided (MeetsFault w k p f)
+admit_fault : (w : World) (k : ℕ) (p : Params) → ((i : ℕ) (l : Loaded) → module_of w i ≡ Some l → IsAccepted l.bytes l.m) → (f : AdmitFault) → Decided (MeetsFault w k p f)
 admit_fault w k p loads no_module = at_most (length w.modules) k
 admit_fault w k p loads shares = either (below p.shares 1) (below 1000000 p.shares)
 admit_fault w k p loads min_max = either (below p.min 2) (either (below p.max p.min) (below 65536 p.max))
@@ -145,12 +150,75 @@ admit_below instances = omega arith
 admit_below memory = omega arith
 admit_below segments = omega arith
 
-pub first_to_admit : (w : World) (k : ℕ) (p : Params) → ((i : ℕ) (l : Loaded) → slice_get w.modules i ≡ Some l → IsAccepted l.bytes l.m)
+pub first_to_admit : (w : World) (k : ℕ) (p : Params) → ((i : ℕ) (l : Loaded) → module_of w i ≡ Some l → IsAccepted l.bytes l.m)
     → ((f : AdmitFault) × IsFirstMet w k p f) ⊎ ((f : AdmitFault) → ¬ (MeetsFault w k p f))
 first_to_admit w k p loads = elim (first_of admit_rank admit_at admit_is (MeetsFault w k p) (admit_fault w k p loads) 9) [
   | inl (f, met, first) ↦ inl (f, (met, first))
   | inr none ↦ inr (λ f. none f (admit_below f))
 ]
+
+-- ---- a copy
+
+idle_or_not : (es : List Entry) → Decided (es ≢ [])
+idle_or_not [] = inr (λ some. some refl)
+idle_or_not (e ∷ es) = inl (λ bad. cc bad)
+
+failed_or_not : (b : Bool) → Decided (b ≡ true)
+failed_or_not true = inl refl
+failed_or_not false = inr (λ bad. cc bad)
+
+apart_or_not : (m n : ℕ) → Decided (m ≢ n)
+apart_or_not m n = elim (here_or n m) [ inl same ↦ inr (λ apart. apart same) | inr other ↦ inl (λ e. other e) ]
+
+away_or_not : (s : Space) (i : ℕ) → Decided (IsAway s i)
+away_or_not s i = elim (found (λ page. untouched page + stays page ≡ 0) (λ page. zero_or_not (untouched page + stays page)) (get_or s.tables i [])) [
+  | inl (p, page, is, so) ↦ inl (p, page, is, so)
+  | inr none ↦ inr (λ (one : (p : ℕ) × (page : Page) × (page_at s.tables i p ≡ Some page) × (untouched page + stays page ≡ 0)). none one.0 one.1 one.2 one.3)
+] where
+  zero_or_not : (n : ℕ) → Decided (n ≡ 0)
+  zero_or_not zero = inl refl
+  zero_or_not (suc n) = inr (λ e. omega arith)
+
+fork_fault : (w : World) (t : Tenant) (q : Quota) → ((i : ℕ) (l : Loaded) → module_of w i ≡ Some l → IsAccepted l.bytes l.m) → (f : ForkFault) → Decided (MeetsForkFault w t q f)
+fork_fault w t q loads call_open = idle_or_not t.open_calls
+fork_fault w t q loads start_failed = failed_or_not t.dead
+fork_fault w t q loads (not_admitted f) = admit_fault w t.of (with_quota t.params q) loads f
+fork_fault w t q loads other_limit = either (of_loaded w t.of (λ l. last_size l.m.memories (q.max / 16) ≢ t.inst.page_limit) (λ l is. apart_or_not (last_size l.m.memories (q.max / 16)) t.inst.page_limit)) (below q.max (length (get_or w.space.tables t.place [])))
+fork_fault w t q loads page_away = away_or_not w.space t.place
+
+fork_at : ℕ → ForkFault
+fork_at n = get_or (call_open ∷ start_failed ∷ not_admitted no_module ∷ not_admitted shares ∷ not_admitted min_max ∷ not_admitted frames ∷ not_admitted swap ∷ not_admitted instances ∷ not_admitted memory ∷ not_admitted segments ∷ other_limit ∷ []) n page_away
+
+fork_is : (f : ForkFault) → fork_at (fork_rank f) ≡ f
+unfolding fork_at
+fork_is call_open = refl
+fork_is start_failed = refl
+fork_is (not_admitted no_module) = refl
+fork_is (not_admitted shares) = refl
+fork_is (not_admitted min_max) = refl
+fork_is (not_admitted frames) = refl
+fork_is (not_admitted swap) = refl
+fork_is (not_admitted instances) = refl
+fork_is (not_admitted memory) = refl
+fork_is (not_admitted segments) = refl
+fork_is other_limit = refl
+fork_is page_away = refl
+
+fork_below : (f : ForkFault) → fork_rank f < 12
+fork_below call_open = omega arith
+fork_below start_failed = omega arith
+fork_below (not_admitted f) = let low = admit_below f in omega (arith, low)
+fork_below other_limit = omega arith
+fork_below page_away = omega arith
+
+pub first_to_fork : (w : World) (t : Tenant) (q : Quota) → ((i : ℕ) (l : Loaded) → module_of w i ≡ Some l → IsAccepted l.bytes l.m)
+    → ((f : ForkFault) × IsFirstForkFault w t q f) ⊎ ((f : ForkFault) → ¬ (MeetsForkFault w t q f))
+first_to_fork w t q loads = elim (first_of fork_rank fork_at fork_is (MeetsForkFault w t q) (fork_fault w t q loads) 12) [
+  | inl (f, met, first) ↦ inl (f, (met, first))
+  | inr none ↦ inr (λ f. none f (fork_below f))
+]
+
+-- ---- a module that is in use
 
 -- ---- a new call
 

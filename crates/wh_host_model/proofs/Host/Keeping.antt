@@ -27,6 +27,7 @@ use Rattle.wh_host_model.specs.Host.Journals.{IsOpenCall, ReturnsTyped, HasEnded
 use Rattle.wh_host_model.specs.Host.Suspensions.{NextAsks, a_piece, a_step, WaitsDuly, FirstWaitsDuly}
 use Rattle.wh_host_model.proofs.Host.Entries.{Now, faces_now, past_dead, calls_join, all_join, joined, invoked_alike}
 use Rattle.wh_host_model.proofs.Host.Ordered.{SameCall, order_on, order_ends, order_dies, order_comes, order_fuel}
+use Rattle.wh_host_model.proofs.Host.Limits.{SameLimit, given_still, initial_still}
 use Rattle.wh_host_model.proofs.Host.Opening.{computes_call, writes_view, whole, counted}
 
 -- An instance is what its journal comes to, where its memory has these bytes and these are wanted there: in two parts, the
@@ -416,7 +417,7 @@ some_pieces (p ∷ ps) some = omega arith
 
 abbrev pub beginner : ℕ → ℕ → Params → Instance → Store → Doing → List Entry → List Entry → Tenant
 beginner place of p inst s d es os =
-    record { place = place; of = of; params = p; inst = inst; rest = rest_of s; doing = d; ended = es; open_calls = os; waiting_for = None; dead = false }
+    record { place = place; of = of; params = p; inst = inst; rest = rest_of s; doing = d; ended = es; copied = 0; open_calls = os; waiting_for = None; dead = false }
 
 pub begins_kept : (m : Module) (place of : ℕ) (params : Params) (p : Parameters) (inst : Instance) (s : Store) (ps : List Piece) (fuel : ℕ) {d : Doing} {es os : List Entry} → AreGiven p → IsInitial m p (begins inst s ps) → fuel ≤ most_fuel
     → StartsAs inst s ps m.start fuel d es os → Kept m p (beginner place of params inst s d es os) s.bytes None
@@ -461,4 +462,24 @@ begins_kept m place of params p inst s ps fuel given initial low (ends none star
   few = omega arith;
   few_open = omega arith;
   duly = (refl, refl);
+}
+
+-- ---- an instance is copied
+
+-- a copy, without an open call, is what the same journal comes to
+pub fork_kept : {m : Module} {p p2 : Parameters} {t : Tenant} {bytes : List ℕ} {want : Option Need} → Kept m p t bytes want → t.open_calls ≡ [] → SameLimit m p p2 t.inst → (place : ℕ) (params : Params)
+    → Kept m p2 (record t { place = place; params = params; copied = length t.ended; waiting_for = None }) bytes None
+fork_kept {m = m} {p = p} {p2 = p2} {t = t} {bytes = bytes} k none same place params = record {
+  given = given_still k.given same;
+  s0 = k.s0;
+  ps0 = k.ps0;
+  initial = initial_still m p p2 t.inst k.s0 k.ps0 k.initial same;
+  s1 = k.s1;
+  ps1 = k.ps1;
+  past = k.past;
+  now = k.now;
+  order = k.order;
+  few = k.few;
+  few_open = k.few_open;
+  duly = duly_none t.inst (store_with bytes t.rest) t.doing t.open_calls refl;
 }

@@ -25,6 +25,7 @@ use Rattle.wh_host_model.proofs.Space.Chained.{empty_sound}
 use Rattle.wh_host_model.proofs.Host.Inputs.{leads_inputs, initial_inputs}
 use Rattle.wh_host_model.proofs.Host.Keeping.{beginner, some_func, types_alike}
 use Rattle.wh_host_model.proofs.Host.Ordered.{SameCall, order_on, order_ends, order_dies, order_comes}
+use Rattle.wh_host_model.proofs.Host.Limits.{SameLimit}
 use Rattle.wh_host_model.proofs.Host.Running.{IsKeptUp, IsGoodBy, events_keep}
 
 -- ---- what is kept of an instance
@@ -210,6 +211,16 @@ begins_lasting m place of params p inst s ps fuel given initial low (ends none s
   wanted = tt;
 }
 
+fork_lasting : {m : Module} {p p2 : Parameters} {t : Tenant} {bytes : List ℕ} {want : Option Need} → Lasts m p t bytes want → SameLimit m p p2 t.inst → (place : ℕ) (params : Params)
+    → Lasts m p2 (record t { place = place; params = params; copied = length t.ended; waiting_for = None }) bytes None
+fork_lasting k same place params = record {
+  order = k.order;
+  few = k.few;
+  few_open = k.few_open;
+  inputs = k.inputs ∙ sym same.inputs;
+  wanted = tt;
+}
+
 pub lasts_up : IsKeptUp Lasts
 lasts_up = record {
   turned = λ k h. turn_lasting k h;
@@ -218,6 +229,7 @@ lasts_up = record {
   faulted = λ k a b c. fault_lasting k a b c;
   retried = λ k h. retry_lasting k h;
   accepted = λ s k h. accept_lasting s k h;
+  forked = λ k none same place params. fork_lasting k same place params;
   begun = λ m place of params p inst s ps fuel given initial few starts. begins_lasting m place of params p inst s ps fuel given initial few starts;
 }
 

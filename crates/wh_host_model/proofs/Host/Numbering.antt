@@ -1,23 +1,25 @@
 -- Whoever has a place, also one that was released, has the number of an instance that was admitted.
-use Rattle.std.proofs.Common.{◌≡◌, ◌≢◌, ℕ, ℤ, zero, suc, ◌+◌, ◌<◌, inl, inr, Bool, true, false, List, [], ◌∷◌, Option, Some, None, length, get_or, length-set, length-append, refl, sym, ap, subst, ◌∙◌, arith}
+use Rattle.std.proofs.Common.{◌≡◌, ◌≢◌, ℕ, ℤ, zero, suc, ◌+◌, ◌<◌, inl, inr, Bool, true, false, List, [], ◌∷◌, ◌++◌, Option, Some, None, length, get_or, length-set, length-append, refl, sym, ap, subst, ◌∙◌, arith}
 use Rattle.wh_host_model.specs.declared.Tax.{Tax}
 use Rattle.wh_host_model.specs.declared.plain.InstId.{InstId}
 use Rattle.wh_host_model.specs.declared.plain.SwapError.{SwapError}
 use Rattle.wh_host_model.specs.declared.plain.TurnEnd.{TurnEnd}
 use Rattle.wh_host_model.specs.Space.Parts.{Claimed, Occupant, Promised, Space, claim, claim_of, occupant_at, promise_at, promised_to}
-use Rattle.wh_host_model.specs.Host.Spaces.{AllLeftAlone, KeepsPromise}
+use Rattle.wh_host_model.specs.Host.Spaces.{AllLeftAlone, ArrivesSeeing, KeepsPromise}
 use Rattle.wh_host_model.specs.Host.Worlds.{Tenant, World, empty_world, promised, with_tenant}
-use Rattle.wh_host_model.specs.Owners.{Params}
+use Rattle.wh_host_model.specs.Owners.{Params, Quota, with_quota}
 use Rattle.wh_host_model.specs.Host.OwnerCalls.{Cancels}
 use Rattle.wh_host_model.specs.Host.OwnerCalls as requests
 use Rattle.wh_host_model.specs.Host.Admission.{LetsGo, LetsIn}
-use Rattle.wh_host_model.specs.Host.Events.{Event, turn, load, admit, invoke, refuel, cancel, retry, release, offer, evict_begin, evict_commit, fetch_begin, fetch_commit, provide, epoch}
+use Rattle.wh_host_model.specs.Space.Sound.{IsSound}
+use Rattle.wh_host_model.specs.Host.Events.{Event, turn, load, admit, invoke, refuel, cancel, retry, release, fork, offer, evict_begin, evict_commit, fetch_begin, fetch_commit, provide, epoch}
 use Rattle.wh_host_model.specs.Host.Happens as happens
 use Rattle.wh_host_model.specs.Host.Happens.{AllHappen, AwaitsFrame, AwaitsFrameFor, Happens, IsLive, IsTurn, MovesPages, OnlyMoves, has_failed, moved, of_none, of_one}
 use Rattle.wh_host_model.proofs.Host.Opening.{Apart, apart_steps}
 use Rattle.wh_host_model.proofs.Host.Running.{IsGood, events_keep, kept_up, turn_apart}
 use Rattle.wh_host_model.proofs.Host.Keeping.{Kept}
 use Rattle.wh_host_model.proofs.Space.Putting.{get_or_is, here_or}
+use Rattle.wh_host_model.proofs.Host.Arriving.{copies_arrive}
 
 -- ---- numbers below so many
 
@@ -84,19 +86,20 @@ load_below w w2 bytes answer below (happens.is_loaded l) = subst AreAdmitted (sy
 load_below w w2 bytes answer below (happens.isnt_loaded r) = below
 load_below w w2 bytes answer below (happens.no_memory_to_load r) = below
 
-lets_in_below : (w w2 : World) (k : ℕ) (p : Params) (place number : ℕ) → AreAdmitted w → LetsIn w k p place number w2 → AreAdmitted w2
-lets_in_below w w2 k p place number below a =
-    let arrives = a.arrives in
+arrives_below : (w : World) (place : ℕ) (c : Claimed) (bytes : List ℕ) (space : Space) (t : Tenant) → AreAdmitted w → c.number ≡ length w.tenants → ArrivesSeeing place c bytes w.space space → AreAdmitted (record w { tenants = w.tenants ++ Some t ∷ []; space = space })
+arrives_below w place c bytes space t below next arrives =
     let n : ℕ = length w.tenants in
-    let next : number ≡ n = a.next in
-    subst AreAdmitted (sym a.after) (record {
+    record {
       each = λ j x e.
           let less : x.number < n + 1 = elim (here_or place j) [
-            | inl same ↦ below_claimed (n + 1) place a.space (promised number p) (omega (arith, next)) arrives.claim x (subst (λ z. promise_at a.space z ≡ Some x) same e)
-            | inr other ↦ (let alike = arrives.others j other in let low = below_kept n j w.space a.space below alike.promise x e in omega (arith, low))
+            | inl same ↦ below_claimed (n + 1) place space c (omega (arith, next)) arrives.claim x (subst (λ z. promise_at space z ≡ Some x) same e)
+            | inr other ↦ (let alike = arrives.others j other in let low = below_kept n j w.space space below alike.promise x e in omega (arith, low))
           ] in
           omega (arith, less, length-append {A = Option Tenant});
-    })
+    }
+
+lets_in_below : (w w2 : World) (k : ℕ) (p : Params) (place number : ℕ) → AreAdmitted w → LetsIn w k p place number w2 → AreAdmitted w2
+lets_in_below w w2 k p place number below a = subst AreAdmitted (sym a.after) (arrives_below w place (promised number p) _ a.space _ below a.next a.arrives)
 
 admit_below : (w w2 : World) (k : ℕ) (p : Params) (answer : happens.AdmitAnswer) → AreAdmitted w → happens.IsAdmit w k p answer w2 → AreAdmitted w2
 admit_below w w2 k p answer below (happens.is_admitted {id = id} a) = lets_in_below w w2 k p id.place id.number below a
@@ -141,6 +144,12 @@ release_below : (w w2 : World) (id : InstId) (answer : Option (List ℕ)) → Ar
 release_below w w2 id answer below (happens.is_released {t = t} {output = output} there r) = goes_below w w2 id.number t output below r
 release_below w w2 id answer below (happens.no_one_to_release x) = below
 
+fork_below : (w w2 : World) (id : InstId) (q : Quota) (answer : happens.ForkAnswer) → IsSound w.space → AreAdmitted w → happens.IsFork w id q answer w2 → AreAdmitted w2
+fork_below w w2 id q answer sound below (happens.is_forked {t = t} {new = new} live f) = subst AreAdmitted (sym f.after) (arrives_below w new.place (promised new.number (with_quota t.params q)) _ f.space _ below f.next (copies_arrive w.space t.place new.place (promised new.number (with_quota t.params q)) f.space sound f.copies))
+fork_below w w2 id q answer sound below (happens.no_one_to_fork x) = below
+fork_below w w2 id q answer sound below (happens.isnt_forked x y) = below
+fork_below w w2 id q answer sound below (happens.no_memory_to_fork x y) = below
+
 moves_below : (w w2 : World) (id : InstId) (awaits : Tenant → Type 0) (fault : Option SwapError) → AreAdmitted w → MovesPages w id awaits fault w2 → AreAdmitted w2
 moves_below w w2 id awaits fault below (moved {s2 = s2} same which) = below_all (length w.tenants) w.space s2 below same
 moves_below w w2 id awaits fault below (has_failed {s2 = s2} same is live waits) = same_count w id.number _ s2 (below_all (length w.tenants) w.space s2 below same)
@@ -157,6 +166,7 @@ event_below w w2 (refuel id n) good below h = refuel_below w w2 id n h.0 below h
 event_below w w2 (cancel id) good below h = cancel_below w w2 id h.0 good below h.1
 event_below w w2 (retry id) good below h = retry_below w w2 id h.0 below h.1
 event_below w w2 (release id) good below h = release_below w w2 id h.0 below h.1
+event_below w w2 (fork id q) good below h = fork_below w w2 id q h.0 good.sound below h.1
 event_below w w2 (offer page hash) good below h = only_below w w2 below h
 event_below w w2 (evict_begin id) good below h = only_below w w2 below h
 event_below w w2 (evict_commit id call fault) good below h = moves_below w w2 id (AwaitsFrameFor call) fault below h

@@ -20,18 +20,18 @@ use Rattle.wh_host_model.specs.Space.Stores.{ended}
 use Rattle.wh_host_model.specs.Host.Spaces.{WaitsAlone}
 use Rattle.wh_host_model.specs.Host.Worlds.{Doing, Rest, Suspension, Tenant, World, computing, journal, empty_world, for_device, for_frame, for_fuel, resting, store_in, store_with, tenant, with_tenant}
 use Rattle.wh_host_model.specs.Owners.{Entry, new_entry}
-use Rattle.wh_host_model.specs.Owners.{Params, AreArguments, ExportsOwn, IsArgument, arguments, instance_dead, journal_full, most_calls, most_open, queue_full}
+use Rattle.wh_host_model.specs.Owners.{Params, Quota, AreArguments, ExportsOwn, IsArgument, arguments, instance_dead, journal_full, most_calls, most_open, queue_full}
 use Rattle.wh_host_model.specs.Host.Turns.{as_it_was, uses_fuel}
 use Rattle.wh_host_model.specs.Host.CallAnswers.{Closes, Faces, dies, ended_by, faces_next, has_no_fuel, is_dead, is_idle}
 use Rattle.wh_host_model.specs.Host.OwnerCalls.{Meets, Retries, WaitsAfter, has_more, may_try, more_fuel, open_count}
 use Rattle.wh_host_model.specs.Host.OwnerCalls as requests
 use Rattle.wh_host_model.specs.Host.Admission.{decoder_out_of_memory}
-use Rattle.wh_host_model.specs.Host.Events.{Event, turn, load, admit, invoke, refuel, cancel, retry, release, offer, evict_begin, evict_commit, fetch_begin, fetch_commit, provide, epoch}
-use Rattle.wh_host_model.specs.Host.Happens.{AwaitsFrame, AwaitsFrameFor, Happens, IsLive, IsTurn, MovesPages, NoInstance, OnlyMoves, admit_refused, admit_out_of_memory, has_no_instance, invoke_no_instance, invoke_refused, invoke_out_of_memory, isnt_admitted, isnt_invoked, no_memory_to_admit, no_memory_to_invoke, call_no_call, call_no_instance, call_ok, has_failed, is_cancelled, is_invoked, is_loaded, is_refueled, is_released, is_retried, load_out_of_memory, moved, no_call_to_cancel, no_call_to_refuel, no_fault_to_retry, no_memory_to_load, no_one_to_cancel, no_one_to_refuel, no_one_to_release, no_one_to_retry, of_none, of_one}
+use Rattle.wh_host_model.specs.Host.Events.{Event, turn, load, admit, invoke, refuel, cancel, retry, release, fork, offer, evict_begin, evict_commit, fetch_begin, fetch_commit, provide, epoch}
+use Rattle.wh_host_model.specs.Host.Happens.{fork_no_instance, fork_out_of_memory, fork_refused, isnt_forked, no_memory_to_fork, no_one_to_fork, AwaitsFrame, AwaitsFrameFor, Happens, IsLive, IsTurn, MovesPages, NoInstance, OnlyMoves, admit_refused, admit_out_of_memory, has_no_instance, invoke_no_instance, invoke_refused, invoke_out_of_memory, isnt_admitted, isnt_invoked, no_memory_to_admit, no_memory_to_invoke, call_no_call, call_no_instance, call_ok, has_failed, is_cancelled, is_invoked, is_loaded, is_refueled, is_released, is_retried, load_out_of_memory, moved, no_call_to_cancel, no_call_to_refuel, no_fault_to_retry, no_memory_to_load, no_one_to_cancel, no_one_to_refuel, no_one_to_release, no_one_to_retry, of_none, of_one}
 use Rattle.wh_host_model.specs.Host.Journals.{InOrder, IsAsked, IsOpenCall, is_starting, has_started}
 use Rattle.wh_host_model.specs.Host.Progress.{CallsAreTaken, FuelTurnsHappen, IdleTurnsHappen, LoadsAreTaken}
 use Rattle.wh_host_model.specs.Host.Suspensions.{FirstWaitsDuly}
-use Rattle.wh_host_model.proofs.Host.Deciding.{arguments_or_not, exported_or_not, first_to_admit, first_to_invoke}
+use Rattle.wh_host_model.proofs.Host.Deciding.{arguments_or_not, exported_or_not, first_to_admit, first_to_fork, first_to_invoke}
 use Rattle.wh_host_model.proofs.Host.Empty.{good_empty}
 use Rattle.wh_host_model.proofs.Host.Leaving.{alone_self, ended_alone, exits_alone}
 use Rattle.wh_host_model.proofs.Host.Running.{IsGood, good_run}
@@ -183,6 +183,17 @@ invokes w id name given fuel good = elim (live_or_not w id) [
       ])
 ]
 
+-- ---- a copy
+
+forks : (w : World) (id : InstId) (q : Quota) → IsGood w → (w2 : World) × Happens w (fork id q) w2
+forks w id q good = elim (live_or_not w id) [
+  | inr none ↦ (w, (fork_no_instance, no_one_to_fork none))
+  | inl (t, live) ↦ elim (first_to_fork w t q good.modules) [
+    | inl (fault, first) ↦ (w, (fork_refused fault, isnt_forked live first))
+    | inr none ↦ (w, (fork_out_of_memory, no_memory_to_fork live none))
+  ]
+]
+
 -- ---- what is accepted
 
 pub loads_are_taken : LoadsAreTaken
@@ -307,6 +318,7 @@ happens w (refuel id n) good some = refuels w id n
 happens w (cancel id) good some = cancels w id good
 happens w (retry id) good some = retries w id
 happens w (release id) good some = releases w id good
+happens w (fork id q) good some = forks w id q good
 happens w (offer page hash) good some = (w, only_moves_self w good)
 happens w (evict_begin id) good some = (w, only_moves_self w good)
 happens w (evict_commit id call fault) good some = moves_happen w id (AwaitsFrameFor call) (awaits_for call) fault good

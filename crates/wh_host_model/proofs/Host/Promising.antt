@@ -4,19 +4,21 @@ use Rattle.wh_host_model.specs.declared.plain.InstId.{InstId}
 use Rattle.wh_host_model.specs.declared.plain.SwapError.{SwapError}
 use Rattle.wh_host_model.specs.declared.plain.TurnEnd.{TurnEnd}
 use Rattle.wh_host_model.specs.Space.Parts.{Claimed, Occupant, Promised, Space, claim, claim_of, promise_at, promised_to}
-use Rattle.wh_host_model.specs.Host.Spaces.{AllLeftAlone, KeepsPromise}
+use Rattle.wh_host_model.specs.Host.Spaces.{AllLeftAlone, ArrivesSeeing, KeepsPromise}
 use Rattle.wh_host_model.specs.Host.Worlds.{Tenant, World, empty_world, promised}
-use Rattle.wh_host_model.specs.Owners.{Params}
+use Rattle.wh_host_model.specs.Owners.{Params, Quota, with_quota}
 use Rattle.wh_host_model.specs.Host.Admission.{LetsGo, LetsIn}
 use Rattle.wh_host_model.specs.Host.OwnerCalls as requests
-use Rattle.wh_host_model.specs.Host.Events.{Event, turn, load, admit, invoke, refuel, cancel, retry, release, offer, evict_begin, evict_commit, fetch_begin, fetch_commit, provide, epoch}
+use Rattle.wh_host_model.specs.Host.Events.{Event, turn, load, admit, invoke, refuel, cancel, retry, release, fork, offer, evict_begin, evict_commit, fetch_begin, fetch_commit, provide, epoch}
 use Rattle.wh_host_model.specs.Host.Happens as happens
 use Rattle.wh_host_model.specs.Host.Happens.{AwaitsFrame, AwaitsFrameFor, Happens, IsTurn, MovesPages, OnlyMoves, has_failed, moved, of_none, of_one}
+use Rattle.wh_host_model.specs.Space.Sound.{IsSound}
 use Rattle.wh_host_model.specs.Host.Laws.{KeepsPromises, PromisesAreKept}
 use Rattle.wh_host_model.proofs.Host.Empty.{good_empty}
 use Rattle.wh_host_model.proofs.Host.Opening.{Apart, apart_steps}
 use Rattle.wh_host_model.proofs.Host.Running.{IsGood, good_run, turn_apart}
 use Rattle.wh_host_model.proofs.Space.Putting.{here_or}
+use Rattle.wh_host_model.proofs.Host.Arriving.{copies_arrive}
 
 -- ---- one place
 
@@ -70,15 +72,21 @@ load_kept w w2 bytes answer (happens.is_loaded l) = kept_self w.space w2.space (
 load_kept w w2 bytes answer (happens.isnt_loaded r) = kept_self w.space w.space refl
 load_kept w w2 bytes answer (happens.no_memory_to_load r) = kept_self w.space w.space refl
 
+arrives_kept : (s s2 : Space) (place : ℕ) (c : Claimed) (bytes : List ℕ) → ArrivesSeeing place c bytes s s2 → KeepsPromises s s2
+arrives_kept s s2 place c bytes arrives j x is =
+    elim (here_or place j) [
+      | inr other ↦ (let alike = arrives.others j other in kept_at j s s2 x alike.promise is)
+      | inl same ↦ absurd (let bad : None ≡ Some x = sym (none_promised s.occupants place arrives.free) ∙ (ap (promise_at s) (sym same) ∙ is) in cc bad)
+    ]
+
 lets_in_kept : (w w2 : World) (k : ℕ) (p : Params) (place number : ℕ) → LetsIn w k p place number w2 → KeepsPromises w.space w2.space
-lets_in_kept w w2 k p place number a = subst (λ (z : World). KeepsPromises w.space z.space) (sym a.after) go where
-  go : KeepsPromises w.space a.space
-  go j x is =
-      let arrives = a.arrives in
-      elim (here_or place j) [
-        | inr other ↦ (let alike = arrives.others j other in kept_at j w.space a.space x alike.promise is)
-        | inl same ↦ absurd (let bad : None ≡ Some x = sym (none_promised w.space.occupants place arrives.free) ∙ (ap (promise_at w.space) (sym same) ∙ is) in cc bad)
-      ]
+lets_in_kept w w2 k p place number a = subst (λ (z : World). KeepsPromises w.space z.space) (sym a.after) (arrives_kept w.space a.space place (promised number p) _ a.arrives)
+
+fork_kept : (w w2 : World) (id : InstId) (q : Quota) (answer : happens.ForkAnswer) → IsSound w.space → happens.IsFork w id q answer w2 → KeepsPromises w.space w2.space
+fork_kept w w2 id q answer sound (happens.is_forked {t = t} {new = new} live f) = subst (λ (z : World). KeepsPromises w.space z.space) (sym f.after) (arrives_kept w.space f.space new.place (promised new.number (with_quota t.params q)) _ (copies_arrive w.space t.place new.place (promised new.number (with_quota t.params q)) f.space sound f.copies))
+fork_kept w w2 id q answer sound (happens.no_one_to_fork x) = kept_self w.space w.space refl
+fork_kept w w2 id q answer sound (happens.isnt_forked x y) = kept_self w.space w.space refl
+fork_kept w w2 id q answer sound (happens.no_memory_to_fork x y) = kept_self w.space w.space refl
 
 admit_kept : (w w2 : World) (k : ℕ) (p : Params) (answer : happens.AdmitAnswer) → happens.IsAdmit w k p answer w2 → KeepsPromises w.space w2.space
 admit_kept w w2 k p answer (happens.is_admitted {id = id} a) = lets_in_kept w w2 k p id.place id.number a
@@ -139,6 +147,7 @@ event_kept w w2 (refuel id n) good h = refuel_kept w w2 id n h.0 h.1
 event_kept w w2 (cancel id) good h = cancel_kept w w2 id h.0 good h.1
 event_kept w w2 (retry id) good h = retry_kept w w2 id h.0 h.1
 event_kept w w2 (release id) good h = release_kept w w2 id h.0 h.1
+event_kept w w2 (fork id q) good h = fork_kept w w2 id q h.0 good.sound h.1
 event_kept w w2 (offer page hash) good h = only_kept w w2 h
 event_kept w w2 (evict_begin id) good h = only_kept w w2 h
 event_kept w w2 (evict_commit id call fault) good h = moves_kept w w2 id (AwaitsFrameFor call) fault h

@@ -1,30 +1,33 @@
 -- Every event keeps every instance what its journal comes to.
-use Rattle.std.proofs.Common.{◌≡◌, ◌≢◌, ℕ, ℤ, zero, suc, ◌*◌, ◌<◌, ◌≤◌, ◌⊎◌, ⊎_elim, inl, inr, Option, Some, None, List, [], ◌∷◌, ◌++◌, length, get_or, slice_get, slice_set, replicate, refl, sym, ap, subst, ◌∙◌, arith}
+use Rattle.std.proofs.Common.{◌≡◌, ◌≢◌, ℕ, ℤ, zero, suc, ◌*◌, ◌/◌, ◌<◌, ◌≤◌, ◌⊎◌, ⊎_elim, inl, inr, Option, Some, None, List, [], ◌∷◌, ◌++◌, length, get_or, slice_get, slice_set, replicate, refl, sym, ap, subst, ◌∙◌, arith}
 use Rattle.std.proofs.lemmas.List.{get_or-set_same, get_or-set_other, length-replicate}
 use Rattle.wh_model.specs.declared.memory.Need.{Need}
 use Rattle.wh_model.specs.Format.Syntax.{Module}
 use Rattle.wh_model.specs.Execution.Store.{Instance, Store}
-use Rattle.wh_model.specs.Execution.Instance.{AreGiven, Parameters, Piece, Beginning, IsInitial, needs_more, out_of_bounds, in_bounds, begins, first_size}
+use Rattle.wh_model.specs.Execution.Instance.{AreGiven, Parameters, Piece, Beginning, IsInitial, needs_more, out_of_bounds, in_bounds, begins, first_size, last_size}
 use Rattle.wh_host_model.specs.declared.plain.TurnEnd.{TurnEnd}
 use Rattle.wh_host_model.specs.declared.plain.InstId.{InstId}
 use Rattle.wh_host_model.specs.declared.plain.SwapError.{SwapError}
 use Rattle.wh_host_model.specs.Space.Parts.{Space, Claimed, Occupant, view, claim, claim_of, wants}
 use Rattle.wh_host_model.specs.Space.Sound.{IsSound}
 use Rattle.wh_host_model.specs.Space.Places.{IsFreePlace}
-use Rattle.wh_host_model.specs.Host.Spaces.{LeftAlone, AllLeftAlone}
-use Rattle.wh_host_model.specs.Host.Worlds.{Doing, Rest, Suspension, Tenant, Loaded, World, for_device, for_fuel, promised, tenant, with_tenant}
+use Rattle.wh_host_model.specs.Host.Spaces.{LeftAlone, AllLeftAlone, ArrivesSeeing}
+use Rattle.wh_host_model.specs.Host.Worlds.{Doing, Rest, Suspension, Tenant, Loaded, World, for_device, for_fuel, module_of, promised, tenant, with_tenant}
 use Rattle.wh_host_model.specs.Owners.{Entry}
-use Rattle.wh_host_model.specs.Owners.{Params, given_of, most_fuel}
+use Rattle.wh_host_model.specs.Owners.{ForkFault, Params, Quota, call_open, given_of, memory, most_fuel, not_admitted, other_limit, with_quota}
 use Rattle.wh_host_model.specs.Host.CallAnswers.{Closes, faces_next, is_dead, Turn, is_idle, has_ended, has_no_fuel, has_no_frame, can_go_on, keeps_its_fault}
 use Rattle.wh_host_model.specs.Host.OwnerCalls.{TakesCall, Refuels, has_more, Cancels, Retries, may_try}
 use Rattle.wh_host_model.specs.Host.OwnerCalls as requests
 use Rattle.wh_model.specs.Linking.Accepting.{IsAccepted}
 use Rattle.wh_host_model.specs.Host.Admission.{LoadsModule, LetsIn, LetsGo, StartsAs}
-use Rattle.wh_host_model.specs.Host.Events.{Event, turn, load, admit, invoke, refuel, cancel, retry, release, offer, evict_begin, evict_commit, fetch_begin, fetch_commit, provide, epoch}
+use Rattle.wh_host_model.specs.Host.Forking.{Forks, MeetsForkFault}
+use Rattle.wh_host_model.specs.Host.Events.{Event, turn, load, admit, invoke, refuel, cancel, retry, release, fork, offer, evict_begin, evict_commit, fetch_begin, fetch_commit, provide, epoch}
 use Rattle.wh_host_model.specs.Host.Happens as happens
 use Rattle.wh_host_model.specs.Host.Happens.{IsLive, IsTurn, of_none, of_one, AwaitsFrame, AwaitsFrameFor, MovesPages, moved, has_failed, OnlyMoves, Happens, AllHappen}
 use Rattle.wh_host_model.proofs.Host.Opening.{Apart, apart_none, apart_then, apart_steps, proceeds_apart}
-use Rattle.wh_host_model.proofs.Host.Keeping.{Kept, turn_kept, cancel_kept, refuel_kept, faulted_kept, retry_kept, accept_kept, begins_kept, beginner}
+use Rattle.wh_host_model.proofs.Host.Keeping.{Kept, turn_kept, cancel_kept, refuel_kept, faulted_kept, retry_kept, accept_kept, begins_kept, beginner, fork_kept}
+use Rattle.wh_host_model.proofs.Host.Limits.{SameLimit}
+use Rattle.wh_host_model.proofs.Host.Arriving.{copies_arrive}
 
 -- ---- what is kept of an instance
 
@@ -41,6 +44,7 @@ pub record IsKeptUp (K : Keeping) : Type 0 where
   pub retried : {m : Module} {p : Parameters} {t t2 : Tenant} {bytes : List ℕ} {want : Option Need} → K m p t bytes want → Retries t t2 → K m p t2 bytes want
   pub accepted : {m mm : Module} {p : Parameters} {t t2 : Tenant} {name : List ℕ} {given : List ℤ} {fuel at : ℕ} (s : Space) → K m p t (view s t.place) (wants s t.place) → TakesCall mm s t name given fuel at t2 → K m p t2 (view s t.place) (wants s t.place)
   pub begun : (m : Module) (place of : ℕ) (params : Params) (p : Parameters) (inst : Instance) (s : Store) (ps : List Piece) (fuel : ℕ) {d : Doing} {es os : List Entry} → AreGiven p → IsInitial m p (begins inst s ps) → fuel ≤ most_fuel → StartsAs inst s ps m.start fuel d es os → K m p (beginner place of params inst s d es os) s.bytes None
+  pub forked : {m : Module} {p p2 : Parameters} {t : Tenant} {bytes : List ℕ} {want : Option Need} → K m p t bytes want → t.open_calls ≡ [] → SameLimit m p p2 t.inst → (place : ℕ) (params : Params) → K m p2 (record t { place = place; params = params; copied = length t.ended; waiting_for = None }) bytes None
 
 -- ---- what is kept of a host
 
@@ -58,7 +62,7 @@ IsOwned w = (place : ℕ) (c : Claimed) → claim w.space place ≡ Some c → (
 -- all instances; and no two lie at one place
 pub record IsGoodBy (K : Keeping) (w : World) : Type 0 where
   pub sound : IsSound w.space
-  pub modules : (k : ℕ) (l : Loaded) → slice_get w.modules k ≡ Some l → IsAccepted l.bytes l.m
+  pub modules : (k : ℕ) (l : Loaded) → module_of w k ≡ Some l → IsAccepted l.bytes l.m
   pub apart : (i j : ℕ) (a b : Tenant) → tenant w i ≡ Some a → tenant w j ≡ Some b → a.place ≡ b.place → i ≡ j
   pub owned : IsOwned w
   pub each : (i : ℕ) (t : Tenant) → tenant w i ≡ Some t → IsFineBy K w.modules w.space i t
@@ -80,7 +84,7 @@ one_value : {A : Type 0} (x y : A) → Some x ≡ Some y → x ≡ y
 one_value x y e = cc e
 
 -- the instances after one of them was changed, or is gone
-at_place : (xs : List (Option Tenant)) (i j : ℕ) (o : Option Tenant) (x a : Tenant) → get_or xs i None ≡ Some x → get_or (slice_set xs i o) j None ≡ Some a → ((j ≡ i) × (o ≡ Some a)) ⊎ ((j ≢ i) × (get_or xs j None ≡ Some a))
+at_place : {A : Type 0} (xs : List (Option A)) (i j : ℕ) (o : Option A) (x a : A) → get_or xs i None ≡ Some x → get_or (slice_set xs i o) j None ≡ Some a → ((j ≡ i) × (o ≡ Some a)) ⊎ ((j ≢ i) × (get_or xs j None ≡ Some a))
 at_place xs i j o x a there e =
     ⊎_elim
     (λ (same : j ≡ i). let in_range = some_within xs i x there in inl (same, sym (get_or-set_same xs i o None in_range) ∙ ap (λ n. get_or (slice_set xs i o) n None) (sym same) ∙ e))
@@ -284,6 +288,42 @@ module _ (K : Keeping) (up : IsKeptUp K) where
   vacant : (s : Space) (i : ℕ) → IsFreePlace s i → claim s i ≡ None
   vacant s i free = ap claim_of (none_there s.occupants i free)
 
+  -- one more is there, at a place of its own
+  arrived_good : (w : World) (space : Space) (place : ℕ) (c : Claimed) (bytes : List ℕ) (t : Tenant) → IsGoodBy K w → t.place ≡ place → ArrivesSeeing place c bytes w.space space
+      → ((j : ℕ) (b : Tenant) → tenant w j ≡ Some b → b.place ≢ place) → IsFineBy K w.modules space (length w.tenants) t → IsGoodBy K (record w { tenants = w.tenants ++ Some t ∷ []; space = space })
+  arrived_good w space place c0 bytes t good at_it arrives far fine =
+      let n : ℕ = length w.tenants in
+      record {
+        sound = arrives.sound;
+        modules = good.modules;
+        apart = λ i j b c x y e.
+            ⊎_elim
+            (λ (u : get_or w.tenants i None ≡ Some b).
+            ⊎_elim
+            (λ (v : get_or w.tenants j None ≡ Some c). good.apart i j b c u v e)
+            (λ (v : (j ≡ n) × (Some t ≡ Some c)). absurd (far i b u (e ∙ (sym (ap (λ (z : Tenant). z.place) (one_value t c v.1)) ∙ at_it))))
+            (at_end w.tenants (Some t) j c y))
+            (λ (u : (i ≡ n) × (Some t ≡ Some b)).
+            ⊎_elim
+            (λ (v : get_or w.tenants j None ≡ Some c). absurd (far j c v (sym e ∙ (sym (ap (λ (z : Tenant). z.place) (one_value t b u.1)) ∙ at_it))))
+            (λ (v : (j ≡ n) × (Some t ≡ Some c)). u.0 ∙ sym v.0)
+            (at_end w.tenants (Some t) j c y))
+            (at_end w.tenants (Some t) i b x);
+        owned = λ place2 c e.
+            ⊎_elim
+            (λ (same : place2 ≡ place). (n, t, has_come w.tenants (Some t), at_it ∙ sym same))
+            (λ (other : place2 ≢ place).
+            let alike = arrives.others place2 other in
+            let was = good.owned place2 c (sym alike.claim ∙ e) in
+            (was.0, was.1, still_there w.tenants (Some t) was.0 was.1 was.2, was.3))
+            (same_or_not place2 place);
+        each = λ i b x.
+            ⊎_elim
+            (λ (u : get_or w.tenants i None ≡ Some b). fine_elsewhere (good.each i b u) (arrives.others b.place (far i b u)))
+            (λ (u : (i ≡ n) × (Some t ≡ Some b)). subst (λ j. IsFineBy K w.modules space j b) (sym u.0) (subst (IsFineBy K w.modules space n) (one_value t b u.1) fine))
+            (at_end w.tenants (Some t) i b x);
+      }
+
   admits_good : (w w2 : World) (k : ℕ) (p : Params) (place number : ℕ) → IsGoodBy K w → LetsIn w k p place number w2 → IsGoodBy K w2
   admits_good w w2 k p place number good a =
       let arrives = a.arrives in
@@ -302,36 +342,47 @@ module _ (K : Keeping) (up : IsKeptUp K) where
         claimed = arrives.claim ∙ ap (λ i. Some (promised i p)) a.next;
         kept = here;
       } in
-      subst (IsGoodBy K) (sym a.after) (record {
-        sound = arrives.sound;
-        modules = good.modules;
-        apart = λ i j b c x y e.
-            ⊎_elim
-            (λ (u : get_or w.tenants i None ≡ Some b).
-            ⊎_elim
-            (λ (v : get_or w.tenants j None ≡ Some c). good.apart i j b c u v e)
-            (λ (v : (j ≡ n) × (Some t ≡ Some c)). absurd (far i b u (e ∙ sym (ap (λ (z : Tenant). z.place) (one_value t c v.1)))))
-            (at_end w.tenants (Some t) j c y))
-            (λ (u : (i ≡ n) × (Some t ≡ Some b)).
-            ⊎_elim
-            (λ (v : get_or w.tenants j None ≡ Some c). absurd (far j c v (sym e ∙ sym (ap (λ (z : Tenant). z.place) (one_value t b u.1)))))
-            (λ (v : (j ≡ n) × (Some t ≡ Some c)). u.0 ∙ sym v.0)
-            (at_end w.tenants (Some t) j c y))
-            (at_end w.tenants (Some t) i b x);
-        owned = λ place2 c e.
-            ⊎_elim
-            (λ (same : place2 ≡ place). (n, t, has_come w.tenants (Some t), sym same))
-            (λ (other : place2 ≢ place).
-            let alike = arrives.others place2 other in
-            let was = good.owned place2 c (sym alike.claim ∙ e) in
-            (was.0, was.1, still_there w.tenants (Some t) was.0 was.1 was.2, was.3))
-            (same_or_not place2 place);
-        each = λ i b x.
-            ⊎_elim
-            (λ (u : get_or w.tenants i None ≡ Some b). fine_elsewhere (good.each i b u) (arrives.others b.place (far i b u)))
-            (λ (u : (i ≡ n) × (Some t ≡ Some b)). subst (λ j. IsFineBy K w.modules a.space j b) (sym u.0) (subst (IsFineBy K w.modules a.space n) (one_value t b u.1) fine))
-            (at_end w.tenants (Some t) i b x);
-      })
+      subst (IsGoodBy K) (sym a.after) (arrived_good w a.space place (promised number p) (replicate (length a.s.bytes) 0) t good refl arrives far fine)
+
+  no_call : (w : World) (t : Tenant) (q : Quota) → ((fault : ForkFault) → ¬ (MeetsForkFault w t q fault)) → t.open_calls ≡ []
+  no_call w t q none = empty_or t.open_calls (none call_open) where
+    empty_or : (es : List Entry) → ¬ (es ≢ []) → es ≡ []
+    empty_or [] some = refl
+    empty_or (e ∷ es) some = absurd (some (λ bad. cc bad))
+
+  same_beginning : (w : World) (t : Tenant) (q : Quota) (l : Loaded) → ((fault : ForkFault) → ¬ (MeetsForkFault w t q fault)) → module_of w t.of ≡ Some l → SameLimit l.m (given_of t.params) (given_of (with_quota t.params q)) t.inst
+  same_beginning w t q l none is = record {
+    base = refl;
+    salt = refl;
+    inputs = refl;
+    limit = equal_or (last_size l.m.memories (q.max / 16)) t.inst.page_limit (λ other. none other_limit (inl (l, is, other)));
+    small = λ small. none (not_admitted memory) (l, is, small);
+  } where
+    equal_or : (m n : ℕ) → ¬ (m ≢ n) → m ≡ n
+    equal_or m n never = ⊎_elim (λ e. e) (λ other. absurd (never other)) (same_or_not m n)
+
+  -- a copy
+  forks_good : (w w2 : World) (t : Tenant) (i : ℕ) (q : Quota) (place number : ℕ) → IsGoodBy K w → tenant w i ≡ Some t → Forks w t q place number w2 → IsGoodBy K w2
+  forks_good w w2 t i q place number good there f =
+      let arrives = copies_arrive w.space t.place place (promised number (with_quota t.params q)) f.space good.sound f.copies in
+      let p : Params = with_quota t.params q in
+      let new : Tenant = record t { place = place; params = p; copied = length t.ended; waiting_for = None } in
+      let n : ℕ = length w.tenants in
+      let fine_parent = good.each i t there in
+      let free : claim w.space place ≡ None = vacant w.space place arrives.free in
+      let far : (j : ℕ) (b : Tenant) → tenant w j ≡ Some b → b.place ≢ place =
+      λ j b x e. let f = good.each j b x in absurd (let no : None ≡ Some (promised j b.params) = sym free ∙ ap (claim w.space) (sym e) ∙ f.claimed in cc no) in
+      let same = same_beginning w t q fine_parent.loaded f.no_fault fine_parent.is_loaded in
+      let kept : K fine_parent.loaded.m (given_of p) new (view w.space t.place) None = up.forked fine_parent.kept (no_call w t q f.no_fault) same place p in
+      let here : K fine_parent.loaded.m (given_of p) new (view f.space place) (wants f.space place) =
+      subst (λ x. K fine_parent.loaded.m (given_of p) new (view f.space place) x) (sym arrives.wants) (subst (λ b. K fine_parent.loaded.m (given_of p) new b None) (sym arrives.view) kept) in
+      let fine : IsFineBy K w.modules f.space n new = record {
+        loaded = fine_parent.loaded;
+        is_loaded = fine_parent.is_loaded;
+        claimed = arrives.claim ∙ ap (λ i. Some (promised i p)) f.next;
+        kept = here;
+      } in
+      subst (IsGoodBy K) (sym f.after) (arrived_good w f.space place (promised number p) (view w.space t.place) new good refl arrives far fine)
 
   releases_good : (w w2 : World) (i : ℕ) (t : Tenant) (output : List ℕ) → IsGoodBy K w → tenant w i ≡ Some t → LetsGo w i t output w2 → IsGoodBy K w2
   releases_good w w2 i t output good there r =
@@ -426,6 +477,12 @@ module _ (K : Keeping) (up : IsKeptUp K) where
   release_good w w2 id answer good (happens.is_released {t = t} {output = output} there r) = releases_good w w2 id.number t output good there.0 r
   release_good w w2 id answer good (happens.no_one_to_release x) = good
 
+  fork_good : (w w2 : World) (id : InstId) (q : Quota) (answer : happens.ForkAnswer) → IsGoodBy K w → happens.IsFork w id q answer w2 → IsGoodBy K w2
+  fork_good w w2 id q answer good (happens.is_forked {t = t} {new = new} there f) = forks_good w w2 t id.number q new.place new.number good there.0 f
+  fork_good w w2 id q answer good (happens.no_one_to_fork x) = good
+  fork_good w w2 id q answer good (happens.isnt_forked x y) = good
+  fork_good w w2 id q answer good (happens.no_memory_to_fork x y) = good
+
   -- ---- every event, and every run
 
   pub events_keep : (w w2 : World) (e : Event) → IsGoodBy K w → Happens w e w2 → IsGoodBy K w2
@@ -437,6 +494,7 @@ module _ (K : Keeping) (up : IsKeptUp K) where
   events_keep w w2 (cancel id) good h = cancel_good w w2 id h.0 good h.1
   events_keep w w2 (retry id) good h = retry_good w w2 id h.0 good h.1
   events_keep w w2 (release id) good h = release_good w w2 id h.0 good h.1
+  events_keep w w2 (fork id q) good h = fork_good w w2 id q h.0 good h.1
   events_keep w w2 (offer page hash) good h = only_moves w w2 good h
   events_keep w w2 (evict_begin id) good h = only_moves w w2 good h
   events_keep w w2 (evict_commit id call fault) good h = moves_good w w2 id (AwaitsFrameFor call) fault (λ t x. x.0) good h
@@ -459,6 +517,7 @@ kept_up = record {
   faulted = λ k a b c. faulted_kept k a b c;
   retried = λ k h. retry_kept k h;
   accepted = λ s k h. accept_kept s k h;
+  forked = λ k none same place params. fork_kept k none same place params;
   begun = λ m place of params p inst s ps fuel given initial few starts. begins_kept m place of params p inst s ps fuel given initial few starts;
 }
 

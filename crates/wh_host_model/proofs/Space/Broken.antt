@@ -6,7 +6,7 @@ use Rattle.wh_host_model.specs.Frames.{Pool, tally, one_if}
 use Rattle.wh_host_model.specs.declared.states.Page.{Page}
 use Rattle.wh_host_model.specs.declared.states.Page.TheVariants.{Private}
 use Rattle.wh_host_model.specs.declared.states.Mark.{Mark}
-use Rattle.wh_host_model.specs.declared.states.Mark.TheVariants.{Plain, Hint, Sharers}
+use Rattle.wh_host_model.specs.declared.states.Mark.TheVariants.{Plain, Hint, Sharers, Unlisted}
 use Rattle.wh_host_model.specs.Space.Errands.{fetches_into}
 use Rattle.wh_host_model.specs.Space.Parts.{Space, Pins, frame_bytes, kept, sharers}
 use Rattle.wh_host_model.specs.Space.Sound.{FramesAreSound, HasHash, Names}
@@ -42,6 +42,10 @@ names_fewer s s2 h (Sharers x n) names some less same =
     let c = names.0 in
     let e : cond (nat_lt 1 n) (Sharers x (n - 1)) Plain ≡ Sharers x (n - 1) = lt_one n (omega arith) (Sharers x (n - 1)) Plain in
     subst (λ m. Names s2 h (Some m)) (sym e) (omega arith, omega arith, λ z. names.2 (sym same ∙ z))
+names_fewer s s2 h (Unlisted n) names some less same =
+    let c = names.0 in
+    let e : cond (nat_lt 1 n) (Unlisted (n - 1)) Plain ≡ Unlisted (n - 1) = lt_one n (omega arith) (Unlisted (n - 1)) Plain in
+    subst (λ m. Names s2 h (Some m)) (sym e) (omega arith, omega arith)
 
 hash_fewer : (m : Mark) (x : ℕ) → HasHash (Some (fewer_sharers 1 m)) x → HasHash (Some m) x
 hash_fewer Plain x has = has
@@ -50,6 +54,10 @@ hash_fewer (Sharers y n) x has = go (nat_lt 1 n) has where
   go : (b : Bool) → HasHash (Some (cond b (Sharers y (n - 1)) Plain)) x → y ≡ x
   go true has = has
   go false has = absurd has
+hash_fewer (Unlisted n) x has = go (nat_lt 1 n) has where
+  go : (b : Bool) → HasHash (Some (cond b (Unlisted (n - 1)) Plain)) x → ⊥
+  go true has = has
+  go false has = has
 
 pub entry_there : (s : Space) (h : ℕ) → FramesAreSound s → 1 ≤ sharers s h → (m : Mark) × (slice_get s.marks h ≡ Some m) × Names s h (Some m)
 entry_there s h sound some =

@@ -6,7 +6,7 @@ use Rattle.wh_host_model.proofs.Tally.{one_same, one_other}
 use Rattle.wh_host_model.specs.declared.states.Page.{Page}
 use Rattle.wh_host_model.specs.declared.states.Page.TheVariants.{Untouched, Private, Shared, Leaving, LeavingShared, Coming, Swapped}
 use Rattle.wh_host_model.specs.declared.states.Mark.{Mark}
-use Rattle.wh_host_model.specs.declared.states.Mark.TheVariants.{Plain, Hint, Sharers}
+use Rattle.wh_host_model.specs.declared.states.Mark.TheVariants.{Plain, Hint, Sharers, Unlisted}
 use Rattle.wh_host_model.specs.declared.states.Slot.{Slot}
 use Rattle.wh_host_model.specs.declared.states.Slot.TheVariants.{Vacant, Taken, Evicting, EvictVoid, Fetching, FetchVoid}
 use Rattle.wh_host_model.specs.Space.Parts.{Slots, Space, all_bytes, kept_by, pinned_by, frame_bytes}
@@ -125,6 +125,10 @@ pub fewer_more : (a b : ℕ) (m : Mark) → fewer_sharers b (fewer_sharers a m) 
 fewer_more a b Plain = refl
 fewer_more a b (Hint x i q) = refl
 fewer_more a b (Sharers x n) = elim (tests a b n) [
+  | inl (more, same, rest) ↦ rw (more, same, rest) refl
+  | inr (none, never) ↦ rw (none, never) refl
+]
+fewer_more a b (Unlisted n) = elim (tests a b n) [
   | inl (more, same, rest) ↦ rw (more, same, rest) refl
   | inr (none, never) ↦ rw (none, never) refl
 ]

@@ -8,7 +8,7 @@ use Rattle.wh_host_model.proofs.Tally.{one_same, one_other}
 use Rattle.wh_host_model.specs.declared.states.Page.{Page}
 use Rattle.wh_host_model.specs.declared.states.Page.TheVariants.{Untouched, Private, Coming}
 use Rattle.wh_host_model.specs.declared.states.Mark.{Mark}
-use Rattle.wh_host_model.specs.declared.states.Mark.TheVariants.{Plain, Hint, Sharers}
+use Rattle.wh_host_model.specs.declared.states.Mark.TheVariants.{Plain, Hint, Sharers, Unlisted}
 use Rattle.wh_host_model.specs.Pages.{zero_page}
 use Rattle.wh_host_model.specs.Space.Parts.{Space, all_bytes, backing, frame_bytes, kept_by, sharers}
 use Rattle.wh_host_model.specs.Space.Sound.{FramesAreSound, IsSound, Names}
@@ -51,12 +51,22 @@ none_fewer f s (Sharers x n) names = let some = names.1 in go (nat_lt 0 n) refl 
   go : (b : Bool) → nat_lt 0 n ≡ b → cond b (Sharers x (n - 0)) Plain ≡ Sharers x n
   go true test = let e : n - 0 ≡ n = omega arith in ap (Sharers x) e
   go false test = absurd (has_some test)
+none_fewer f s (Unlisted n) names = let some = names.1 in go (nat_lt 0 n) refl where
+  has_some : nat_lt 0 n ≡ false → ⊥
+  has_some test = let some = names.1 in grind (arith, nat_tests)
+
+  go : (b : Bool) → nat_lt 0 n ≡ b → cond b (Unlisted (n - 0)) Plain ≡ Unlisted n
+  go true test = let e : n - 0 ≡ n = omega arith in ap (λ k. Unlisted k) e
+  go false test = absurd (has_some test)
 
 -- with its one sharer an entry goes
 one_goes : (s : Space) (f : ℕ) (m : Mark) → Names s f (Some m) → sharers s f ≡ 1 → fewer_sharers 1 m ≡ Plain
 one_goes s f Plain names one = refl
 one_goes s f (Hint x i q) names one = absurd (let z = names.1 in omega arith)
 one_goes s f (Sharers x n) names one = let c = names.0 in less n (omega arith) (Sharers x (n - 1)) where
+  less : (n : ℕ) → n ≡ 1 → (a : Mark) → cond (nat_lt 1 n) a Plain ≡ Plain
+  less n e a = rw e refl
+one_goes s f (Unlisted n) names one = let c = names.0 in less n (omega arith) (Unlisted (n - 1)) where
   less : (n : ℕ) → n ≡ 1 → (a : Mark) → cond (nat_lt 1 n) a Plain ≡ Plain
   less n e a = rw e refl
 

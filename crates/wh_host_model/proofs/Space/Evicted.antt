@@ -8,7 +8,7 @@ use Rattle.wh_host_model.proofs.Tally.{one_same, one_other, tally-append}
 use Rattle.wh_host_model.specs.declared.states.Page.{Page}
 use Rattle.wh_host_model.specs.declared.states.Page.TheVariants.{Private, Shared, Coming, Swapped}
 use Rattle.wh_host_model.specs.declared.states.Mark.{Mark}
-use Rattle.wh_host_model.specs.declared.states.Mark.TheVariants.{Plain, Hint, Sharers}
+use Rattle.wh_host_model.specs.declared.states.Mark.TheVariants.{Plain, Hint, Sharers, Unlisted}
 use Rattle.wh_host_model.specs.declared.states.Slot.{Slot}
 use Rattle.wh_host_model.specs.declared.states.Slot.TheVariants.{Vacant, Taken, Evicting, EvictVoid, Fetching, FetchVoid}
 use Rattle.wh_host_model.specs.Space.Claims.{CanLeave}
@@ -143,6 +143,7 @@ names_left s s2 f (Some Plain) b same names some (inl (e, many, less)) = absurd 
 names_left s s2 f (Some (Hint h i q)) b same names some (inl (e, many, less)) = let z = names.1 in absurd (omega arith)
 names_left s s2 f (Some (Sharers h n)) b same names some (inl (e, many, less)) =
     rw e (let c = names.0 in (omega arith, omega arith, λ z. names.2 (sym (ap (λ fs. get_or fs f []) same) ∙ z)))
+names_left s s2 f (Some (Unlisted n)) b same names some (inl (e, many, less)) = rw e (let c = names.0 in (omega arith, omega arith))
 
 -- the entry of another frame
 pub names_other : (s s2 : Space) (g : ℕ) (m : Option Mark) → get_or s2.pool.frames g [] ≡ get_or s.pool.frames g [] → sharers s2 g ≡ sharers s g
@@ -151,6 +152,7 @@ names_other s s2 g None same e k names = tt
 names_other s s2 g (Some Plain) same e k names = e ∙ names
 names_other s s2 g (Some (Hint h i q)) same e k names = (k i q names.0, e ∙ names.1)
 names_other s s2 g (Some (Sharers h n)) same e k names = (e ∙ names.0, names.1, λ z. names.2 (sym same ∙ z))
+names_other s s2 g (Some (Unlisted n)) same e k names = (e ∙ names.0, names.1)
 
 fewer_hash : (m : Option Mark) (b : Bool) (hash : ℕ) → HasHash (Some (cond b (one_fewer m) Plain)) hash → HasHash m hash
 fewer_hash m false hash h = absurd h
@@ -158,6 +160,7 @@ fewer_hash None true hash h = absurd h
 fewer_hash (Some Plain) true hash h = absurd h
 fewer_hash (Some (Hint x i q)) true hash h = absurd h
 fewer_hash (Some (Sharers x n)) true hash h = h
+fewer_hash (Some (Unlisted n)) true hash h = absurd h
 
 hash_before : (marks : List Mark) (f g : ℕ) (b : Bool) (hash : ℕ) → f < length marks → HasHash (slice_get (slice_set marks f (cond b (one_fewer (slice_get marks f)) Plain)) g) hash → HasHash (slice_get marks g) hash
 hash_before marks f g b hash within has =

@@ -8,7 +8,7 @@ use Rattle.wh_host_model.specs.declared.Tax.{Tax}
 use Rattle.wh_host_model.specs.declared.states.Page.{Page}
 use Rattle.wh_host_model.specs.declared.states.Page.TheVariants.{Coming}
 use Rattle.wh_host_model.specs.declared.states.Mark.{Mark}
-use Rattle.wh_host_model.specs.declared.states.Mark.TheVariants.{Plain, Hint, Sharers}
+use Rattle.wh_host_model.specs.declared.states.Mark.TheVariants.{Plain, Hint, Sharers, Unlisted}
 use Rattle.wh_host_model.specs.declared.states.Slot.{Slot}
 use Rattle.wh_host_model.specs.declared.states.Slot.TheVariants.{Vacant, Taken, Evicting, EvictVoid, Fetching, FetchVoid}
 use Rattle.wh_host_model.specs.Space.Kept.{ExitsSoundly}
@@ -178,6 +178,10 @@ fewer_hash i t (Sharers h n) hash has = go (nat_lt t n) has where
   go : (b : Bool) → HasHash (Some (cond b (Sharers h (n - t)) Plain)) hash → h ≡ hash
   go true has = has
   go false has = absurd has
+fewer_hash i t (Unlisted n) hash has = go (nat_lt t n) has where
+  go : (b : Bool) → HasHash (Some (cond b (Unlisted (n - t)) Plain)) hash → ⊥
+  go true has = has
+  go false has = has
 
 -- The instance at place i has no pages any more, and is marked as released.
 unfoldable gone : Space → ℕ → Occupant → List ℕ → List Mark → List Slot → List ℕ → Option Pins → Space
@@ -248,6 +252,16 @@ names_gone s s2 i f t (Sharers hash n) frames share away names = go (nat_lt t n)
 
   go : (b : Bool) → nat_lt t n ≡ b → Names s2 f (Some (cond b (Sharers hash (n - t)) Plain))
   go true e = (let l = less e in let a = names.0 in omega arith, let l = less e in omega arith, λ z. names.2 (sym (ap (λ fs. get_or fs f []) frames) ∙ z))
+  go false e = let l = most e in let a = names.0 in omega arith
+names_gone s s2 i f t (Unlisted n) frames share away names = go (nat_lt t n) refl where
+  less : nat_lt t n ≡ true → t < n
+  less e = grind (arith, nat_tests)
+
+  most : nat_lt t n ≡ false → n ≤ t
+  most e = grind (arith, nat_tests)
+
+  go : (b : Bool) → nat_lt t n ≡ b → Names s2 f (Some (cond b (Unlisted (n - t)) Plain))
+  go true e = (let l = less e in let a = names.0 in omega arith, let l = less e in omega arith)
   go false e = let l = most e in let a = names.0 in omega arith
 
 frames_gone : (s : Space) (i : ℕ) (occupant : Occupant) (free : List ℕ) (marks : List Mark) (uses : List Slot) (vacant : List ℕ) → FramesAreSound s → i < length s.tables → IsLeft s i free marks uses vacant

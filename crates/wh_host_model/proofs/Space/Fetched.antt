@@ -7,7 +7,7 @@ use Rattle.wh_host_model.proofs.Tally.{one_same, one_other, tally-append}
 use Rattle.wh_host_model.specs.declared.states.Page.{Page}
 use Rattle.wh_host_model.specs.declared.states.Page.TheVariants.{Private, Coming, Swapped}
 use Rattle.wh_host_model.specs.declared.states.Mark.{Mark}
-use Rattle.wh_host_model.specs.declared.states.Mark.TheVariants.{Plain, Hint, Sharers}
+use Rattle.wh_host_model.specs.declared.states.Mark.TheVariants.{Plain, Hint, Sharers, Unlisted}
 use Rattle.wh_host_model.specs.declared.states.Slot.{Slot}
 use Rattle.wh_host_model.specs.declared.states.Slot.TheVariants.{Vacant, Taken, Evicting, FetchVoid}
 use Rattle.wh_host_model.specs.Space.Errands.{fetches_into, ticket_of}
@@ -41,6 +41,7 @@ names_free s s2 f (Some (Hint x i q)) o h h2 names = absurd (let k = at_count (o
     go None e = omega arith
     go (Some x) e = get_pages w t i q x e
 names_free s s2 f (Some (Sharers x n)) o h h2 names = absurd (let c = names.0 in let l = names.1 in omega arith)
+names_free s s2 f (Some (Unlisted n)) o h h2 names = absurd (let c = names.0 in let l = names.1 in omega arith)
 
 pub frames_fetched : (s : Space) (i p f k : ℕ) (others bytes : List ℕ) → FramesAreSound s → page_at s.tables i p ≡ Some (Swapped k) → s.pool.free ≡ others ++ f ∷ [] → slice_get s.slots.uses k ≡ Some Taken → length bytes ≡ 4096 → FramesAreSound (fetched s i p f k others bytes)
 frames_fetched s i p f k others bytes sound there list taken whole =

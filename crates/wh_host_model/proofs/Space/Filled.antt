@@ -7,7 +7,7 @@ use Rattle.wh_host_model.proofs.Tally.{one_same}
 use Rattle.wh_host_model.specs.declared.states.Page.{Page}
 use Rattle.wh_host_model.specs.declared.states.Page.TheVariants.{Untouched, Private, Shared, Leaving, LeavingShared, Coming, Swapped}
 use Rattle.wh_host_model.specs.declared.states.Mark.{Mark}
-use Rattle.wh_host_model.specs.declared.states.Mark.TheVariants.{Plain, Hint, Sharers}
+use Rattle.wh_host_model.specs.declared.states.Mark.TheVariants.{Plain, Hint, Sharers, Unlisted}
 use Rattle.wh_host_model.specs.Space.Parts.{Space, backing, frame_bytes, kept_by, pinned_by, sharers, view}
 use Rattle.wh_host_model.specs.Space.Sound.{FramesAreSound, IsSound, Names}
 use Rattle.wh_host_model.specs.Space.States.{Backing, count, count_of, joined, owns, page_at, page_bytes, shares}
@@ -31,6 +31,7 @@ names_filled s s2 f None share tables same names = tt
 names_filled s s2 f (Some Plain) share tables same names = share ∙ names
 names_filled s s2 f (Some (Hint x i q)) share tables same names = (ap (λ t. Rattle.wh_host_model.specs.Space.States.at (owns f) (page_at t i q)) tables ∙ names.0, share ∙ names.1)
 names_filled s s2 f (Some (Sharers x n)) share tables same names = (share ∙ names.0, names.1, λ z. names.2 (sym (same (let c = names.0 in let d = names.1 in omega arith)) ∙ z))
+names_filled s s2 f (Some (Unlisted n)) share tables same names = (share ∙ names.0, names.1)
 
 one_use : (s : Space) (f : ℕ) → FramesAreSound s → count (owns f) s.tables + min 1 (sharers s f) ≤ 1
 one_use s f sound = elim (cases_lt f (length s.pool.frames)) [

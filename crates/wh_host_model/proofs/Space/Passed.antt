@@ -8,7 +8,7 @@ use Rattle.wh_host_model.proofs.Tally.{one_same, one_other}
 use Rattle.wh_host_model.specs.declared.states.Page.{Page}
 use Rattle.wh_host_model.specs.declared.states.Page.TheVariants.{Untouched, Private, Shared, Leaving, LeavingShared, Coming, Swapped}
 use Rattle.wh_host_model.specs.declared.states.Mark.{Mark}
-use Rattle.wh_host_model.specs.declared.states.Mark.TheVariants.{Plain, Hint, Sharers}
+use Rattle.wh_host_model.specs.declared.states.Mark.TheVariants.{Plain, Hint, Sharers, Unlisted}
 use Rattle.wh_host_model.specs.declared.states.Slot.{Slot}
 use Rattle.wh_host_model.specs.declared.states.Slot.TheVariants.{Vacant, Taken, Evicting, EvictVoid, Fetching, FetchVoid}
 use Rattle.wh_host_model.specs.Space.Chain.{ContentsAreListed, PassesFully}
@@ -121,8 +121,9 @@ content_of hashes s f scan settled used =
       counted (Sharers x n) is names some = record {
         content = shared_content s f some;
         some = names.2;
-        entry = subst (λ m. HasHash m (hashes (frame_bytes s f))) (sym is) (sym (scan.made_under f x n is));
+        entry = subst (λ m. HasHash m (hashes (frame_bytes s f))) (sym is) (sym (scan.made_under f (Sharers x n) is));
       }
+      counted (Unlisted n) is names some = absurd (scan.made_under f (Unlisted n) is)
 
 -- a content is in a frame that is in use
 owns_or_shares : (f : ℕ) (x : Page) → frame_of x ≡ Some f → 1 ≤ owns f x + shares f x

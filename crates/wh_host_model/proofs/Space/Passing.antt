@@ -14,7 +14,7 @@ use Rattle.wh_host_model.specs.Space.Errands.{is_ticket, tickets}
 use Rattle.wh_host_model.specs.Space.Moves.{frame_of}
 use Rattle.wh_host_model.specs.Space.Parts.{Slots, Space, all_bytes, backing, frame_bytes, kept, pinned_by, sharers}
 use Rattle.wh_host_model.specs.Space.Offers.{IsOffered, Offers, gives_up, hinted, joined_to, paired_with}
-use Rattle.wh_host_model.specs.Space.Scanning.{IsContent, IsHashOf, MadeUnder}
+use Rattle.wh_host_model.specs.Space.Scanning.{IsContent, IsHashOf, IsMadeUnder, MadeUnder}
 use Rattle.wh_host_model.specs.Space.Sound.{FramesAreSound, IsSound, Names, SlotsAreSound}
 use Rattle.wh_host_model.specs.Space.States.{at, count, leaving, owns, page_at, page_bytes, put, resident, shares}
 use Rattle.wh_host_model.proofs.Space.Breaking.{elsewhere}
@@ -166,29 +166,17 @@ content_before s s2 bytes less a (i, p, f, page, there, on, is) =
 
 -- ---- entries
 
-abbrev ScriptState : (List ℕ → ℕ) → List (List ℕ) → List Mark → Type 0
-ScriptState hashes frames marks = (f hash n : ℕ) → slice_get marks f ≡ Some (Sharers hash n) → hashes (get_or frames f []) ≡ hash
+abbrev EntriesMade : (List ℕ → ℕ) → List (List ℕ) → List Mark → Type 0
+EntriesMade hashes frames marks = (f : ℕ) (m : Mark) → slice_get marks f ≡ Some m → IsMadeUnder hashes (get_or frames f []) m
 
-made_with : (hashes : List ℕ → ℕ) (frames : List (List ℕ)) (marks : List Mark) (g : ℕ) (m : Mark) → ScriptState hashes frames marks → g < length marks → ((x n : ℕ) → m ≢ Sharers x n) → ScriptState hashes frames (slice_set marks g m)
-made_with hashes frames marks g m made within never f x n is = elim (here_or g f) [
-  | inr other ↦ made f x n (sym (set_other marks g f m (λ e. other e)) ∙ is)
-  | inl same ↦ absurd (let both : Some m ≡ Some (Sharers x n) = sym (set_same marks g m within) ∙ subst (λ z. slice_get (slice_set marks g m) z ≡ Some (Sharers x n)) same is in never x n (cc both))
-]
-
-made_shared : (hashes : List ℕ → ℕ) (frames : List (List ℕ)) (marks : List Mark) (g hash k : ℕ) → ScriptState hashes frames marks → g < length marks → hashes (get_or frames g []) ≡ hash → ScriptState hashes frames (slice_set marks g (Sharers hash k))
-made_shared hashes frames marks g hash k made within own f x n is = elim (here_or g f) [
-  | inr other ↦ made f x n (sym (set_other marks g f (Sharers hash k) (λ e. other e)) ∙ is)
+made_with : (hashes : List ℕ → ℕ) (frames : List (List ℕ)) (marks : List Mark) (g : ℕ) (m : Mark) → EntriesMade hashes frames marks → g < length marks → IsMadeUnder hashes (get_or frames g []) m → EntriesMade hashes frames (slice_set marks g m)
+made_with hashes frames marks g m made within own f x is = elim (here_or g f) [
+  | inr other ↦ made f x (sym (set_other marks g f m (λ e. other e)) ∙ is)
   | inl same ↦
-      (let both : Some (Sharers hash k) ≡ Some (Sharers x n) = sym (set_same marks g (Sharers hash k) within) ∙ subst (λ z. slice_get (slice_set marks g (Sharers hash k)) z ≡ Some (Sharers x n)) same is in
-      let e : hash ≡ x = cc in
-      ap (λ z. hashes (get_or frames z [])) same ∙ (own ∙ e))
+      (let both : Some m ≡ Some x = sym (set_same marks g m within) ∙ subst (λ z. slice_get (slice_set marks g m) z ≡ Some x) same is in
+      let e : m ≡ x = cc both in
+      subst (IsMadeUnder hashes (get_or frames f [])) e (subst (λ z. IsMadeUnder hashes (get_or frames z []) m) (sym same) own))
 ]
-
-plain_never : (x n : ℕ) → Plain ≢ Sharers x n
-plain_never x n e = cc e
-
-hint_never : (hash i p x n : ℕ) → Hint hash i p ≢ Sharers x n
-hint_never hash i p x n e = cc e
 
 -- ---- one offer
 
@@ -240,7 +228,7 @@ zeroed_step hashes s i p hash g s2 scan offered zeros is =
     let within : g < length s.marks = (let k = get_pages (owns g) s.tables i p (Private g) offered.0 in let o = one_same g g refl in let l = scan.sound.frames.marks in elim (cases_lt g (length s.pool.frames)) [ inl w ↦ omega arith | inr past ↦ absurd (let z = scan.sound.frames.none g past in omega arith) ]) in
     let now : page_at s3.tables i p ≡ Some Untouched = put_this s.tables i p (Private g) Untouched offered.0 in
     subst (IsStep hashes s i p) (sym is) (record {
-      scanning = scanning_after hashes s s3 scan sound (offers_quiet hashes s i p hash Zeroed s3 offer) less refl refl (made_with hashes s.pool.frames s.marks g Plain scan.made_under within plain_never);
+      scanning = scanning_after hashes s s3 scan sound (offers_quiet hashes s i p hash Zeroed s3 offer) less refl refl (made_with hashes s.pool.frames s.marks g Plain scan.made_under within tt);
       now = record { entry = λ h there. absurd (let both : Some Untouched ≡ Some (Private h) = sym now ∙ there in cc both); some = λ h there. absurd (let both : Some Untouched ≡ Some (Private h) = sym now ∙ there in cc both) };
       stays = λ j q old. still_settled hashes s s3 j q refl (λ h there. put_private s.tables i p (Private g) Untouched j q h offered.0 (untouched_not h) there)
           (λ h there was a b mark. (a, b, set_other s.marks g h Plain (not_given s3 j q g h s.pool.free sound.frames there refl) ∙ mark)) old;
@@ -249,7 +237,7 @@ zeroed_step hashes s i p hash g s2 scan offered zeros is =
 
 -- the page is the hint now, other entries being these
 hint_step : (hashes : List ℕ → ℕ) (s : Space) (i p hash g : ℕ) (answer : Offer) (marks : List Mark) → IsScanning hashes s → IsHashOf hashes s i p hash → IsOffered s i p g → frame_bytes s g ≢ zero_page
-    → Offers hashes s i p hash answer (hinted (record s { marks = marks }) i p g hash) → length marks ≡ length s.marks → ScriptState hashes s.pool.frames marks
+    → Offers hashes s i p hash answer (hinted (record s { marks = marks }) i p g hash) → length marks ≡ length s.marks → EntriesMade hashes s.pool.frames marks
     → ((h a b : ℕ) → h ≢ g → slice_get s.marks h ≡ Some (Hint (hashes (frame_bytes s h)) a b) → slice_get marks h ≡ Some (Hint (hashes (frame_bytes s h)) a b)) → IsStep hashes s i p (hinted (record s { marks = marks }) i p g hash)
 hint_step hashes s i p hash g answer marks scan its offered some offer long made others =
     let s3 : Space = hinted (record s { marks = marks }) i p g hash in
@@ -258,7 +246,7 @@ hint_step hashes s i p hash g answer marks scan its offered some offer long made
     let own : hashes (frame_bytes s g) ≡ hash = its g offered.0 in
     let mine : slice_get s3.marks g ≡ Some (Hint (hashes (frame_bytes s g)) i p) = set_same marks g (Hint hash i p) within ∙ ap (λ z. Some (Hint z i p)) (sym own) in
     record {
-      scanning = scanning_after hashes s s3 scan sound (offers_quiet hashes s i p hash answer s3 offer) (λ j q r. r) refl refl (made_with hashes s.pool.frames marks g (Hint hash i p) made within (hint_never hash i p));
+      scanning = scanning_after hashes s s3 scan sound (offers_quiet hashes s i p hash answer s3 offer) (λ j q r. r) refl refl (made_with hashes s.pool.frames marks g (Hint hash i p) made within tt);
       now = record {
         entry = λ h there. (let e = one_private (page_at s.tables i p) g h offered.0 there in (i, p, subst (λ z. slice_get s3.marks z ≡ Some (Hint (hashes (frame_bytes s z)) i p)) (sym e) mine));
         some = λ h there z. some (let e = one_private (page_at s.tables i p) g h offered.0 there in ap (frame_bytes s) (sym e) ∙ z);
@@ -282,9 +270,9 @@ merge_step hashes s i p hash g f n s2 scan offered offer own there_f frames free
     let long = length-set s.marks g Plain in
     let within_f : f < length (slice_set s.marks g Plain) = omega arith in
     let counted : slice_get s2.marks f ≡ Some (Sharers hash n) = ap (λ m. slice_get m f) marks ∙ set_same (slice_set s.marks g Plain) f (Sharers hash n) within_f in
-    let made : ScriptState hashes s.pool.frames (slice_set (slice_set s.marks g Plain) f (Sharers hash n)) = made_shared hashes s.pool.frames (slice_set s.marks g Plain) f hash n (made_with hashes s.pool.frames s.marks g Plain scan.made_under within plain_never) within_f own in
+    let made : EntriesMade hashes s.pool.frames (slice_set (slice_set s.marks g Plain) f (Sharers hash n)) = made_with hashes s.pool.frames (slice_set s.marks g Plain) f (Sharers hash n) (made_with hashes s.pool.frames s.marks g Plain scan.made_under within tt) within_f own in
     record {
-      scanning = scanning_after hashes s s2 scan sound (offers_quiet hashes s i p hash Merged s2 offer) less slots pins (λ h x m is. ap (λ z. hashes (get_or z h [])) frames ∙ made h x m (ap (λ z. slice_get z h) (sym marks) ∙ is));
+      scanning = scanning_after hashes s s2 scan sound (offers_quiet hashes s i p hash Merged s2 offer) less slots pins (λ h x is. subst (λ z. IsMadeUnder hashes (get_or z h []) x) (sym frames) (made h x (ap (λ z. slice_get z h) (sym marks) ∙ is)));
       now = record { entry = λ h there. absurd (gone h there); some = λ h there. absurd (gone h there) };
       stays = λ j q old. still_settled hashes s s2 j q frames (λ h there. private j q h there)
           (λ h there was a b mark.
@@ -310,7 +298,7 @@ offer_step hashes s i p hash Skipped s2 scan its (is, inr (g, f, j, q, offered, 
     }))
 offer_step hashes s i p hash Skipped s2 scan its (is, inr (g, f, j, q, offered, some, found, inr (apart, not))) = absurd (not (hint_offered hashes s f hash j q scan found))
 offer_step hashes s i p hash FalseMatch s2 scan its (is, (g, f, offered, some, differ, inl (n, found))) =
-    absurd (differ (scan.apart (frame_bytes s g) (frame_bytes s f) (owned_content s i p g offered.0) (shared_content s f (named_sharers s f hash n scan.sound.frames found)) (its g offered.0 ∙ sym (scan.made_under f hash n found))))
+    absurd (differ (scan.apart (frame_bytes s g) (frame_bytes s f) (owned_content s i p g offered.0) (shared_content s f (named_sharers s f hash n scan.sound.frames found)) (its g offered.0 ∙ sym (scan.made_under f (Sharers hash n) found))))
 offer_step hashes s i p hash FalseMatch s2 scan its (is, (g, f, offered, some, differ, inr (j, q, apart, hint))) =
     absurd (differ (scan.apart (frame_bytes s g) (frame_bytes s f) (owned_content s i p g offered.0) (owned_content s j q f hint.1.0) (its g offered.0 ∙ sym hint.2)))
 offer_step hashes s i p hash Zeroed s2 scan its (g, offered, zeros, is) = zeroed_step hashes s i p hash g s2 scan offered zeros is
@@ -318,7 +306,7 @@ offer_step hashes s i p hash Hinted s2 scan its (g, offered, some, none, is) =
     subst (IsStep hashes s i p) (sym is) (hint_step hashes s i p hash g Hinted s.marks scan its offered some (g, offered, some, none, refl) refl scan.made_under (λ h a b other mark. mark))
 offer_step hashes s i p hash Stale s2 scan its (g, f, j, q, offered, some, found, apart, offered2, changed, is) =
     subst (IsStep hashes s i p) (sym is) (hint_step hashes s i p hash g Stale (slice_set s.marks f Plain) scan its offered some (g, f, j, q, offered, some, found, apart, offered2, changed, refl) (length-set s.marks f Plain)
-    (made_with hashes s.pool.frames s.marks f Plain scan.made_under (there_of s.marks f (Hint hash j q) found) plain_never)
+    (made_with hashes s.pool.frames s.marks f Plain scan.made_under (there_of s.marks f (Hint hash j q) found) tt)
     (λ h a b other mark. elim (here_or f h) [
       | inr away ↦ set_other s.marks f h Plain (λ e. away e) ∙ mark
       | inl same ↦ absurd (changed (let at_it : slice_get s.marks f ≡ Some (Hint (hashes (frame_bytes s f)) a b) = subst (λ z. slice_get s.marks z ≡ Some (Hint (hashes (frame_bytes s z)) a b)) same mark in
@@ -326,7 +314,7 @@ offer_step hashes s i p hash Stale s2 scan its (g, f, j, q, offered, some, found
     ]))
 offer_step hashes s i p hash Merged s2 scan its (g, f, offered, some, same, inl (n, found, is)) =
     let s3 : Space = joined_to s i p g f hash n in
-    subst (IsStep hashes s i p) (sym is) (merge_step hashes s i p hash g f (n + 1) s3 scan offered (g, f, offered, some, same, inl (n, found, refl)) (scan.made_under f hash n found) (there_of s.marks f (Sharers hash n) found) refl refl refl refl refl
+    subst (IsStep hashes s i p) (sym is) (merge_step hashes s i p hash g f (n + 1) s3 scan offered (g, f, offered, some, same, inl (n, found, refl)) (scan.made_under f (Sharers hash n) found) (there_of s.marks f (Sharers hash n) found) refl refl refl refl refl
     (λ j q h there. put_private s.tables i p (Private g) (Shared f) j q h offered.0 (shared_not f h) there)
     (λ h there. (let now = put_this s.tables i p (Private g) (Shared f) offered.0 in let both : Some (Shared f) ≡ Some (Private h) = sym now ∙ there in shared_not f h (cc both)))
     (λ j q r. put_resident s.tables i p (Private g) (Shared f) j q offered.0 refl r))

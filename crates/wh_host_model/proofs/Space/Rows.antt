@@ -55,7 +55,7 @@ past_there (x ∷ xs) zero past = absurd (omega arith)
 past_there (x ∷ xs) (suc i) past = past_there xs i (omega arith)
 
 -- a row that is put at a place, which may be the next one
-row_is : {X : Type 0} (xs : List X) (i : ℕ) (x : X) → i ≤ length xs
+pub row_is : {X : Type 0} (xs : List X) (i : ℕ) (x : X) → i ≤ length xs
     → ((i < length xs) × (with_row xs i x ≡ slice_set xs i x)) ⊎ ((i ≡ length xs) × (with_row xs i x ≡ xs ++ x ∷ []))
 row_is xs i x most = go (nat_lt i (length xs)) refl where
   is_less : nat_lt i (length xs) ≡ true → i < length xs

@@ -5,7 +5,7 @@ use Rattle.std.proofs.lemmas.Bool.{cases_lt}
 use Rattle.wh_host_model.specs.Frames.{tally, one_if}
 use Rattle.wh_host_model.proofs.Tally.{one_other}
 use Rattle.wh_host_model.specs.Space.Ready.{below}
-use Rattle.wh_host_model.specs.Space.States.{page_at, put, at}
+use Rattle.wh_host_model.specs.Space.States.{page_at, put}
 
 pub below_le : (n : ℕ) (v w : ℕ → ℕ) → ((k : ℕ) → k < n → v k ≤ w k) → below n v ≤ below n w
 below_le zero v w each = omega arith

@@ -1,9 +1,9 @@
 -- That no tenant's bytes reach another: what an instance comes to depends on what was asked of it, and on nothing else.
-use Rattle.std.specs.Prelude.{◌≡◌, ℕ, List, map, slice_get, Some}
+use Rattle.std.specs.Prelude.{◌≡◌, ℕ, List, map, Some}
 use Rattle.wh_model.specs.Execution.Replay.{Outcome, returned, stopped, cancelled, dead, pending, Call}
 use Rattle.wh_host_model.specs.declared.Tax.{Tax}
 use Rattle.wh_host_model.specs.Space.Parts.{view}
-use Rattle.wh_host_model.specs.Host.Worlds.{Tenant, Loaded, World, journal, tenant, empty_world}
+use Rattle.wh_host_model.specs.Host.Worlds.{Tenant, Loaded, World, journal, tenant, empty_world, module_of}
 use Rattle.wh_host_model.specs.Owners.{Entry}
 use Rattle.wh_host_model.specs.Owners.{given_of}
 use Rattle.wh_host_model.specs.Host.Events.{Event}
@@ -29,8 +29,8 @@ asked e = record e { call = call_asked e.call }
 pub record AreTreatedAlike (w w2 : World) (t t2 : Tenant) : Type 0 where
   pub loaded : Loaded
   pub loaded2 : Loaded
-  pub is_loaded : slice_get w.modules t.of ≡ Some loaded
-  pub is_loaded2 : slice_get w2.modules t2.of ≡ Some loaded2
+  pub is_loaded : module_of w t.of ≡ Some loaded
+  pub is_loaded2 : module_of w2 t2.of ≡ Some loaded2
   pub of_one : loaded.m ≡ loaded2.m
   pub given : given_of t.params ≡ given_of t2.params
   pub calls : map asked (journal t) ≡ map asked (journal t2)

@@ -13,10 +13,11 @@ use Rattle.wh_host_model.specs.Space.Chain.{MayWaitFor}
 use Rattle.wh_host_model.specs.Space.Stores.{Epochs, Grew, Overwrites, Touches, ended, stood}
 use Rattle.wh_host_model.specs.Space.Offers.{Offers}
 use Rattle.wh_host_model.specs.Space.Places.{Enters, Exits}
+use Rattle.wh_host_model.specs.Space.Forks.{Copies}
 use Rattle.wh_host_model.specs.Space.Tickets.{BeginsEvict, BeginsFetch, CommitsEvict, CommitsFetch, IsWritten, WaitsForBytes}
 use Rattle.wh_host_model.specs.Space.Provide.{FailsToProvide, FailsTruly, Provides, ProvidesTruly}
 use Rattle.wh_host_model.specs.Host.Misreading.{AllSeeAsMany}
-use Rattle.wh_host_model.specs.Host.Spaces.{AllLeftAlone, Arrives, Departs, WaitsAlone, StepsAlone}
+use Rattle.wh_host_model.specs.Host.Spaces.{AllLeftAlone, Arrives, ArrivesSeeing, Departs, WaitsAlone, StepsAlone}
 
 -- ---- steps of one instance, and what it sees after them
 
@@ -125,3 +126,9 @@ EntrantsArrive =
 
 abbrev pub ExitsDepart : Type 0
 ExitsDepart = (s : Space) (i : ℕ) (s2 : Space) → IsSound s → Exits s i s2 → Departs i s s2
+
+-- a copy of the instance at place i comes, and sees what it sees
+abbrev pub CopiesArrive : Type 0
+CopiesArrive =
+    (s : Space) (i j : ℕ) (c : Claimed) (s2 : Space) → IsSound s → Copies s i j c s2
+    → ArrivesSeeing j c (view s i) s s2

@@ -2,7 +2,7 @@
 use Rattle.std.specs.Prelude.{ℕ, List, Option, ℤ}
 use Rattle.wh_host_model.specs.declared.plain.InstId.{InstId}
 use Rattle.wh_host_model.specs.declared.plain.SwapError.{SwapError}
-use Rattle.wh_host_model.specs.Owners.{Params}
+use Rattle.wh_host_model.specs.Owners.{Params, Quota}
 
 -- a page of 4096 bytes of a linear memory
 pub record PageId : Type 0 where
@@ -20,6 +20,7 @@ pub data Event : Type 0 where
   cancel : (id : InstId) → Event
   retry : (id : InstId) → Event
   release : (id : InstId) → Event
+  fork : (id : InstId) (q : Quota) → Event
   -- a page is offered for sharing, under any hash value
   offer : (page : PageId) (hash : ℕ) → Event
   -- a page is to leave, or to come, for an instance that waits for a frame; and that is committed, by the ticket of

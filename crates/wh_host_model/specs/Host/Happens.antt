@@ -1,17 +1,18 @@
 -- What each event does to a host, and what one after the other do.
-use Rattle.std.specs.Prelude.{◌≡◌, ◌⊎◌, ℕ, List, [], ◌∷◌, length, slice_get, Option, Some, None, ℤ}
+use Rattle.std.specs.Prelude.{◌≡◌, ◌⊎◌, ℕ, List, [], ◌∷◌, length, Option, Some, None, ℤ}
 use Rattle.wh_host_model.specs.declared.plain.TurnEnd.{TurnEnd}
 use Rattle.wh_host_model.specs.declared.plain.TurnEnd.TheVariants.{Idle}
 use Rattle.wh_host_model.specs.declared.plain.InstId.{InstId}
 use Rattle.wh_host_model.specs.declared.plain.SwapError.{SwapError}
 use Rattle.wh_host_model.specs.Space.Parts.{Space}
 use Rattle.wh_host_model.specs.Host.Spaces.{AllLeftAlone}
-use Rattle.wh_host_model.specs.Host.Worlds.{for_frame, for_device, Tenant, Loaded, World, tenant, with_tenant}
-use Rattle.wh_host_model.specs.Owners.{Params, AdmitFault, InvokeFault}
+use Rattle.wh_host_model.specs.Host.Worlds.{for_frame, for_device, Tenant, Loaded, World, tenant, with_tenant, module_of}
+use Rattle.wh_host_model.specs.Owners.{Params, AdmitFault, ForkFault, InvokeFault, Quota}
 use Rattle.wh_host_model.specs.Host.CallAnswers.{Turn}
 use Rattle.wh_host_model.specs.Host.OwnerCalls.{Meets, IsFirst, TakesCall, Refuels, Cancels, Retries}
 use Rattle.wh_host_model.specs.Host.Admission.{LoadFault, RefusesLoad, LoadOutOfMemory, MayRunOut, LoadsModule, MeetsFault, IsFirstMet, LetsIn, LetsGo}
-use Rattle.wh_host_model.specs.Host.Events.{Event, turn, load, admit, invoke, refuel, cancel, retry, release, offer, evict_begin, evict_commit, fetch_begin, fetch_commit, provide, epoch}
+use Rattle.wh_host_model.specs.Host.Forking.{Forks, IsFirstForkFault, MeetsForkFault}
+use Rattle.wh_host_model.specs.Host.Events.{Event, turn, load, admit, invoke, refuel, cancel, retry, release, fork, offer, evict_begin, evict_commit, fetch_begin, fetch_commit, provide, epoch}
 
 -- the number is that of a live instance, and it lies there
 abbrev pub IsLive : World → InstId → Tenant → Type 0
@@ -58,14 +59,14 @@ pub data InvokeAnswer : Type 0 where
 pub data IsInvoke (w : World) (id : InstId) (name : List ℕ) (given : List ℤ) (fuel : ℕ)
     : InvokeAnswer → World → Type 0 where
   is_invoked : {t t2 : Tenant} {l : Loaded} {at : ℕ}
-      → IsLive w id t → slice_get w.modules t.of ≡ Some l → TakesCall l.m w.space t name given fuel at t2
+      → IsLive w id t → module_of w t.of ≡ Some l → TakesCall l.m w.space t name given fuel at t2
       → IsInvoke w id name given fuel (invoke_ok at) (with_tenant w id.number (Some t2) w.space)
   has_no_instance : NoInstance w id → IsInvoke w id name given fuel invoke_no_instance w
   isnt_invoked : {t : Tenant} {l : Loaded} {fault : InvokeFault}
-      → IsLive w id t → slice_get w.modules t.of ≡ Some l → IsFirst l.m t name given fault
+      → IsLive w id t → module_of w t.of ≡ Some l → IsFirst l.m t name given fault
       → IsInvoke w id name given fuel (invoke_refused fault) w
   no_memory_to_invoke : {t : Tenant} {l : Loaded}
-      → IsLive w id t → slice_get w.modules t.of ≡ Some l → ((fault : InvokeFault) → ¬ (Meets l.m t name given fault))
+      → IsLive w id t → module_of w t.of ≡ Some l → ((fault : InvokeFault) → ¬ (Meets l.m t name given fault))
       → IsInvoke w id name given fuel invoke_out_of_memory w
 
 -- the answers to refuel, cancel and retry
@@ -96,6 +97,21 @@ pub data IsRelease (w : World) (id : InstId) : Option (List ℕ) → World → T
   is_released : {t : Tenant} {output : List ℕ} {w2 : World}
       → IsLive w id t → LetsGo w id.number t output w2 → IsRelease w id (Some output) w2
   no_one_to_release : NoInstance w id → IsRelease w id None w
+
+pub data ForkAnswer : Type 0 where
+  fork_ok : InstId → ForkAnswer
+  fork_no_instance : ForkAnswer
+  fork_refused : ForkFault → ForkAnswer
+  fork_out_of_memory : ForkAnswer
+
+pub data IsFork (w : World) (id : InstId) (q : Quota) : ForkAnswer → World → Type 0 where
+  is_forked : {t : Tenant} {new : InstId} {w2 : World}
+      → IsLive w id t → Forks w t q new.place new.number w2 → IsFork w id q (fork_ok new) w2
+  no_one_to_fork : NoInstance w id → IsFork w id q fork_no_instance w
+  isnt_forked : {t : Tenant} {fault : ForkFault}
+      → IsLive w id t → IsFirstForkFault w t q fault → IsFork w id q (fork_refused fault) w
+  no_memory_to_fork : {t : Tenant}
+      → IsLive w id t → ((fault : ForkFault) → ¬ (MeetsForkFault w t q fault)) → IsFork w id q fork_out_of_memory w
 
 -- ---- pages that move
 
@@ -133,6 +149,7 @@ Happens w (refuel id n) w2 = (answer : CallAnswer) × IsRefuel w id n answer w2
 Happens w (cancel id) w2 = (answer : CallAnswer) × IsCancel w id answer w2
 Happens w (retry id) w2 = (answer : CallAnswer) × IsRetry w id answer w2
 Happens w (release id) w2 = (answer : Option (List ℕ)) × IsRelease w id answer w2
+Happens w (fork id q) w2 = (answer : ForkAnswer) × IsFork w id q answer w2
 Happens w (offer page hash) w2 = OnlyMoves w w2
 Happens w (evict_begin id) w2 = OnlyMoves w w2
 Happens w (evict_commit id call fault) w2 = MovesPages w id (AwaitsFrameFor call) fault w2

@@ -1,13 +1,13 @@
 -- What may befall a host whose swap device gives other bytes than were written to it. That it doesn't is a premise of
 -- what instances compute, and not of what keeps a host sound.
-use Rattle.std.specs.Prelude.{◌≡◌, ℕ, List, [], ◌∷◌, length, slice_get, Some}
+use Rattle.std.specs.Prelude.{◌≡◌, ℕ, List, [], ◌∷◌, length, Some}
 use Rattle.wh_model.specs.declared.memory.Need.{Need}
 use Rattle.wh_model.specs.Linking.Accepting.{IsAccepted}
 use Rattle.wh_host_model.specs.declared.Tax.{Tax}
 use Rattle.wh_host_model.specs.Space.Parts.{Space, view, claim, wants}
 use Rattle.wh_host_model.specs.Space.Sound.{IsSound}
 use Rattle.wh_host_model.specs.Host.Spaces.{KeepsPromise}
-use Rattle.wh_host_model.specs.Host.Worlds.{for_frame, Loaded, World, empty_world}
+use Rattle.wh_host_model.specs.Host.Worlds.{for_frame, Loaded, World, empty_world, module_of}
 use Rattle.wh_host_model.specs.Host.Events.{Event}
 use Rattle.wh_host_model.specs.Host.Happens.{Happens}
 use Rattle.wh_host_model.specs.Host.Laws.{EachHas, HasJournal, PlacesAreTenants}
@@ -64,7 +64,7 @@ PlacesStayRight = HoldsAnyhow PlacesAreTenants
 
 abbrev pub ModulesStayAccepted : Type 0
 ModulesStayAccepted =
-    HoldsAnyhow (λ w. (k : ℕ) (l : Loaded) → slice_get w.modules k ≡ Some l → IsAccepted l.bytes l.m)
+    HoldsAnyhow (λ w. (k : ℕ) (l : Loaded) → module_of w k ≡ Some l → IsAccepted l.bytes l.m)
 
 abbrev pub JournalsStayInOrder : Type 0
 JournalsStayInOrder = HoldsAnyhow (EachHas HasJournal)

@@ -1,19 +1,20 @@
 -- Which events can happen to any host that is reached.
-use Rattle.std.specs.Prelude.{◌≡◌, ℕ, ◌<◌, ◌≤◌, List, [], ◌∷◌, length, slice_get, Some, ℤ}
+use Rattle.std.specs.Prelude.{◌≡◌, ℕ, ◌<◌, ◌≤◌, List, [], ◌∷◌, length, Some, ℤ}
 use Rattle.wh_model.specs.Format.Syntax.{Module}
 use Rattle.wh_host_model.specs.declared.plain.InstId.{InstId}
 use Rattle.wh_host_model.specs.declared.plain.TurnEnd.{TurnEnd}
 use Rattle.wh_host_model.specs.declared.plain.TurnEnd.TheVariants.{Idle, Fuel}
-use Rattle.wh_host_model.specs.Host.Worlds.{Tenant, Loaded, World, for_fuel, with_tenant}
+use Rattle.wh_host_model.specs.Host.Worlds.{Tenant, Loaded, World, for_fuel, with_tenant, module_of}
 use Rattle.wh_host_model.specs.Owners.{Entry}
-use Rattle.wh_host_model.specs.Owners.{Params, given_of, AdmitFault, most_modules, InvokeFault, most_fuel}
+use Rattle.wh_host_model.specs.Owners.{ForkFault, Params, Quota, given_of, AdmitFault, most_modules, InvokeFault, most_fuel}
 use Rattle.wh_host_model.specs.Host.OwnerCalls.{Meets}
 use Rattle.wh_model.specs.Execution.Instance.{AreGiven}
 use Rattle.wh_host_model.specs.Space.Parts.{Space}
 use Rattle.wh_model.specs.Linking.Accepting.{IsAccepted}
 use Rattle.wh_host_model.specs.Host.Admission.{MeetsFault}
 use Rattle.wh_host_model.specs.Host.Events.{Event}
-use Rattle.wh_host_model.specs.Host.Happens.{Happens, IsLive, IsTurn, IsLoad, load_ok, IsAdmit, admit_ok, IsInvoke, invoke_ok}
+use Rattle.wh_host_model.specs.Host.Happens.{Happens, IsLive, IsTurn, IsLoad, load_ok, IsAdmit, admit_ok, IsInvoke, invoke_ok, IsFork, fork_ok}
+use Rattle.wh_host_model.specs.Host.Forking.{MeetsForkFault}
 use Rattle.wh_host_model.specs.Host.Laws.{AfterEvents}
 use Rattle.wh_host_model.specs.Host.TakenSteps.{IsStepReady, HasGoneOn}
 
@@ -38,9 +39,16 @@ AdmissionsAreTaken =
 abbrev pub CallsAreTaken : Type 0
 CallsAreTaken =
     AfterEvents (λ w. (id : InstId) (name : List ℕ) (given : List ℤ) (fuel : ℕ) (t : Tenant) (l : Loaded)
-    → IsLive w id t → slice_get w.modules t.of ≡ Some l
+    → IsLive w id t → module_of w t.of ≡ Some l
     → ((fault : InvokeFault) → ¬ (Meets l.m t name given fault)) → fuel ≤ most_fuel
     → (at : ℕ) × (w2 : World) × IsInvoke w id name given fuel (invoke_ok at) w2)
+
+-- an instance can be copied where no fault is met, and no frame is taken for its copy, nor is one written
+abbrev pub ForksAreTaken : Type 0
+ForksAreTaken =
+    AfterEvents (λ w. (id : InstId) (q : Quota) (t : Tenant) → IsLive w id t
+    → ((fault : ForkFault) → ¬ (MeetsForkFault w t q fault))
+    → (new : InstId) × (w2 : World) × IsFork w id q (fork_ok new) w2 × (w2.space.pool ≡ w.space.pool))
 
 -- a turn of an instance that is gone or has no open call is answered Idle
 abbrev pub IdleTurnsHappen : Type 0

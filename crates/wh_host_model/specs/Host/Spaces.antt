@@ -1,6 +1,6 @@
 -- How the memory on which all instances lie may change under the instance at one place, and under the others. Frames,
 -- slots and tickets are any that are sound.
-use Rattle.std.specs.Prelude.{◌≡◌, ◌≢◌, ◌↔◌, ◌⊎◌, ℕ, ◌≤◌, replicate, Option, Some, None}
+use Rattle.std.specs.Prelude.{◌≡◌, ◌≢◌, ◌↔◌, ◌⊎◌, ℕ, ◌≤◌, replicate, List, Option, Some, None}
 use Rattle.wh_model.specs.declared.memory.Need.{Need}
 use Rattle.wh_host_model.specs.Space.Parts.{Space, Claimed, view, claim, promise_at, wants}
 use Rattle.wh_host_model.specs.Space.Sound.{IsSound}
@@ -50,16 +50,20 @@ pub record WaitsAlone (i : ℕ) (stands : Option Need) (s s2 : Space) : Type 0 w
 abbrev pub PinsEndAfter : ℕ → Space → ℕ → Type 0
 PinsEndAfter steps s i = 1 ≤ steps → HasNoPins s i
 
--- an instance comes to a free place, with so many zeros and this claim
-pub record Arrives (i : ℕ) (c : Claimed) (size : ℕ) (s s2 : Space) : Type 0 where
+-- an instance comes to a free place, and sees these bytes, with this claim
+pub record ArrivesSeeing (i : ℕ) (c : Claimed) (bytes : List ℕ) (s s2 : Space) : Type 0 where
   pub free : IsFreePlace s i
   pub others : OthersLeftAlone i s s2
   pub places : OthersKeepPlaces i s s2
-  pub view : view s2 i ≡ replicate size 0
+  pub view : view s2 i ≡ bytes
   pub wants : wants s2 i ≡ None
   pub claim : claim s2 i ≡ Some c
   pub unpinned : HasNoPins s2 i
   pub sound : IsSound s2
+
+-- so many zeros
+abbrev pub Arrives : ℕ → Claimed → ℕ → Space → Space → Type 0
+Arrives i c size s s2 = ArrivesSeeing i c (replicate size 0) s s2
 
 -- The instance at a place goes. Nothing of it stays but its promise, as long as it has the place.
 pub record Departs (i : ℕ) (s s2 : Space) : Type 0 where

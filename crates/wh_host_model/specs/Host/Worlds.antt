@@ -1,5 +1,5 @@
 -- A host as its definitions see it: modules, instances and their calls, over one memory.
-use Rattle.std.specs.Prelude.{ℕ, Bool, List, [], ◌++◌, map, get_or, slice_set, Option, None}
+use Rattle.std.specs.Prelude.{ℕ, Bool, List, [], ◌++◌, drop, map, get_or, slice_get, slice_set, Option, None}
 use Rattle.wh_model.specs.Format.Syntax.{Module}
 use Rattle.wh_model.specs.Execution.Store.{Value, Instance, Store}
 use Rattle.wh_model.specs.Execution.Configuration.{Term, config}
@@ -36,7 +36,8 @@ pub data Suspension : Type 0 where
 
 -- An instance: its place in memory, which module it is of, what it was given, its module instance (4.2.5), its store
 -- but for the memory, and where its present call is. Its journal is the calls that have ended, and then the open
--- ones, the first of which is the present one. It is dead where its start has trapped or was cancelled.
+-- ones, the first of which is the present one. So many of the ended ones were copied with it, and are another's. It is
+-- dead where its start has trapped or was cancelled.
 pub record Tenant : Type 0 where
   pub place : ℕ
   pub of : ℕ
@@ -45,6 +46,7 @@ pub record Tenant : Type 0 where
   pub rest : Rest
   pub doing : Doing
   pub ended : List Entry
+  pub copied : ℕ
   pub open_calls : List Entry
   pub waiting_for : Option Suspension
   pub dead : Bool
@@ -70,6 +72,10 @@ promised number p = record { number = number; shares = p.shares; min = p.min; ma
 abbrev pub journal : Tenant → List Entry
 journal t = t.ended ++ t.open_calls
 
+-- the calls that were asked of it
+abbrev pub own_calls : Tenant → List Entry
+own_calls t = drop t.copied (journal t)
+
 abbrev pub journal_calls : List Entry → List Call
 journal_calls es = map (λ e. e.call) es
 
@@ -90,6 +96,10 @@ store_in s t = store_with (view s t.place) t.rest
 
 abbrev pub standing_in : Space → Tenant → Standing
 standing_in s t = standing_with (view s t.place) t.rest t.doing
+
+-- the module of a number, if it is there
+abbrev pub module_of : World → ℕ → Option Loaded
+module_of w k = slice_get w.modules k
 
 -- the live instance of a number, if it is
 abbrev pub tenant : World → ℕ → Option Tenant

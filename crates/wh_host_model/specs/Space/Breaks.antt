@@ -5,7 +5,7 @@ use Rattle.wh_host_model.specs.Frames.{tally, one_if}
 use Rattle.wh_host_model.specs.declared.states.Page.{Page}
 use Rattle.wh_host_model.specs.declared.states.Page.TheVariants.{Untouched, Private, Shared, Leaving, LeavingShared, Coming, Swapped}
 use Rattle.wh_host_model.specs.declared.states.Mark.{Mark}
-use Rattle.wh_host_model.specs.declared.states.Mark.TheVariants.{Plain, Hint, Sharers}
+use Rattle.wh_host_model.specs.declared.states.Mark.TheVariants.{Plain, Hint, Sharers, Unlisted}
 use Rattle.wh_host_model.specs.declared.states.Slot.{Slot}
 use Rattle.wh_host_model.specs.declared.states.Slot.TheVariants.{Vacant, Taken, Evicting, EvictVoid, Fetching, FetchVoid}
 use Rattle.wh_host_model.specs.Space.States.{page_at, put}
@@ -26,6 +26,7 @@ abbrev pub fewer_sharers : ℕ → Mark → Mark
 fewer_sharers t Plain = Plain
 fewer_sharers t (Hint hash i p) = Hint hash i p
 fewer_sharers t (Sharers hash n) = cond (nat_lt t n) (Sharers hash (n - t)) Plain
+fewer_sharers t (Unlisted n) = cond (nat_lt t n) (Unlisted (n - t)) Plain
 
 -- one of these frames is taken, wherever it stands, and the rest is left
 abbrev pub IsTakenOf : List ℕ → ℕ → List ℕ → Type 0

@@ -13,6 +13,7 @@ use Rattle.wh_host_model.specs.Space.Scanning.{IsDistinct, IsFullPass, Scans}
 use Rattle.wh_host_model.specs.Space.Tickets.{BeginsEvict, BeginsFetch, CommitsEvict, CommitsFetch, IsWritten, WaitsForBytes}
 use Rattle.wh_host_model.specs.Space.Stores.{Epochs, Grew, Overwrites, Touches, ended, stood}
 use Rattle.wh_host_model.specs.Space.Places.{Enters, Exits}
+use Rattle.wh_host_model.specs.Space.Forks.{Lends}
 use Rattle.wh_host_model.specs.Space.Provide.{FailsToProvide, Provides}
 
 -- the bytes lie in the table of this live instance, and are at most a page's
@@ -44,6 +45,7 @@ pub data Befalls (hashes : List ℕ → ℕ) (s s2 : Space) : Type 0 where
       → length (get_or s.tables i []) + 16 * n ≤ t.max → Grew s i n s2 → Befalls hashes s s2
   enters : (i size : ℕ) (c : Claimed) → Enters s i c size s2 → Befalls hashes s s2
   exits : (i : ℕ) → Exits s i s2 → Befalls hashes s s2
+  lends : (i j p : ℕ) → Lends s i j p s2 → Befalls hashes s s2
 
 -- so many things, one after the other
 abbrev pub Follows : (List ℕ → ℕ) → Space → ℕ → Space → Type 0

@@ -6,7 +6,7 @@ use Rattle.wh_host_model.specs.Frames.{tally, one_if}
 use Rattle.wh_host_model.specs.declared.states.Page.{Page}
 use Rattle.wh_host_model.specs.declared.states.Page.TheVariants.{Untouched, Private, Shared, Leaving, LeavingShared, Coming, Swapped}
 use Rattle.wh_host_model.specs.declared.states.Mark.{Mark}
-use Rattle.wh_host_model.specs.declared.states.Mark.TheVariants.{Plain, Hint, Sharers}
+use Rattle.wh_host_model.specs.declared.states.Mark.TheVariants.{Plain, Hint, Sharers, Unlisted}
 use Rattle.wh_host_model.specs.declared.states.Slot.TheVariants.{Vacant, Taken}
 use Rattle.wh_host_model.specs.Space.States.{at, page_at, put, resident, swapped}
 use Rattle.wh_host_model.specs.Space.Parts.{Space, Pins, sharers, kept, pinned_by, frame_bytes}
@@ -15,6 +15,7 @@ use Rattle.wh_host_model.specs.Space.Ready.{pages_of_need}
 -- an entry with one sharer fewer
 abbrev pub one_fewer : Option Mark → Mark
 one_fewer (Some (Sharers hash n)) = Sharers hash (n - 1)
+one_fewer (Some (Unlisted n)) = Unlisted (n - 1)
 one_fewer (Some (Hint hash i p)) = Plain
 one_fewer (Some Plain) = Plain
 one_fewer None = Plain

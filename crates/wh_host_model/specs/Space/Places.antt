@@ -3,7 +3,7 @@ use Rattle.std.specs.Prelude.{ℕ, ◌≡◌, ◌≢◌, ◌+◌, ◌-◌, ◌*�
 use Rattle.wh_host_model.specs.Frames.{tally, one_if}
 use Rattle.wh_host_model.specs.declared.states.Page.TheVariants.{Untouched}
 use Rattle.wh_host_model.specs.declared.states.Mark.{Mark}
-use Rattle.wh_host_model.specs.declared.states.Mark.TheVariants.{Plain, Hint, Sharers}
+use Rattle.wh_host_model.specs.declared.states.Mark.TheVariants.{Plain, Hint, Sharers, Unlisted}
 use Rattle.wh_host_model.specs.declared.states.Slot.{Slot}
 use Rattle.wh_host_model.specs.declared.states.Slot.TheVariants.{Vacant, Taken, Evicting, EvictVoid, Fetching, FetchVoid}
 use Rattle.wh_host_model.specs.Space.States.{lies_in, owns, shares, count_of}
@@ -59,6 +59,7 @@ abbrev pub released_mark : ℕ → ℕ → Mark → Mark
 released_mark i pages Plain = Plain
 released_mark i pages (Hint hash j p) = cond (i == j) Plain (Hint hash j p)
 released_mark i pages (Sharers hash n) = fewer_sharers pages (Sharers hash n)
+released_mark i pages (Unlisted n) = fewer_sharers pages (Unlisted n)
 
 -- 1 where a frame had so many sharers in all, and these were the last ones
 abbrev pub freed_by : ℕ → ℕ → ℕ

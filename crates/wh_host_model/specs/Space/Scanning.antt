@@ -3,7 +3,8 @@ use Rattle.std.specs.Prelude.{ℕ, ◌≡◌, ◌≢◌, ◌↔◌, List, [], �
 use Rattle.wh_host_model.specs.Pages.{zero_page}
 use Rattle.wh_host_model.specs.declared.states.Page.{Page}
 use Rattle.wh_host_model.specs.declared.states.Page.TheVariants.{Private}
-use Rattle.wh_host_model.specs.declared.states.Mark.TheVariants.{Sharers}
+use Rattle.wh_host_model.specs.declared.states.Mark.{Mark}
+use Rattle.wh_host_model.specs.declared.states.Mark.TheVariants.{Plain, Hint, Sharers, Unlisted}
 use Rattle.wh_host_model.specs.declared.states.Offer.{Offer}
 use Rattle.wh_host_model.specs.Space.States.{at, page_at, resident}
 use Rattle.wh_host_model.specs.Space.Parts.{Space, frame_bytes, kept, pinned_by}
@@ -22,9 +23,16 @@ pub record IsDistinct (s : Space) (all : List (List ℕ)) : Type 0 where
   pub each : (bytes : List ℕ) → ((k : ℕ) × (slice_get all k ≡ Some bytes)) ↔ (IsContent s bytes × (bytes ≢ zero_page))
   pub once : (j k : ℕ) (bytes : List ℕ) → slice_get all j ≡ Some bytes → slice_get all k ≡ Some bytes → j ≡ k
 
--- the entries of shared frames were made under this hash
+-- the entry of a shared frame with these bytes was made under this hash; it has one
+abbrev pub IsMadeUnder : (List ℕ → ℕ) → List ℕ → Mark → Type 0
+IsMadeUnder hashes bytes Plain = Unit {0}
+IsMadeUnder hashes bytes (Hint hash i p) = Unit {0}
+IsMadeUnder hashes bytes (Sharers hash n) = hashes bytes ≡ hash
+IsMadeUnder hashes bytes (Unlisted n) = ⊥
+
+-- each was, and no frame is shared without an entry
 abbrev pub MadeUnder : (List ℕ → ℕ) → Space → Type 0
-MadeUnder hashes s = (f hash n : ℕ) → slice_get s.marks f ≡ Some (Sharers hash n) → hashes (frame_bytes s f) ≡ hash
+MadeUnder hashes s = (f : ℕ) (m : Mark) → slice_get s.marks f ≡ Some m → IsMadeUnder hashes (frame_bytes s f) m
 
 -- the hash with which a page is offered is that of its bytes as they are, where it is alone on a frame
 abbrev pub IsHashOf : (List ℕ → ℕ) → Space → ℕ → ℕ → ℕ → Type 0

@@ -6,7 +6,7 @@ use Rattle.wh_host_model.specs.Frames.{tally, one_if}
 use Rattle.wh_host_model.specs.declared.states.Page.{Page}
 use Rattle.wh_host_model.specs.declared.states.Page.TheVariants.{Coming}
 use Rattle.wh_host_model.specs.declared.states.Mark.{Mark}
-use Rattle.wh_host_model.specs.declared.states.Mark.TheVariants.{Plain, Hint, Sharers}
+use Rattle.wh_host_model.specs.declared.states.Mark.TheVariants.{Plain, Hint, Sharers, Unlisted}
 use Rattle.wh_host_model.specs.declared.states.Slot.{Slot}
 use Rattle.wh_host_model.specs.declared.states.Slot.TheVariants.{Vacant, Taken, Evicting, EvictVoid, Fetching, FetchVoid}
 use Rattle.wh_host_model.specs.Space.States.{at, count, page_at, owns, lies_in, comes_from, resident, leaving}
@@ -26,6 +26,7 @@ Names s f None = Unit {0}
 Names s f (Some Plain) = sharers s f ≡ 0
 Names s f (Some (Hint hash i p)) = (at (owns f) (page_at s.tables i p) ≡ 1) × (sharers s f ≡ 0)
 Names s f (Some (Sharers hash n)) = (sharers s f ≡ n) × (1 ≤ n) × (frame_bytes s f ≢ zero_page)
+Names s f (Some (Unlisted n)) = (sharers s f ≡ n) × (1 ≤ n)
 
 -- the hash under which a frame has its entry
 abbrev pub HasHash : Option Mark → ℕ → Type 0
@@ -33,6 +34,7 @@ HasHash None hash = ⊥
 HasHash (Some Plain) hash = ⊥
 HasHash (Some (Hint h i p)) hash = h ≡ hash
 HasHash (Some (Sharers h n)) hash = h ≡ hash
+HasHash (Some (Unlisted n)) hash = ⊥
 
 -- Each frame is exactly one of free, earmarked, held by one fetch ticket, one page's own, or shared. No two entries
 -- have one hash.

@@ -1,3 +1,5 @@
+use Rattle.wh_host_model.proofs.Space.ForkedCharges.{copies_are_free, copies_leave_ready}
+use Rattle.wh_host_model.proofs.Space.Forked.{copies_are_right, lends_alone, lends_soundly}
 use Rattle.wh_host_model.proofs.Space.Deciding.{ready_decided, no_bytes_are_ready, one_use_of_a_frame, page_to_take, slot_to_take, eviction_keeps, fetch_keeps_sound, fetch_keeps_bytes}
 use Rattle.wh_host_model.proofs.Space.Provided.{moves_nearer, provision_is_right}
 use Rattle.wh_host_model.proofs.Space.Reserved.{begin_evict_sound}
@@ -178,3 +180,18 @@ returns-clause-charges_add_up c = charges_add_up
 
 pub returns-clause-one_page_must_leave : goal.returns-clause-one_page_must_leave
 returns-clause-one_page_must_leave c = one_page_must_leave
+
+pub returns-clause-lends_soundly : goal.returns-clause-lends_soundly
+returns-clause-lends_soundly c = lends_soundly
+
+pub returns-clause-lends_alone : goal.returns-clause-lends_alone
+returns-clause-lends_alone c = lends_alone
+
+pub returns-clause-copies_are_right : goal.returns-clause-copies_are_right
+returns-clause-copies_are_right c = copies_are_right
+
+pub returns-clause-copies_are_free : goal.returns-clause-copies_are_free
+returns-clause-copies_are_free c = copies_are_free
+
+pub returns-clause-copies_leave_ready : goal.returns-clause-copies_leave_ready
+returns-clause-copies_leave_ready c = copies_leave_ready

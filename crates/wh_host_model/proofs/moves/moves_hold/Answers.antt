@@ -1,3 +1,4 @@
+use Rattle.wh_host_model.proofs.Host.Arriving.{copies_arrive}
 use Rattle.wh_host_model.proofs.Host.AsMany.{fetches_see_as_many, provisions_see_as_many, failures_see_as_many}
 use Rattle.wh_host_model.proofs.Host.Bridges.{loads_step, stores_step, growth_steps, waits_well, ends_well, epochs_leave_all, offers_leave_all, evictions_begin, writes_leave_all, evictions_end, fetches_begin, fetches_end, provisions_leave_all, failures_leave_all, entrants_arrive, exits_depart}
 use Rattle.wh_host_model.proofs.moves.moves_hold.Goals as goal
@@ -58,3 +59,6 @@ returns-clause-provisions_see_as_many c = provisions_see_as_many
 
 pub returns-clause-failures_see_as_many : goal.returns-clause-failures_see_as_many
 returns-clause-failures_see_as_many c = failures_see_as_many
+
+pub returns-clause-copies_arrive : goal.returns-clause-copies_arrive
+returns-clause-copies_arrive c = copies_arrive

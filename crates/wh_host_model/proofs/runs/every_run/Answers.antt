@@ -1,3 +1,5 @@
+use Rattle.wh_host_model.proofs.Host.Copied.{copied_calls_have_ended}
+use Rattle.wh_host_model.proofs.Host.Copying.{forks_are_taken}
 use Rattle.wh_host_model.proofs.Host.StuckLemmas.{no_call_is_stuck}
 use Rattle.wh_host_model.proofs.Host.Holding.{memory_is_sound, places_are_right, instances_replay, charges_are_within, journals_are_in_order, suspensions_are_right, frame_is_lacking, again_is_ready}
 use Rattle.wh_host_model.proofs.Host.Agreeing.{one_turn}
@@ -68,3 +70,9 @@ returns-clause-ready_turns_happen c = ready_turns_happen
 
 pub returns-clause-ready_steps_are_taken : goal.returns-clause-ready_steps_are_taken
 returns-clause-ready_steps_are_taken c = ready_steps_are_taken
+
+pub returns-clause-forks_are_taken : goal.returns-clause-forks_are_taken
+returns-clause-forks_are_taken c = forks_are_taken
+
+pub returns-clause-copied_calls_have_ended : goal.returns-clause-copied_calls_have_ended
+returns-clause-copied_calls_have_ended c = copied_calls_have_ended

@@ -1,0 +1,71 @@
+-- The calls that were copied with an instance have ended, and stay so.
+use Rattle.std.proofs.Common.{ℕ, ℤ, ◌≤◌, Option, List, [], ◌∷◌, ◌++◌, length, map, sym, subst, arith, length-append}
+use Rattle.wh_model.specs.declared.memory.Need.{Need}
+use Rattle.wh_model.specs.Format.Syntax.{Module}
+use Rattle.wh_model.specs.Execution.Instance.{Parameters}
+use Rattle.wh_model.specs.Execution.Replay.{dead}
+use Rattle.wh_host_model.specs.declared.plain.TurnEnd.{TurnEnd}
+use Rattle.wh_host_model.specs.Space.Parts.{Space}
+use Rattle.wh_host_model.specs.Owners.{Entry}
+use Rattle.wh_host_model.specs.Host.CallAnswers.{Closes, Turn, can_go_on, ended_by, faces_next, has_ended, has_no_frame, has_no_fuel, is_dead, is_idle, keeps_its_fault}
+use Rattle.wh_host_model.specs.Host.Laws.{CopiedCallsHaveEnded}
+use Rattle.wh_host_model.specs.Host.OwnerCalls as requests
+use Rattle.wh_host_model.specs.Host.OwnerCalls.{Cancels, Refuels, Retries, TakesCall, has_more, may_try}
+use Rattle.wh_host_model.specs.Host.Worlds.{Rest, Tenant, empty_world}
+use Rattle.wh_host_model.proofs.Host.Running.{IsGoodBy, IsKeptUp, runs_keep}
+
+abbrev HasCopied : Module → Parameters → Tenant → List ℕ → Option Need → Type 0
+HasCopied m p t bytes want = t.copied ≤ length t.ended
+
+more : (n : ℕ) (es fs : List Entry) → n ≤ length es → n ≤ length (es ++ fs)
+more n es fs few = let l = length-append es fs in omega (arith, few, l)
+
+closes_copied : {s : Space} {t t2 : Tenant} {e : Entry} {es : List Entry} {r : Rest} → Closes s t e es r t2 → t.copied ≤ length t.ended → t2.copied ≤ length t2.ended
+closes_copied {t = t} {e = e} (faces_next a f) few = more t.copied t.ended (e ∷ []) few
+closes_copied {t = t} {e = e} {es = es} (is_dead d) few = more t.copied t.ended (e ∷ map (λ w. ended_by w dead) es) few
+
+turn_copied : {q : ℕ} {s s2 : Space} {t t2 : Tenant} {answer : TurnEnd} → Turn q s t answer s2 t2 → t.copied ≤ length t.ended → t2.copied ≤ length t2.ended
+turn_copied (is_idle none) few = few
+turn_copied (has_ended a g l p c) few = closes_copied c few
+turn_copied (has_no_fuel a g l p) few = few
+turn_copied (has_no_frame a g l p) few = few
+turn_copied (can_go_on a g l p f) few = few
+turn_copied (keeps_its_fault a b c d e f g) few = few
+
+cancel_copied : {s s2 : Space} {t t2 : Tenant} → Cancels s t s2 t2 → t.copied ≤ length t.ended → t2.copied ≤ length t2.ended
+cancel_copied (requests.ends x l p c) few = closes_copied c few
+
+refuel_copied : {n : ℕ} {t t2 : Tenant} → Refuels t n t2 → t.copied ≤ length t.ended → t2.copied ≤ length t2.ended
+refuel_copied (has_more a b) few = few
+
+retry_copied : {t t2 : Tenant} → Retries t t2 → t.copied ≤ length t.ended → t2.copied ≤ length t2.ended
+retry_copied (may_try a b) few = few
+
+accept_copied : {m : Module} {s : Space} {t t2 : Tenant} {name : List ℕ} {given : List ℤ} {fuel at : ℕ} → TakesCall m s t name given fuel at t2 → t.copied ≤ length t.ended → t2.copied ≤ length t2.ended
+accept_copied a few = subst (λ (z : Tenant). z.copied ≤ length z.ended) (sym a.after) few
+
+copied_up : IsKeptUp HasCopied
+copied_up = record {
+  turned = λ few h. turn_copied h few;
+  cancelled = λ few h. cancel_copied h few;
+  refuelled = λ few h. refuel_copied h few;
+  faulted = λ few a b c. few;
+  retried = λ few h. retry_copied h few;
+  accepted = λ s few h. accept_copied h few;
+  forked = λ {t = t} few none same place params. omega arith;
+  begun = λ m place of params p inst s ps fuel given initial low starts. omega arith;
+}
+
+pub copied_calls_have_ended : CopiedCallsHaveEnded
+copied_calls_have_ended frames slots tax events w r i t there =
+    let good = runs_keep HasCopied copied_up events (empty_world frames slots tax) w (copied_empty frames slots tax) r in
+    let fine = good.each i t there in
+    fine.kept where
+      copied_empty : (frames slots : ℕ) (tax : _) → IsGoodBy HasCopied (empty_world frames slots tax)
+      copied_empty frames slots tax = record {
+        sound = Rattle.wh_host_model.proofs.Space.Chained.empty_sound frames slots tax;
+        modules = λ k l x. absurd (cc x);
+        apart = λ i j a b x y e. absurd (cc x);
+        owned = λ place c e. absurd (cc e);
+        each = λ i t x. absurd (cc x);
+      }
