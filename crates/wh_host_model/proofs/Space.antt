@@ -29,6 +29,7 @@ pub mod Returned
 pub mod Sent
 pub mod Offered
 pub mod Merging
+pub mod Listed
 pub mod WorkedStores
 pub mod Awaited
 pub mod Come

@@ -11,10 +11,10 @@ use Rattle.wh_host_model.specs.Space.States.{joined}
 use Rattle.wh_host_model.specs.Space.Parts.{Space, Occupant, Promised, all_bytes, claim_of, need_of, promised_to}
 use Rattle.wh_host_model.specs.Space.Errands.{ticket_of}
 use Rattle.wh_host_model.specs.Space.Sound.{IsSound}
-use Rattle.wh_host_model.specs.Space.Offers.{Offers}
+use Rattle.wh_host_model.specs.Space.Offers.{Offers, OffersAlone, OffersUnlisted}
 use Rattle.wh_host_model.specs.Space.Tickets.{Reserves, BeginsEvict, BeginsFetch, CommitsEvict, CommitsFetch, leaving_by, stays_occupant}
-use Rattle.wh_host_model.proofs.Space.Quiet.{offers_quiet}
-use Rattle.wh_host_model.proofs.Space.Merging.{offers_soundly}
+use Rattle.wh_host_model.proofs.Space.Listed.{offers_quiet}
+use Rattle.wh_host_model.proofs.Space.Listed.{offers_soundly}
 use Rattle.wh_host_model.proofs.Space.Reserved.{begin_evict_sound}
 use Rattle.wh_host_model.proofs.Space.Awaited.{begin_fetch_sound}
 use Rattle.wh_host_model.proofs.Space.Sent.{commits_soundly}
@@ -25,14 +25,27 @@ use Rattle.wh_host_model.proofs.Host.Leaving.{alone_bytes}
 
 -- ---- offers
 
+own_there : (hashes : List ℕ → ℕ) (s : Space) (i p hash : ℕ) (answer : Offer) (s2 : Space) → OffersAlone hashes s i p hash answer s2 → s2.occupants ≡ s.occupants
+own_there hashes s i p hash Skipped s2 (is, why) = ap (λ (a : Space). a.occupants) is
+own_there hashes s i p hash FalseMatch s2 (is, why) = ap (λ (a : Space). a.occupants) is
+own_there hashes s i p hash Hinted s2 (g, offered, some, none, is) = ap (λ (a : Space). a.occupants) is
+own_there hashes s i p hash Stale s2 (g, f, j, q, offered, some, found, apart, other, changed, is) = ap (λ (a : Space). a.occupants) is
+own_there hashes s i p hash Zeroed s2 (g, offered, zeros, is) = ap (λ (a : Space). a.occupants) is
+own_there hashes s i p hash Merged s2 (g, f, offered, some, same, inl (n, found, is)) = ap (λ (a : Space). a.occupants) is
+own_there hashes s i p hash Merged s2 (g, f, offered, some, same, inr (j, q, apart, hint, is)) = ap (λ (a : Space). a.occupants) is
+
+shared_there : (hashes : List ℕ → ℕ) (s : Space) (i p hash : ℕ) (answer : Offer) (s2 : Space) → OffersUnlisted hashes s i p hash answer s2 → s2.occupants ≡ s.occupants
+shared_there hashes s i p hash Skipped s2 (is, why) = ap (λ (a : Space). a.occupants) is
+shared_there hashes s i p hash FalseMatch s2 (is, why) = ap (λ (a : Space). a.occupants) is
+shared_there hashes s i p hash Hinted s2 (f, n, may, some, none, is) = ap (λ (a : Space). a.occupants) is
+shared_there hashes s i p hash Stale s2 (f, n, g, j, q, may, some, found, offered, changed, is) = ap (λ (a : Space). a.occupants) is
+shared_there hashes s i p hash Zeroed s2 (f, n, may, zeros, is) = ap (λ (a : Space). a.occupants) is
+shared_there hashes s i p hash Merged s2 (f, n, g, may, some, same, inl (m, found, is)) = ap (λ (a : Space). a.occupants) is
+shared_there hashes s i p hash Merged s2 (f, n, g, may, some, same, inr (j, q, hint, is)) = ap (λ (a : Space). a.occupants) is
+
 offers_there : (hashes : List ℕ → ℕ) (s : Space) (i p hash : ℕ) (answer : Offer) (s2 : Space) → Offers hashes s i p hash answer s2 → s2.occupants ≡ s.occupants
-offers_there hashes s i p hash Skipped s2 (is, why) = ap (λ (a : Space). a.occupants) is
-offers_there hashes s i p hash FalseMatch s2 (is, why) = ap (λ (a : Space). a.occupants) is
-offers_there hashes s i p hash Hinted s2 (g, offered, some, none, is) = ap (λ (a : Space). a.occupants) is
-offers_there hashes s i p hash Stale s2 (g, f, j, q, offered, some, found, apart, other, changed, is) = ap (λ (a : Space). a.occupants) is
-offers_there hashes s i p hash Zeroed s2 (g, offered, zeros, is) = ap (λ (a : Space). a.occupants) is
-offers_there hashes s i p hash Merged s2 (g, f, offered, some, same, inl (n, found, is)) = ap (λ (a : Space). a.occupants) is
-offers_there hashes s i p hash Merged s2 (g, f, offered, some, same, inr (j, q, apart, hint, is)) = ap (λ (a : Space). a.occupants) is
+offers_there hashes s i p hash answer s2 (inl o) = own_there hashes s i p hash answer s2 o
+offers_there hashes s i p hash answer s2 (inr o) = shared_there hashes s i p hash answer s2 o
 
 pub offers_alone : (hashes : List ℕ → ℕ) (s : Space) (i p hash : ℕ) (answer : Offer) (s2 : Space) → IsSound s → Offers hashes s i p hash answer s2 → AllLeftAlone s s2
 offers_alone hashes s i p hash answer s2 sound o =

@@ -9,7 +9,7 @@ use Rattle.wh_host_model.proofs.Tally.{one_same, one_other}
 use Rattle.wh_host_model.proofs.PageLemmas.{length-zero_page}
 use Rattle.wh_host_model.specs.declared.states.Mark.TheVariants.{Plain}
 use Rattle.wh_host_model.specs.declared.states.Slot.TheVariants.{Vacant, FetchVoid}
-use Rattle.wh_host_model.specs.Space.Chain.{Befalls, stores, EmptyIsSound, FailsSoundly, Follows, ScansSoundly, StaysSound, loads, new_epoch, stands, ends, offered, begins_evict, written, commits_evict, begins_fetch, commits_fetch, provides, fails, grows, enters, exits, lends}
+use Rattle.wh_host_model.specs.Space.Chain.{Befalls, stores, EmptyIsSound, FailsSoundly, Follows, ScansSoundly, StaysSound, loads, new_epoch, stands, ends, offered, begins_evict, written, commits_evict, begins_fetch, commits_fetch, provides, fails, grows, enters, exits}
 use Rattle.wh_host_model.specs.Space.Errands.{fetches_into}
 use Rattle.wh_host_model.specs.Space.Sound.{HasHash, IsSound, IsUsed, LeavesBy, Names}
 use Rattle.wh_host_model.specs.Space.Parts.{all_bytes, Space, empty_space, numbers_below}
@@ -20,9 +20,9 @@ use Rattle.wh_host_model.proofs.Space.Enlarged.{grows_soundly}
 use Rattle.wh_host_model.proofs.Space.Entered.{enters_soundly}
 use Rattle.wh_host_model.proofs.Space.Exited.{exits_soundly}
 use Rattle.wh_host_model.proofs.Space.Forked.{lends_soundly}
-use Rattle.wh_host_model.proofs.Space.Merging.{offers_soundly}
+use Rattle.wh_host_model.proofs.Space.Listed.{offers_soundly}
 use Rattle.wh_host_model.proofs.Space.Filled.{stores_soundly}
-use Rattle.wh_host_model.proofs.Space.Quiet.{offers_quiet}
+use Rattle.wh_host_model.proofs.Space.Listed.{offers_quiet}
 use Rattle.wh_host_model.proofs.Space.Provided.{provision_is_right, serves_way}
 use Rattle.wh_host_model.proofs.Space.Reserved.{begin_evict_sound, is_sound_unpinned}
 use Rattle.wh_host_model.proofs.Space.Sent.{commits_soundly}
@@ -122,11 +122,11 @@ befalls_soundly hashes s s2 sound (fails i need none stand is) = fails_soundly s
 befalls_soundly hashes s s2 sound (grows i n t was live fits is) = grows_soundly s i n t s2 sound was live fits is
 befalls_soundly hashes s s2 sound (enters i size c is) = enters_soundly s i c size s2 sound is
 befalls_soundly hashes s s2 sound (exits i is) = exits_soundly s i s2 sound is
-befalls_soundly hashes s s2 sound (lends i j p is) = lends_soundly s i j p s2 sound is
 
 follows_soundly : (hashes : List ℕ → ℕ) (s : Space) (n : ℕ) (s2 : Space) → IsSound s → Follows hashes s n s2 → IsSound s2
 follows_soundly hashes s zero s2 sound is = subst IsSound (sym is) sound
-follows_soundly hashes s (suc n) s2 sound (mid, before, last) = befalls_soundly hashes mid s2 (follows_soundly hashes s n mid sound before) last
+follows_soundly hashes s (suc n) s2 sound (mid, before, inl last) = befalls_soundly hashes mid s2 (follows_soundly hashes s n mid sound before) last
+follows_soundly hashes s (suc n) s2 sound (mid, before, inr (i, j, p, last)) = lends_soundly mid i j p s2 (follows_soundly hashes s n mid sound before) last
 
 pub stays_sound : StaysSound
 stays_sound hashes frames slots tax n s follows = follows_soundly hashes (empty_space frames slots tax) n s (empty_sound frames slots tax) follows

@@ -26,15 +26,15 @@ use Rattle.wh_host_model.proofs.Space.Sums.{set_tally, put_tally}
 unfoldable pub StoodOn : Page → ℕ → Type 0
 StoodOn x f = (x ≡ Private f) ⊎ (x ≡ Shared f)
 
-lt_cases : (n : ℕ) → ((nat_lt 1 n ≡ true) × (1 < n)) ⊎ ((nat_lt 1 n ≡ false) × (n ≤ 1))
+pub lt_cases : (n : ℕ) → ((nat_lt 1 n ≡ true) × (1 < n)) ⊎ ((nat_lt 1 n ≡ false) × (n ≤ 1))
 lt_cases n = grind (arith, nat_tests)
 
-freed_tally : (b : Bool) (g f : ℕ) (xs : List ℕ) → tally (one_if g) (cond b xs (xs ++ f ∷ [])) ≡ tally (one_if g) xs + cond b 0 (one_if g f)
+pub freed_tally : (b : Bool) (g f : ℕ) (xs : List ℕ) → tally (one_if g) (cond b xs (xs ++ f ∷ [])) ≡ tally (one_if g) xs + cond b 0 (one_if g f)
 freed_tally true g f xs = omega arith
 freed_tally false g f xs = let e = tally-append (one_if g) xs (f ∷ []) in omega arith
 
 -- what the sum for frame g is before and after: it loses the page's part, and gains a free frame where nobody else is on it
-sum_kept : (free freed own own2 sh sh2 a b rest : ℕ) (many : ℕ) (same : Bool)
+pub sum_kept : (free freed own own2 sh sh2 a b rest : ℕ) (many : ℕ) (same : Bool)
     → own2 + a ≡ own → sh2 + b ≡ sh → ((a ≡ 0) × (b ≡ 0) × (freed ≡ 0)) ⊎ (((a ≡ 1) × (b ≡ 0) × (freed ≡ 1) × (sh ≡ 0)) ⊎ (((a ≡ 0) × (b ≡ 1) × (freed ≡ 0) × (1 < sh)) ⊎ ((a ≡ 0) × (b ≡ 1) × (freed ≡ 1) × (sh ≤ 1))))
     → (free + rest) + own + min 1 sh ≡ 1 → ((free + freed) + rest) + own2 + min 1 sh2 ≡ 1
 sum_kept free freed own own2 sh sh2 a b rest many same h k (inl w) one = omega (arith, h, k, w.0, w.1, w.2, one)
@@ -43,7 +43,7 @@ sum_kept free freed own own2 sh sh2 a b rest many same h k (inr (inr (inl w))) o
 sum_kept free freed own own2 sh sh2 a b rest many same h k (inr (inr (inr w))) one = omega (arith, h, k, w.0, w.1, w.2, w.3, one)
 
 -- the page's parts of the sum, and the free frame that comes
-parts : (s : Space) (x : Page) (f g : ℕ) → StoodOn x f → (x ≡ Private f → sharers s f ≡ 0)
+pub parts : (s : Space) (x : Page) (f g : ℕ) → StoodOn x f → (x ≡ Private f → sharers s f ≡ 0)
     → ((owns g x ≡ 0) × (shares g x ≡ 0) × (cond (nat_lt 1 (sharers s f)) 0 (one_if g f) ≡ 0))
     ⊎ (((owns g x ≡ 1) × (shares g x ≡ 0) × (cond (nat_lt 1 (sharers s f)) 0 (one_if g f) ≡ 1) × (sharers s g ≡ 0))
     ⊎ (((owns g x ≡ 0) × (shares g x ≡ 1) × (cond (nat_lt 1 (sharers s f)) 0 (one_if g f) ≡ 0) × (1 < sharers s g))
@@ -70,7 +70,7 @@ parts s x f g (inr e) alone =
       go true o = refl
       go false o = o
 
-stood_within : (s : Space) (j p f : ℕ) (x : Page) → FramesAreSound s → page_at s.tables j p ≡ Some x → StoodOn x f → (f < length s.pool.frames) × (x ≡ Private f → sharers s f ≡ 0)
+pub stood_within : (s : Space) (j p f : ℕ) (x : Page) → FramesAreSound s → page_at s.tables j p ≡ Some x → StoodOn x f → (f < length s.pool.frames) × (x ≡ Private f → sharers s f ≡ 0)
 unfolding StoodOn
 stood_within s j p f x sound there (inl e) =
     let at_it : page_at s.tables j p ≡ Some (Private f) = there ∙ ap Some e in
@@ -134,7 +134,7 @@ other_kind w t j p i q x y there none is =
     ]
 
 -- the entry of the frame that the page left
-names_left : (s s2 : Space) (f : ℕ) (m : Option Mark) (b : Bool) → s2.pool.frames ≡ s.pool.frames → Names s f m → (m ≢ None)
+pub names_left : (s s2 : Space) (f : ℕ) (m : Option Mark) (b : Bool) → s2.pool.frames ≡ s.pool.frames → Names s f m → (m ≢ None)
     → ((b ≡ true) × (1 < sharers s f) × (sharers s2 f + 1 ≡ sharers s f)) ⊎ ((b ≡ false) × (sharers s2 f ≡ 0))
     → Names s2 f (Some (cond b (one_fewer m) Plain))
 names_left s s2 f m b same names some (inr (e, zeros)) = rw e zeros
@@ -162,7 +162,7 @@ fewer_hash (Some (Hint x i q)) true hash h = absurd h
 fewer_hash (Some (Sharers x n)) true hash h = h
 fewer_hash (Some (Unlisted n)) true hash h = absurd h
 
-hash_before : (marks : List Mark) (f g : ℕ) (b : Bool) (hash : ℕ) → f < length marks → HasHash (slice_get (slice_set marks f (cond b (one_fewer (slice_get marks f)) Plain)) g) hash → HasHash (slice_get marks g) hash
+pub hash_before : (marks : List Mark) (f g : ℕ) (b : Bool) (hash : ℕ) → f < length marks → HasHash (slice_get (slice_set marks f (cond b (one_fewer (slice_get marks f)) Plain)) g) hash → HasHash (slice_get marks g) hash
 hash_before marks f g b hash within has =
     elim (here_or f g) [
       | inr other ↦ subst (λ m. HasHash m hash) (set_other marks f g (cond b (one_fewer (slice_get marks f)) Plain) (λ e. other e)) has
@@ -172,7 +172,7 @@ hash_before marks f g b hash within has =
           subst (λ q. HasHash (slice_get marks q) hash) (sym same) (fewer_hash (slice_get marks f) b hash (subst (λ m. HasHash m hash) e has)))
     ]
 
-stood_other : (x : Page) (f g : ℕ) → StoodOn x f → g ≢ f → (owns g x ≡ 0) × (shares g x ≡ 0)
+pub stood_other : (x : Page) (f g : ℕ) → StoodOn x f → g ≢ f → (owns g x ≡ 0) × (shares g x ≡ 0)
 unfolding StoodOn
 stood_other x f g (inl e) other = (let o = one_other g f other in (rw e o, rw e refl))
 stood_other x f g (inr e) other = (let o = one_other g f other in (rw e refl, rw e o))

@@ -135,14 +135,13 @@ alone_sound s i j p f sound was onto =
       apart = λ a b x has has2. sound.frames.apart a b x (unlisted_before s.marks f a 2 x within has) (unlisted_before s.marks f b 2 x within has2);
     })
 
--- it shared one
-shared_sound : (s : Space) (i j p f : ℕ) → IsSound s → page_at s.tables i p ≡ Some (Shared f) → page_at s.tables j p ≡ Some Untouched
+-- a page comes to a frame that is shared
+pub joins_sound : (s : Space) (j p f : ℕ) → IsSound s → 1 ≤ sharers s f → page_at s.tables j p ≡ Some Untouched
     → IsSound (remade s (put s.tables j p (Shared f)) s.pool.free (slice_set s.marks f (one_more (get_or s.marks f Plain))))
 unfolding remade
-shared_sound s i j p f sound was onto =
+joins_sound s j p f sound some onto =
     let tables : List (List Page) = put s.tables j p (Shared f) in
     let one = one_same f f refl in
-    let some : 1 ≤ sharers s f = (let a = get_pages (shares f) s.tables i p (Shared f) was in omega arith) in
     let entry = entry_there s f sound.frames some in
     let m : Mark = entry.0 in
     let is : get_or s.marks f Plain ≡ m = get_or_is s.marks f m Plain entry.1 in
@@ -173,6 +172,11 @@ shared_sound s i j p f sound was onto =
       ];
       apart = λ a b x has has2. sound.frames.apart a b x (more_before s.marks f a x m entry.1 has) (more_before s.marks f b x m entry.1 has2);
     }))
+
+-- it shared one
+shared_sound : (s : Space) (i j p f : ℕ) → IsSound s → page_at s.tables i p ≡ Some (Shared f) → page_at s.tables j p ≡ Some Untouched
+    → IsSound (remade s (put s.tables j p (Shared f)) s.pool.free (slice_set s.marks f (one_more (get_or s.marks f Plain))))
+shared_sound s i j p f sound was onto = joins_sound s j p f sound (let one = one_same f f refl in let a = get_pages (shares f) s.tables i p (Shared f) was in omega arith) onto
 
 pub lends_page : (s : Space) (i j p : ℕ) (page : Page) (s2 : Space) → IsSound s → page_at s.tables i p ≡ Some page → page_at s.tables j p ≡ Some Untouched → LendsPage s i j p page s2 → IsSound s2
 unfolding remade

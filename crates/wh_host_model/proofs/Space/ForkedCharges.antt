@@ -224,14 +224,14 @@ copies_charge s i j c s2 sound copies last =
     let stands : (k f : ℕ) → k ≢ j → standing_at s2.tables k f ≡ standing_at s.tables k f = λ k f away. stand.same k f away ∙ come.same k f away in
     let many : length s2.tables ≡ length mid.tables = lent.sound.occupants.tables ∙ (ap length keeps.occupants ∙ sym (let m = enters_soundly s j c size mid sound copies.enters in m.occupants.tables)) in
     let sums : (w2 w : ℕ → ℕ) → w2 j ≡ 0 → w j ≡ 0 → ((z : ℕ) → z ≢ j → w2 z ≡ w z) → below (length s2.tables) w2 ≡ below (length s.tables) w = λ w2 w here gone apart.
-        (let each : (z : ℕ) → w2 z ≡ w z = λ z. elim (here_or j z) [
-          | inl at_it ↦ ap w2 at_it ∙ (here ∙ (sym gone ∙ ap w (sym at_it)))
-          | inr other ↦ apart z other
-        ] in
-        elim come.long [
-          | inl long ↦ ap (λ n. below n w2) (many ∙ long) ∙ below_each (length s.tables) w w2 each
-          | inr (last_one, long) ↦ ap (λ n. below n w2) (many ∙ long) ∙ (longer (length s.tables) w2 (ap w2 (sym last_one) ∙ here) ∙ below_each (length s.tables) w w2 each)
-        ]) in
+    (let each : (z : ℕ) → w2 z ≡ w z = λ z. elim (here_or j z) [
+      | inl at_it ↦ ap w2 at_it ∙ (here ∙ (sym gone ∙ ap w (sym at_it)))
+      | inr other ↦ apart z other
+    ] in
+    elim come.long [
+      | inl long ↦ ap (λ n. below n w2) (many ∙ long) ∙ below_each (length s.tables) w w2 each
+      | inr (last_one, long) ↦ ap (λ n. below n w2) (many ∙ long) ∙ (longer (length s.tables) w2 (ap w2 (sym last_one) ∙ here) ∙ below_each (length s.tables) w w2 each)
+    ]) in
     let marks : s2.touched ≡ mid.touched = keeps.touched in
     record {
       mine = λ f. no_charge (before_in (λ k. occupant_number s2 k) s2.tables j f) (standing_at s2.tables j f)
@@ -259,8 +259,8 @@ copies_charge s i j c s2 sound copies last =
           let here : w2 j ≡ 0 = ap (touched_on f (get_or s2.tables j [])) (ap (λ t. get_or t j []) marks ∙ come.untouched_row) ∙ touched_none f (get_or s2.tables j []) (16 * size) in
           let gone : w j ≡ 0 = ap (λ xs. touched_on f xs (get_or s.touched j [])) come.empty in
           let each : (z : ℕ) → z ≢ j → w2 z ≡ w z = λ z other.
-              ap (touched_on f (get_or s2.tables z [])) (ap (λ t. get_or t z []) marks ∙ come.touched_rows z other)
-              ∙ (stand.touch z f (get_or s.touched z []) other ∙ ap (λ xs. touched_on f xs (get_or s.touched z [])) (come.rows z other)) in
+          ap (touched_on f (get_or s2.tables z [])) (ap (λ t. get_or t z []) marks ∙ come.touched_rows z other)
+          ∙ (stand.touch z f (get_or s.touched z []) other ∙ ap (λ xs. touched_on f xs (get_or s.touched z [])) (come.rows z other)) in
           sums w2 w here gone each);
       frames = ap (λ (a : Pool). length a.frames) pool;
       tax = keeps.tax ∙ ap (λ (a : Space). a.tax) copies.enters.leaves;

@@ -1,4 +1,4 @@
--- A merge leaves everything sound, and so does every offer.
+-- A merge leaves everything sound, and so does every offer of a page that is alone on its frame.
 use Rattle.std.proofs.Common.{◌≡◌, ◌≢◌, ℕ, ◌+◌, ◌<◌, ◌≤◌, ◌++◌, inl, inr, min, List, [], ◌∷◌, Some, length, slice_get, slice_set, refl, sym, ◌∙◌, subst, arith, length-set}
 use Rattle.wh_host_model.specs.Pages.{zero_page}
 use Rattle.wh_host_model.specs.Frames.{tally, one_if}
@@ -7,11 +7,11 @@ use Rattle.wh_host_model.specs.declared.states.Page.{Page}
 use Rattle.wh_host_model.specs.declared.states.Page.TheVariants.{Untouched, Private, Shared, Coming}
 use Rattle.wh_host_model.specs.declared.states.Mark.{Mark}
 use Rattle.wh_host_model.specs.declared.states.Mark.TheVariants.{Plain, Sharers}
+use Rattle.wh_host_model.specs.declared.states.Offer.{Offer}
 use Rattle.wh_host_model.specs.declared.states.Offer.TheVariants.{Skipped, Zeroed, Hinted, Stale, Merged, FalseMatch}
-use Rattle.wh_host_model.specs.Space.Offers.{FindsHint, FindsShared, IsOffered, gives_up, joined_to, paired_with}
+use Rattle.wh_host_model.specs.Space.Offers.{FindsHint, FindsShared, IsOffered, OffersAlone, gives_up, joined_to, paired_with}
 use Rattle.wh_host_model.specs.Space.Sound.{FramesAreSound, HasHash, IsSound, Names, holders}
 use Rattle.wh_host_model.proofs.Space.Offered.{IsMoved, IsPlain, hinted_sound, is_sound_remade, moved_once, owned, plain_before, remade, same_entry, stale_sound, zeroed_sound}
-use Rattle.wh_host_model.specs.Space.Kept.{OffersSoundly}
 use Rattle.wh_host_model.specs.Space.Parts.{Space, frame_bytes, sharers}
 use Rattle.wh_host_model.specs.Space.States.{at, comes_from, count, leaving, lies_in, owns, page_at, put, resident, shares}
 use Rattle.wh_host_model.proofs.Space.Begun.{at_same}
@@ -72,7 +72,7 @@ merged_frames s tables i p g f hash m sound offered apart within had bytes own s
     }
 
 -- with a frame that others share
-joined_sound : (s : Space) (i p g f hash n : ℕ) → IsSound s → IsOffered s i p g → FindsShared s hash f n → IsSound (joined_to s i p g f hash n)
+pub joined_sound : (s : Space) (i p g f hash n : ℕ) → IsSound s → IsOffered s i p g → FindsShared s hash f n → IsSound (joined_to s i p g f hash n)
 unfolding remade IsPlain
 joined_sound s i p g f hash n sound offered found =
     let tables : List (List Page) = put s.tables i p (Shared f) in
@@ -129,12 +129,12 @@ paired_sound s i p g f hash j q sound offered also found apart bytes =
     let is1 : at (owns h) (page_at first a b) ≡ 1 = rw page is in
     let page2 = other_kind (owns h) first j q a b (Private f) (Shared f) there (one_other h f other) is1 in rw page2 is1)))
 
-pub offers_soundly : OffersSoundly
-offers_soundly hashes s i p hash Skipped s2 sound (is, why) = subst IsSound (sym is) sound
-offers_soundly hashes s i p hash FalseMatch s2 sound (is, why) = subst IsSound (sym is) sound
-offers_soundly hashes s i p hash Hinted s2 sound (g, offered, some, none, is) = subst IsSound (sym is) (hinted_sound s i p g hash sound offered none)
-offers_soundly hashes s i p hash Stale s2 sound (g, f, j, q, offered, some, found, apart, other, changed, is) = subst IsSound (sym is) (stale_sound s i p g f j q hash sound offered found)
-offers_soundly hashes s i p hash Zeroed s2 sound (g, offered, zeros, is) = subst IsSound (sym is) (untouched_soundly (gives_up s i p g Untouched) i p (zeroed_sound s i p g sound offered))
-offers_soundly hashes s i p hash Merged s2 sound (g, f, offered, some, same, inl (n, found, is)) = subst IsSound (sym is) (joined_sound s i p g f hash n sound offered found)
-offers_soundly hashes s i p hash Merged s2 sound (g, f, offered, some, same, inr (j, q, apart, hint, is)) =
+pub alone_soundly : (hashes : List ℕ → ℕ) (s : Space) (i p hash : ℕ) (answer : Offer) (s2 : Space) → IsSound s → OffersAlone hashes s i p hash answer s2 → IsSound s2
+alone_soundly hashes s i p hash Skipped s2 sound (is, why) = subst IsSound (sym is) sound
+alone_soundly hashes s i p hash FalseMatch s2 sound (is, why) = subst IsSound (sym is) sound
+alone_soundly hashes s i p hash Hinted s2 sound (g, offered, some, none, is) = subst IsSound (sym is) (hinted_sound s i p g hash sound offered none)
+alone_soundly hashes s i p hash Stale s2 sound (g, f, j, q, offered, some, found, apart, other, changed, is) = subst IsSound (sym is) (stale_sound s i p g f j q hash sound offered found)
+alone_soundly hashes s i p hash Zeroed s2 sound (g, offered, zeros, is) = subst IsSound (sym is) (untouched_soundly (gives_up s i p g Untouched) i p (zeroed_sound s i p g sound offered))
+alone_soundly hashes s i p hash Merged s2 sound (g, f, offered, some, same, inl (n, found, is)) = subst IsSound (sym is) (joined_sound s i p g f hash n sound offered found)
+alone_soundly hashes s i p hash Merged s2 sound (g, f, offered, some, same, inr (j, q, apart, hint, is)) =
     subst IsSound (sym is) (paired_sound s i p g f hash j q sound offered hint.1 hint.0 apart (λ z. some (same ∙ z)))

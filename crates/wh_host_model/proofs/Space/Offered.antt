@@ -1,5 +1,5 @@
 -- An offer leaves everything sound, whatever the hash.
-use Rattle.std.proofs.Common.{◌≡◌, ℕ, ◌+◌, ◌<◌, ◌≤◌, ◌++◌, inl, inr, List, [], ◌∷◌, Some, length, slice_get, slice_set, get_or, refl, sym, ap, ◌∙◌, subst, arith, length-set}
+use Rattle.std.proofs.Common.{◌≡◌, ◌≢◌, ℕ, ◌+◌, ◌<◌, ◌≤◌, ◌++◌, inl, inr, List, [], ◌∷◌, Some, length, slice_get, slice_set, get_or, refl, sym, ap, ◌∙◌, subst, arith, length-set}
 use Rattle.std.proofs.lemmas.Bool.{cases_lt}
 use Rattle.wh_host_model.specs.Frames.{tally, one_if}
 use Rattle.wh_host_model.proofs.Tally.{one_same, one_other, tally-append}
@@ -60,25 +60,30 @@ is_sound_remade s tables free marks sound moved frames = record {
 unfoldable pub IsPlain : Page → Type 0
 IsPlain y = ((h : ℕ) → (lies_in h y ≡ 0) × (comes_from h y ≡ 0)) × (leaving y ≡ 0)
 
-pub moved_once : (s : Space) (i p g : ℕ) (y : Page) → IsSound s → IsOffered s i p g → IsPlain y → IsMoved s (put s.tables i p y)
+-- a page that may be another one is
+pub moved_page : (s : Space) (i p : ℕ) (x y : Page) → IsSound s → page_at s.tables i p ≡ Some x → (1 ≤ tally (one_if p) (pinned_by s.pins i) → ⊥) → IsPlain x → IsPlain y → ((h : ℕ) → x ≢ Coming h) → IsMoved s (put s.tables i p y)
 unfolding IsPlain
-moved_once s i p g y sound offered plain = record {
+moved_page s i p x y sound there free was plain other_page = record {
   many = length-set s.tables i _;
   rows = λ j. row_length s.tables i p y j;
-  lies = λ h. (let e = put_tally (lies_in h) s.tables i p (Private g) y offered.0 in let z = (plain.0 h).0 in omega arith);
-  comes = λ h. (let e = put_tally (comes_from h) s.tables i p (Private g) y offered.0 in let z = (plain.0 h).1 in omega arith);
-  leaves = λ j q. at_same leaving s.tables i p j q (Private g) y offered.0 plain.1;
-  coming = λ h j q is. other_value s.tables i p j q (Private g) y (Coming h) offered.0 (λ e. (let bad : Private g ≡ Coming h = e in cc)) is;
+  lies = λ h. (let e = put_tally (lies_in h) s.tables i p x y there in let a = (was.0 h).0 in let z = (plain.0 h).0 in omega arith);
+  comes = λ h. (let e = put_tally (comes_from h) s.tables i p x y there in let a = (was.0 h).1 in let z = (plain.0 h).1 in omega arith);
+  leaves = λ j q. at_same leaving s.tables i p j q x y there (plain.1 ∙ sym was.1);
+  coming = λ h j q is. other_value s.tables i p j q x y (Coming h) there (other_page h) is;
   pinned = λ j q some. elim (here_or i j) [
     | inr away ↦ ap (λ xs. at resident (slice_get xs q)) (put_other_row s.tables i p j y away) ∙ sound.pins.there j q some
     | inl same ↦
         elim (here_or p q) [
-          | inl here ↦ absurd (offered.1 (subst (λ z. 1 ≤ tally (one_if z) (pinned_by s.pins i)) here (subst (λ z. 1 ≤ tally (one_if q) (pinned_by s.pins z)) same some)))
+          | inl here ↦ absurd (free (subst (λ z. 1 ≤ tally (one_if z) (pinned_by s.pins i)) here (subst (λ z. 1 ≤ tally (one_if q) (pinned_by s.pins z)) same some)))
           | inr other ↦ subst (λ z. at resident (page_at (put s.tables i p y) z q) ≡ 1) (sym same)
               (ap (at resident) (put_other s.tables i p q y other) ∙ subst (λ z. at resident (page_at s.tables z q) ≡ 1) same (sound.pins.there j q some))
         ]
   ];
 }
+
+pub moved_once : (s : Space) (i p g : ℕ) (y : Page) → IsSound s → IsOffered s i p g → IsPlain y → IsMoved s (put s.tables i p y)
+unfolding IsPlain
+moved_once s i p g y sound offered plain = moved_page s i p (Private g) y sound offered.0 offered.1 (λ h. (refl, refl), refl) plain (λ h e. (let bad : Private g ≡ Coming h = e in cc))
 
 -- a frame on which a page is alone
 pub owned : (s : Space) (i p g : ℕ) → FramesAreSound s → page_at s.tables i p ≡ Some (Private g) → (g < length s.pool.frames) × (count (owns g) s.tables ≡ 1) × (sharers s g ≡ 0)
@@ -136,42 +141,49 @@ zeroed_sound s i p g sound offered =
     (moved_once s i p g Untouched sound offered (λ h. (refl, refl), refl)) (zeroed_frames s i p g sound offered)
 
 -- the page is the hint, where no other entry has the hash
-hint_frames : (s : Space) (marks : List Mark) (i p g hash : ℕ) → IsSound s → IsOffered s i p g → length marks ≡ length s.marks
+-- its frame has an entry, where no other entry has the hash
+pub entry_frames : (s : Space) (marks : List Mark) (g hash : ℕ) (m : Mark) → IsSound s → g < length s.pool.frames → length marks ≡ length s.marks
     → ((h : ℕ) → Names s h (slice_get marks h)) → ((a b x : ℕ) → HasHash (slice_get marks a) x → HasHash (slice_get marks b) x → a ≡ b) → ((h : ℕ) → ¬ HasHash (slice_get marks h) hash)
-    → FramesAreSound (remade s s.tables s.pool.free (slice_set marks g (Hint hash i p)))
+    → Names s g (Some m) → ((x : ℕ) → HasHash (Some m) x → hash ≡ x) → FramesAreSound (remade s s.tables s.pool.free (slice_set marks g m))
 unfolding remade
-hint_frames s marks i p g hash sound offered long names apart none =
-    let s2 : Space = record s { marks = slice_set marks g (Hint hash i p) } in
-    let here = owned s i p g sound.frames offered.0 in
-    let within : g < length marks = (let a = here.0 in let b = sound.frames.marks in omega arith) in
-    let now = set_same marks g (Hint hash i p) within in
+entry_frames s marks g hash m sound inside long names apart none is_named is_under =
+    let s2 : Space = record s { marks = slice_set marks g m } in
+    let within : g < length marks = (let b = sound.frames.marks in omega arith) in
+    let now = set_same marks g m within in
     record {
       one = sound.frames.one;
       none = sound.frames.none;
       whole = sound.frames.whole;
-      marks = length-set marks g (Hint hash i p) ∙ (long ∙ sound.frames.marks);
+      marks = length-set marks g m ∙ (long ∙ sound.frames.marks);
       names = λ h. elim (here_or g h) [
-        | inl same ↦ (let is : Names s2 g (Some (Hint hash i p)) = (ap (at (owns g)) offered.0 ∙ one_same g g refl, here.2) in
-            subst (λ z. Names s2 z (slice_get s2.marks z)) (sym same) (subst (Names s2 g) (sym now) is))
-        | inr other ↦ subst (Names s2 h) (sym (set_other marks g h (Hint hash i p) (λ e. other e))) (names_other s s2 h (slice_get marks h) refl refl (λ j q is. is) (names h))
+        | inl same ↦ subst (λ z. Names s2 z (slice_get s2.marks z)) (sym same) (subst (Names s2 g) (sym now) (names_other s s2 g (Some m) refl refl (λ j q is. is) is_named))
+        | inr other ↦ subst (Names s2 h) (sym (set_other marks g h m (λ e. other e))) (names_other s s2 h (slice_get marks h) refl refl (λ j q is. is) (names h))
       ];
       apart = λ a b x has also. elim (here_or g a) [
         | inl same ↦ elim (here_or g b) [
           | inl too ↦ same ∙ sym too
           | inr other ↦ absurd
-              (let h : hash ≡ x = subst (λ m. HasHash m x) now (subst (λ z. HasHash (slice_get s2.marks z) x) same has) in
-              none b (subst (λ z. HasHash (slice_get marks b) z) (sym h) (subst (λ m. HasHash m x) (set_other marks g b (Hint hash i p) (λ e. other e)) also)))
+              (let h : hash ≡ x = is_under x (subst (λ m. HasHash m x) now (subst (λ z. HasHash (slice_get s2.marks z) x) same has)) in
+              none b (subst (λ z. HasHash (slice_get marks b) z) (sym h) (subst (λ m. HasHash m x) (set_other marks g b m (λ e. other e)) also)))
         ]
         | inr away ↦ elim (here_or g b) [
-          | inr other ↦ apart a b x (subst (λ m. HasHash m x) (set_other marks g a (Hint hash i p) (λ e. away e)) has) (subst (λ m. HasHash m x) (set_other marks g b (Hint hash i p) (λ e. other e)) also)
+          | inr other ↦ apart a b x (subst (λ m. HasHash m x) (set_other marks g a m (λ e. away e)) has) (subst (λ m. HasHash m x) (set_other marks g b m (λ e. other e)) also)
           | inl too ↦ absurd
-              (let h : hash ≡ x = subst (λ m. HasHash m x) now (subst (λ z. HasHash (slice_get s2.marks z) x) too also) in
-              none a (subst (λ z. HasHash (slice_get marks a) z) (sym h) (subst (λ m. HasHash m x) (set_other marks g a (Hint hash i p) (λ e. away e)) has)))
+              (let h : hash ≡ x = is_under x (subst (λ m. HasHash m x) now (subst (λ z. HasHash (slice_get s2.marks z) x) too also)) in
+              none a (subst (λ z. HasHash (slice_get marks a) z) (sym h) (subst (λ m. HasHash m x) (set_other marks g a m (λ e. away e)) has)))
         ]
       ];
     }
 
-still_moved : (s : Space) → IsSound s → IsMoved s s.tables
+-- the page is the hint, where no other entry has the hash
+hint_frames : (s : Space) (marks : List Mark) (i p g hash : ℕ) → IsSound s → IsOffered s i p g → length marks ≡ length s.marks
+    → ((h : ℕ) → Names s h (slice_get marks h)) → ((a b x : ℕ) → HasHash (slice_get marks a) x → HasHash (slice_get marks b) x → a ≡ b) → ((h : ℕ) → ¬ HasHash (slice_get marks h) hash)
+    → FramesAreSound (remade s s.tables s.pool.free (slice_set marks g (Hint hash i p)))
+hint_frames s marks i p g hash sound offered long names apart none =
+    let here = owned s i p g sound.frames offered.0 in
+    entry_frames s marks g hash (Hint hash i p) sound here.0 long names apart none (ap (at (owns g)) offered.0 ∙ one_same g g refl, here.2) (λ x has. has)
+
+pub still_moved : (s : Space) → IsSound s → IsMoved s s.tables
 still_moved s sound = record { many = refl; rows = λ i. refl; lies = λ h. refl; comes = λ h. refl; leaves = λ i q. refl; coming = λ h i q is. is; pinned = sound.pins.there }
 
 pub hinted_sound : (s : Space) (i p g hash : ℕ) → IsSound s → IsOffered s i p g → FindsNone s hash → IsSound (hinted s i p g hash)
@@ -180,19 +192,31 @@ hinted_sound s i p g hash sound offered none =
     is_sound_remade s s.tables s.pool.free (slice_set s.marks g (Hint hash i p)) sound (still_moved s sound)
     (hint_frames s s.marks i p g hash sound offered refl sound.frames.names sound.frames.apart none)
 
+-- what the entries are without a hint: none has its hash
+pub record IsCleared (s : Space) (f hash : ℕ) : Type 0 where
+  pub names : (h : ℕ) → Names s h (slice_get (slice_set s.marks f Plain) h)
+  pub apart : (a b x : ℕ) → HasHash (slice_get (slice_set s.marks f Plain) a) x → HasHash (slice_get (slice_set s.marks f Plain) b) x → a ≡ b
+  pub none : (h : ℕ) → ¬ HasHash (slice_get (slice_set s.marks f Plain) h) hash
+
+pub cleared : (s : Space) (f j q hash : ℕ) → IsSound s → FindsHint s hash f j q → IsCleared s f hash
+cleared s f j q hash sound found =
+    let within = there_of s.marks f (Hint hash j q) found in
+    let has : HasHash (slice_get s.marks f) hash = subst (λ m. HasHash m hash) (sym found) refl in
+    let names : Names s f (Some (Hint hash j q)) = subst (Names s f) found (sound.frames.names f) in
+    record {
+      names = λ h. elim (here_or f h) [
+        | inl same ↦ subst (λ z. Names s z (slice_get (slice_set s.marks f Plain) z)) (sym same) (subst (Names s f) (sym (set_same s.marks f Plain within)) names.1)
+        | inr other ↦ subst (Names s h) (sym (set_other s.marks f h Plain (λ e. other e))) (sound.frames.names h)
+      ];
+      apart = λ a b x x1 x2. sound.frames.apart a b x (plain_before s.marks f a x within x1) (plain_before s.marks f b x within x2);
+      none = λ h also. (let same : h ≡ f = sound.frames.apart h f hash (plain_before s.marks f h hash within also) has in
+          subst (λ m. HasHash m hash) (set_same s.marks f Plain within) (subst (λ z. HasHash (slice_get (slice_set s.marks f Plain) z) hash) same also));
+    }
+
 -- a hint whose page has another hash by now goes first
 pub stale_sound : (s : Space) (i p g f j q hash : ℕ) → IsSound s → IsOffered s i p g → FindsHint s hash f j q → IsSound (hinted (record s { marks = slice_set s.marks f Plain }) i p g hash)
 unfolding remade
 stale_sound s i p g f j q hash sound offered found =
-    let within = there_of s.marks f (Hint hash j q) found in
-    let has : HasHash (slice_get s.marks f) hash = subst (λ m. HasHash m hash) (sym found) refl in
-    let names : Names s f (Some (Hint hash j q)) = subst (Names s f) found (sound.frames.names f) in
+    let clear = cleared s f j q hash sound found in
     is_sound_remade s s.tables s.pool.free (slice_set (slice_set s.marks f Plain) g (Hint hash i p)) sound (still_moved s sound)
-    (hint_frames s (slice_set s.marks f Plain) i p g hash sound offered (length-set s.marks f Plain)
-    (λ h. elim (here_or f h) [
-      | inl same ↦ subst (λ z. Names s z (slice_get (slice_set s.marks f Plain) z)) (sym same) (subst (Names s f) (sym (set_same s.marks f Plain within)) names.1)
-      | inr other ↦ subst (Names s h) (sym (set_other s.marks f h Plain (λ e. other e))) (sound.frames.names h)
-    ])
-    (λ a b x x1 x2. sound.frames.apart a b x (plain_before s.marks f a x within x1) (plain_before s.marks f b x within x2))
-    (λ h also. (let same : h ≡ f = sound.frames.apart h f hash (plain_before s.marks f h hash within also) has in
-    subst (λ m. HasHash m hash) (set_same s.marks f Plain within) (subst (λ z. HasHash (slice_get (slice_set s.marks f Plain) z) hash) same also))))
+    (hint_frames s (slice_set s.marks f Plain) i p g hash sound offered (length-set s.marks f Plain) clear.names clear.apart clear.none)

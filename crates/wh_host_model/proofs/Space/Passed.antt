@@ -11,16 +11,16 @@ use Rattle.wh_host_model.specs.declared.states.Mark.{Mark}
 use Rattle.wh_host_model.specs.declared.states.Mark.TheVariants.{Plain, Hint, Sharers, Unlisted}
 use Rattle.wh_host_model.specs.declared.states.Slot.{Slot}
 use Rattle.wh_host_model.specs.declared.states.Slot.TheVariants.{Vacant, Taken, Evicting, EvictVoid, Fetching, FetchVoid}
-use Rattle.wh_host_model.specs.Space.Chain.{ContentsAreListed, PassesFully}
-use Rattle.wh_host_model.specs.Space.Errands.{fetches_into, is_ticket}
+use Rattle.wh_host_model.specs.Space.Chain.{ContentsAreListed, PassesFully, PassesListAll}
+use Rattle.wh_host_model.specs.Space.Errands.{fetches_into, is_ticket, tickets}
 use Rattle.wh_host_model.specs.Space.Moves.{frame_of}
 use Rattle.wh_host_model.specs.Space.Parts.{Space, frame_bytes, kept, sharers}
 use Rattle.wh_host_model.specs.Space.Scanning.{IsContent, Scans}
-use Rattle.wh_host_model.specs.Space.Sound.{HasHash, Names}
-use Rattle.wh_host_model.specs.Space.States.{at, count, owns, page_at, resident, shares}
+use Rattle.wh_host_model.specs.Space.Sound.{HasHash, Names, SlotsAreSound}
+use Rattle.wh_host_model.specs.Space.States.{at, count, leaving, owns, page_at, resident, shares}
 use Rattle.wh_host_model.proofs.Space.Broken.{entry_there}
 use Rattle.wh_host_model.proofs.Space.Pairing.{as_many, list_sum, rest_sum}
-use Rattle.wh_host_model.proofs.Space.Passing.{IsScanning, IsSettled, IsStep, offer_step, owned_content, owner_is, page_has, shared_content}
+use Rattle.wh_host_model.proofs.Space.Passing.{IsScanning, IsSettled, IsStep, none_leaves, offer_step, owned_content, owner_is, page_has, shared_content}
 use Rattle.wh_host_model.proofs.Space.Putting.{get_pages, here_or, there_of}
 use Rattle.wh_host_model.proofs.Space.Rooms.{get_there}
 use Rattle.wh_host_model.proofs.Space.Sums.{tally_le}
@@ -99,6 +99,29 @@ own_one f (LeavingShared g) some = absurd (omega arith)
 own_one f (Coming k) some = absurd (omega arith)
 own_one f (Swapped k) some = absurd (omega arith)
 
+-- a page that shares a frame, while none leaves
+sharer_of : (s : Space) (f : ℕ) → SlotsAreSound s → tickets s ≡ 0 → 1 ≤ sharers s f → (i : ℕ) × (p : ℕ) × (page_at s.tables i p ≡ Some (Shared f))
+sharer_of s f sound none some = go found.2 found.3 found.4 where
+  found : (i : ℕ) × (p : ℕ) × (x : Page) × (page_at s.tables i p ≡ Some x) × (1 ≤ shares f x)
+  found = page_has (shares f) s.tables some
+
+  go : (x : Page) → page_at s.tables found.0 found.1 ≡ Some x → 1 ≤ shares f x → (i : ℕ) × (p : ℕ) × (page_at s.tables i p ≡ Some (Shared f))
+  go Untouched there one = absurd (omega arith)
+  go (Private g) there one = absurd (omega arith)
+  go (Shared g) there one = elim (here_or g f) [
+    | inl same ↦ (found.0, found.1, there ∙ ap (λ z. Some (Shared z)) (sym same))
+    | inr other ↦ absurd (let o = one_other f g other in omega arith)
+  ]
+  go (Leaving g) there one = absurd (omega arith)
+  go (LeavingShared g) there one = absurd (none_leaves s found.0 found.1 sound none (ap (at leaving) there))
+  go (Coming k) there one = absurd (omega arith)
+  go (Swapped k) there one = absurd (omega arith)
+
+none_unlisted : (hashes : List ℕ → ℕ) (s : Space) (f n : ℕ) → IsScanning hashes s → ((i p : ℕ) → at resident (page_at s.tables i p) ≡ 1 → IsSettled hashes s i p) → slice_get s.marks f ≡ Some (Unlisted n) → 1 ≤ sharers s f → ⊥
+none_unlisted hashes s f n scan settled is some =
+    let page = sharer_of s f scan.sound.slots scan.none_out some in
+    (settled page.0 page.1 (ap (at resident) page.2)).listed f n page.2 is
+
 content_of : (hashes : List ℕ → ℕ) (s : Space) (f : ℕ) → IsScanning hashes s → ((i p : ℕ) → at resident (page_at s.tables i p) ≡ 1 → IsSettled hashes s i p) → IsInUse s f → HasContent hashes s f
 unfolding IsInUse
 content_of hashes s f scan settled used =
@@ -121,9 +144,9 @@ content_of hashes s f scan settled used =
       counted (Sharers x n) is names some = record {
         content = shared_content s f some;
         some = names.2;
-        entry = subst (λ m. HasHash m (hashes (frame_bytes s f))) (sym is) (sym (scan.made_under f (Sharers x n) is));
+        entry = subst (λ m. HasHash m (hashes (frame_bytes s f))) (sym is) (sym (scan.made_under f x n is));
       }
-      counted (Unlisted n) is names some = absurd (scan.made_under f (Unlisted n) is)
+      counted (Unlisted n) is names some = absurd (none_unlisted hashes s f n scan settled is some)
 
 -- a content is in a frame that is in use
 owns_or_shares : (f : ℕ) (x : Page) → frame_of x ≡ Some f → 1 ≤ owns f x + shares f x
@@ -147,6 +170,13 @@ use_of hashes s bytes scan (i, p, f, page, there, on, is) =
     ]
 
 -- ---- as many
+
+pub passes_list_all : PassesListAll
+passes_list_all hashes s pages s2 sound full f (n, is) =
+    let scan0 : IsScanning hashes s = record { sound = sound; none_out = full.none_out; none_kept = full.none_kept; none_pinned = full.none_pinned; made_under = full.made_under; apart = full.apart } in
+    let done = pass hashes s pages s2 scan0 full.scans in
+    let names : Names s2 f (Some (Unlisted n)) = subst (Names s2 f) is (done.scanning.sound.frames.names f) in
+    none_unlisted hashes s2 f n done.scanning (λ i p r. (let k = full.all i p (done.less i p r) in done.each k.0 i p k.1)) is (let a = names.0 in let b = names.1 in omega arith)
 
 pub passes_fully : PassesFully
 unfolding IsInUse

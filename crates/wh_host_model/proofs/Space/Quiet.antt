@@ -8,10 +8,10 @@ use Rattle.wh_host_model.specs.declared.states.Slot.TheVariants.{Evicting, Evict
 use Rattle.wh_host_model.specs.declared.states.Offer.{Offer}
 use Rattle.wh_host_model.specs.declared.states.Offer.TheVariants.{Skipped, Zeroed, Hinted, Stale, Merged, FalseMatch}
 use Rattle.wh_host_model.specs.Space.States.{Backing, comes_from, contents, count, joined, lies_in, page_at, page_bytes, put}
-use Rattle.wh_host_model.specs.Space.Sight.{EntersAlone, ExitsAlone, GoneIsSkipped, GrowsAlone, OffersQuietly, PinsEnd, StepsQuietly, WritesQuietly}
+use Rattle.wh_host_model.specs.Space.Sight.{EntersAlone, ExitsAlone, GoneIsSkipped, GrowsAlone, PinsEnd, StepsQuietly, WritesQuietly}
 use Rattle.wh_host_model.specs.Space.Tickets.{IsEvicting}
 use Rattle.wh_host_model.specs.Space.Places.{IsFreePlace}
-use Rattle.wh_host_model.specs.Space.Offers.{IsOffered, Offers}
+use Rattle.wh_host_model.specs.Space.Offers.{IsOffered, MayBeListed, Offers, OffersAlone, OffersUnlisted}
 use Rattle.wh_host_model.specs.Space.Sound.{IsUsed}
 use Rattle.wh_host_model.specs.Space.Parts.{Pins, Space, all_bytes, backing, found_at, has_number, kept_by, pinned_by, view}
 use Rattle.wh_host_model.specs.Space.Moves.{has_pins, unpinned}
@@ -20,17 +20,17 @@ use Rattle.wh_host_model.proofs.Space.Contents.{same_contents, slot_written}
 use Rattle.wh_host_model.specs.Space.Stores.{stood}
 use Rattle.wh_host_model.proofs.Space.Putting.{there_of}
 
--- an offer changes no bytes, whatever the hash
-pub offers_quiet : OffersQuietly
-offers_quiet hashes s i p hash Skipped s2 (is, why) = ap (λ a. all_bytes a) is
-offers_quiet hashes s i p hash FalseMatch s2 (is, why) = ap (λ a. all_bytes a) is
-offers_quiet hashes s i p hash Hinted s2 (g, offered, some, none, is) = ap (λ a. all_bytes a) is
-offers_quiet hashes s i p hash Stale s2 (g, f, j, q, offered, some, found, apart, other, changed, is) = ap (λ a. all_bytes a) is
-offers_quiet hashes s i p hash Zeroed s2 (g, offered, zeros, is) =
+-- an offer of a page that is alone on its frame changes no bytes, whatever the hash
+pub alone_quiet : (hashes : List ℕ → ℕ) (s : Space) (i p hash : ℕ) (answer : Offer) (s2 : Space) → OffersAlone hashes s i p hash answer s2 → all_bytes s2 ≡ all_bytes s
+alone_quiet hashes s i p hash Skipped s2 (is, why) = ap (λ a. all_bytes a) is
+alone_quiet hashes s i p hash FalseMatch s2 (is, why) = ap (λ a. all_bytes a) is
+alone_quiet hashes s i p hash Hinted s2 (g, offered, some, none, is) = ap (λ a. all_bytes a) is
+alone_quiet hashes s i p hash Stale s2 (g, f, j, q, offered, some, found, apart, other, changed, is) = ap (λ a. all_bytes a) is
+alone_quiet hashes s i p hash Zeroed s2 (g, offered, zeros, is) =
     ap (λ a. all_bytes a) is ∙ same_contents (backing s) s.tables i p (Private g) Untouched offered.0 (sym zeros)
-offers_quiet hashes s i p hash Merged s2 (g, f, offered, some, same, inl (n, found, is)) =
+alone_quiet hashes s i p hash Merged s2 (g, f, offered, some, same, inl (n, found, is)) =
     ap (λ a. all_bytes a) is ∙ same_contents (backing s) s.tables i p (Private g) (Shared f) offered.0 (sym same)
-offers_quiet hashes s i p hash Merged s2 (g, f, offered, some, same, inr (j, q, apart, hint, is)) =
+alone_quiet hashes s i p hash Merged s2 (g, f, offered, some, same, inr (j, q, apart, hint, is)) =
     let other : Private g ≢ Private f = λ e. apart (let k : f ≡ g = cc in k) in
     let there : page_at (put s.tables i p (Shared f)) j q ≡ Some (Private f) = other_value s.tables i p j q (Private g) (Shared f) (Private f) offered.0 other hint.1.0 in
     ap (λ a. all_bytes a) is
@@ -126,6 +126,9 @@ no_place s i p past = ap (λ xs. slice_get xs p) (go s.tables i past) where
 not_offered : (s : Space) (i p g : ℕ) → length s.tables ≤ i → IsOffered s i p g → ⊥
 not_offered s i p g past offered = let bad : None ≡ Some (Private g) = sym (no_place s i p past) ∙ offered.0 in cc
 
+not_listed : (s : Space) (i p f n : ℕ) → length s.tables ≤ i → MayBeListed s i p f n → ⊥
+not_listed s i p f n past may = let bad : None ≡ Some (Shared f) = sym (no_place s i p past) ∙ may.0 in cc
+
 -- nobody has the number there
 wrong_number : (s : Space) (place number : ℕ) → has_number (get_or s.occupants place None) number ≡ false → found_at s place number ≡ length s.occupants
 wrong_number s place number e = rw e refl
@@ -135,10 +138,22 @@ gone_is_skipped hashes s place number p hash answer s2 sound wrong offers = go a
   past : length s.tables ≤ length s.occupants
   past = let l = sound.occupants.tables in omega arith
 
+  alone : (answer : Offer) → OffersAlone hashes s (length s.occupants) p hash answer s2 → (answer ≡ Skipped) × (s2 ≡ s)
+  alone Skipped (is, why) = (refl, is)
+  alone Zeroed (g, offered, zeros, is) = absurd (not_offered s (length s.occupants) p g past offered)
+  alone Hinted (g, offered, some, none, is) = absurd (not_offered s (length s.occupants) p g past offered)
+  alone Stale (g, f, j, q, offered, some, found, apart, other, changed, is) = absurd (not_offered s (length s.occupants) p g past offered)
+  alone Merged (g, f, offered, some, same, rest) = absurd (not_offered s (length s.occupants) p g past offered)
+  alone FalseMatch (is, (g, f, offered, some, apart, rest)) = absurd (not_offered s (length s.occupants) p g past offered)
+
+  unlisted : (answer : Offer) → OffersUnlisted hashes s (length s.occupants) p hash answer s2 → (answer ≡ Skipped) × (s2 ≡ s)
+  unlisted Skipped (is, why) = (refl, is)
+  unlisted Zeroed (f, n, may, zeros, is) = absurd (not_listed s (length s.occupants) p f n past may)
+  unlisted Hinted (f, n, may, some, none, is) = absurd (not_listed s (length s.occupants) p f n past may)
+  unlisted Stale (f, n, g, j, q, may, some, found, offered, changed, is) = absurd (not_listed s (length s.occupants) p f n past may)
+  unlisted Merged (f, n, g, may, some, same, rest) = absurd (not_listed s (length s.occupants) p f n past may)
+  unlisted FalseMatch (is, (f, n, g, may, some, differ, rest)) = absurd (not_listed s (length s.occupants) p f n past may)
+
   go : (answer : Offer) → Offers hashes s (length s.occupants) p hash answer s2 → (answer ≡ Skipped) × (s2 ≡ s)
-  go Skipped (is, why) = (refl, is)
-  go Zeroed (g, offered, zeros, is) = absurd (not_offered s (length s.occupants) p g past offered)
-  go Hinted (g, offered, some, none, is) = absurd (not_offered s (length s.occupants) p g past offered)
-  go Stale (g, f, j, q, offered, some, found, apart, other, changed, is) = absurd (not_offered s (length s.occupants) p g past offered)
-  go Merged (g, f, offered, some, same, rest) = absurd (not_offered s (length s.occupants) p g past offered)
-  go FalseMatch (is, (g, f, offered, some, apart, rest)) = absurd (not_offered s (length s.occupants) p g past offered)
+  go answer (inl o) = alone answer o
+  go answer (inr o) = unlisted answer o

@@ -79,7 +79,7 @@ set_set [] p x y = refl
 set_set (z ∷ xs) zero x y = refl
 set_set (z ∷ xs) (suc p) x y = ap (λ a. z ∷ a) (set_set xs p x y)
 
-put_put : {X : Type 0} (xss : List (List X)) (j p : ℕ) (x y : X) → put (put xss j p x) j p y ≡ put xss j p y
+pub put_put : {X : Type 0} (xss : List (List X)) (j p : ℕ) (x y : X) → put (put xss j p x) j p y ≡ put xss j p y
 put_put [] j p x y = refl
 put_put (xs ∷ xss) zero p x y = ap (λ z. z ∷ xss) (set_set xs p x y)
 put_put (xs ∷ xss) (suc j) p x y = ap (λ z. xs ∷ z) (put_put xss j p x y)

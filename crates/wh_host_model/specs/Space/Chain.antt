@@ -1,5 +1,5 @@
 -- Whatever befalls the memory, one thing after the other.
-use Rattle.std.specs.Prelude.{ℕ, ◌≡◌, ◌+◌, ◌*◌, ◌≤◌, true, Bool, List, [], Option, Some, length, get_or, zero, suc}
+use Rattle.std.specs.Prelude.{ℕ, ◌≡◌, ◌+◌, ◌*◌, ◌≤◌, ◌⊎◌, true, Bool, List, [], Option, Some, length, get_or, zero, suc}
 use Rattle.wh_model.specs.declared.memory.Need.{Need}
 use Rattle.wh_host_model.specs.declared.Tax.{Tax}
 use Rattle.wh_host_model.specs.declared.states.EvictEnd.{EvictEnd}
@@ -9,7 +9,7 @@ use Rattle.wh_host_model.specs.Space.Parts.{Claimed, Occupant, Space, all_bytes,
 use Rattle.wh_host_model.specs.Space.Errands.{tickets}
 use Rattle.wh_host_model.specs.Space.Sound.{IsSound}
 use Rattle.wh_host_model.specs.Space.Offers.{Offers}
-use Rattle.wh_host_model.specs.Space.Scanning.{IsDistinct, IsFullPass, Scans}
+use Rattle.wh_host_model.specs.Space.Scanning.{IsDistinct, IsFullPass, IsUnlisted, Scans}
 use Rattle.wh_host_model.specs.Space.Tickets.{BeginsEvict, BeginsFetch, CommitsEvict, CommitsFetch, IsWritten, WaitsForBytes}
 use Rattle.wh_host_model.specs.Space.Stores.{Epochs, Grew, Overwrites, Touches, ended, stood}
 use Rattle.wh_host_model.specs.Space.Places.{Enters, Exits}
@@ -45,12 +45,12 @@ pub data Befalls (hashes : List ℕ → ℕ) (s s2 : Space) : Type 0 where
       → length (get_or s.tables i []) + 16 * n ≤ t.max → Grew s i n s2 → Befalls hashes s s2
   enters : (i size : ℕ) (c : Claimed) → Enters s i c size s2 → Befalls hashes s s2
   exits : (i : ℕ) → Exits s i s2 → Befalls hashes s s2
-  lends : (i j p : ℕ) → Lends s i j p s2 → Befalls hashes s s2
 
--- so many things, one after the other
+-- so many things, one after the other, or pages that are lent
 abbrev pub Follows : (List ℕ → ℕ) → Space → ℕ → Space → Type 0
 Follows hashes s zero s2 = s2 ≡ s
-Follows hashes s (suc n) s2 = (mid : Space) × Follows hashes s n mid × Befalls hashes mid s2
+Follows hashes s (suc n) s2 =
+    (mid : Space) × Follows hashes s n mid × (Befalls hashes mid s2 ⊎ ((i j p : ℕ) × Lends mid i j p s2))
 
 -- a provision that fails leaves all sound
 abbrev pub FailsSoundly : Type 0
@@ -85,3 +85,15 @@ abbrev pub ContentsAreListed : Type 0
 ContentsAreListed =
     (hashes : List ℕ → ℕ) (s : Space) (pages : List (ℕ × ℕ)) (s2 : Space) → IsSound s → IsFullPass hashes s pages s2
     → (all : List (List ℕ)) × IsDistinct s2 all
+
+-- and no frame is shared without an entry
+abbrev pub PassesListAll : Type 0
+PassesListAll =
+    (hashes : List ℕ → ℕ) (s : Space) (pages : List (ℕ × ℕ)) (s2 : Space) → IsSound s → IsFullPass hashes s pages s2
+    → (f : ℕ) → ¬ IsUnlisted s2 f
+
+-- a frame comes to be shared without an entry by a page that is lent, and by nothing else
+abbrev pub OnlyLendsUnlist : Type 0
+OnlyLendsUnlist =
+    (hashes : List ℕ → ℕ) (s s2 : Space) → IsSound s → Befalls hashes s s2
+    → (f : ℕ) → IsUnlisted s2 f → IsUnlisted s f

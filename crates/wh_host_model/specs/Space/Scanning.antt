@@ -2,9 +2,8 @@
 use Rattle.std.specs.Prelude.{ℕ, ◌≡◌, ◌≢◌, ◌↔◌, List, [], ◌∷◌, Some, slice_get}
 use Rattle.wh_host_model.specs.Pages.{zero_page}
 use Rattle.wh_host_model.specs.declared.states.Page.{Page}
-use Rattle.wh_host_model.specs.declared.states.Page.TheVariants.{Private}
-use Rattle.wh_host_model.specs.declared.states.Mark.{Mark}
-use Rattle.wh_host_model.specs.declared.states.Mark.TheVariants.{Plain, Hint, Sharers, Unlisted}
+use Rattle.wh_host_model.specs.declared.states.Page.TheVariants.{Private, Shared}
+use Rattle.wh_host_model.specs.declared.states.Mark.TheVariants.{Sharers, Unlisted}
 use Rattle.wh_host_model.specs.declared.states.Offer.{Offer}
 use Rattle.wh_host_model.specs.Space.States.{at, page_at, resident}
 use Rattle.wh_host_model.specs.Space.Parts.{Space, frame_bytes, kept, pinned_by}
@@ -23,20 +22,20 @@ pub record IsDistinct (s : Space) (all : List (List ℕ)) : Type 0 where
   pub each : (bytes : List ℕ) → ((k : ℕ) × (slice_get all k ≡ Some bytes)) ↔ (IsContent s bytes × (bytes ≢ zero_page))
   pub once : (j k : ℕ) (bytes : List ℕ) → slice_get all j ≡ Some bytes → slice_get all k ≡ Some bytes → j ≡ k
 
--- the entry of a shared frame with these bytes was made under this hash; it has one
-abbrev pub IsMadeUnder : (List ℕ → ℕ) → List ℕ → Mark → Type 0
-IsMadeUnder hashes bytes Plain = Unit {0}
-IsMadeUnder hashes bytes (Hint hash i p) = Unit {0}
-IsMadeUnder hashes bytes (Sharers hash n) = hashes bytes ≡ hash
-IsMadeUnder hashes bytes (Unlisted n) = ⊥
-
--- each was, and no frame is shared without an entry
+-- the entries of shared frames were made under this hash
 abbrev pub MadeUnder : (List ℕ → ℕ) → Space → Type 0
-MadeUnder hashes s = (f : ℕ) (m : Mark) → slice_get s.marks f ≡ Some m → IsMadeUnder hashes (frame_bytes s f) m
+MadeUnder hashes s = (f hash n : ℕ) → slice_get s.marks f ≡ Some (Sharers hash n) → hashes (frame_bytes s f) ≡ hash
 
--- the hash with which a page is offered is that of its bytes as they are, where it is alone on a frame
+-- frame f is shared, and has no entry
+abbrev pub IsUnlisted : Space → ℕ → Type 0
+IsUnlisted s f = (n : ℕ) × (slice_get s.marks f ≡ Some (Unlisted n))
+
+-- the hash with which a page is offered is that of its bytes as they are, where it is alone on a frame, or on one that
+-- is shared and has no entry
 abbrev pub IsHashOf : (List ℕ → ℕ) → Space → ℕ → ℕ → ℕ → Type 0
-IsHashOf hashes s i p hash = (g : ℕ) → page_at s.tables i p ≡ Some (Private g) → hashes (frame_bytes s g) ≡ hash
+IsHashOf hashes s i p hash =
+    ((g : ℕ) → page_at s.tables i p ≡ Some (Private g) → hashes (frame_bytes s g) ≡ hash)
+    × ((f : ℕ) → page_at s.tables i p ≡ Some (Shared f) → IsUnlisted s f → hashes (frame_bytes s f) ≡ hash)
 
 -- these pages, each by place and number, are offered one after the other, and nothing comes between
 abbrev pub Scans : (List ℕ → ℕ) → Space → List (ℕ × ℕ) → Space → Type 0

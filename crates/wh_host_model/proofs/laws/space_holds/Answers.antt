@@ -4,11 +4,11 @@ use Rattle.wh_host_model.proofs.Space.Deciding.{ready_decided, no_bytes_are_read
 use Rattle.wh_host_model.proofs.Space.Provided.{moves_nearer, provision_is_right}
 use Rattle.wh_host_model.proofs.Space.Reserved.{begin_evict_sound}
 use Rattle.wh_host_model.proofs.Space.Transit.{begin_evict_bytes, begin_fetch_bytes, commit_evict_bytes, commit_fetch_bytes}
-use Rattle.wh_host_model.proofs.Space.Quiet.{offers_quiet, written_quiet, steps_quiet, grew_own, enters_own, exits_own, pins_end, gone_is_skipped}
+use Rattle.wh_host_model.proofs.Space.Quiet.{written_quiet, steps_quiet, grew_own, enters_own, exits_own, pins_end, gone_is_skipped}
 use Rattle.wh_host_model.proofs.Space.Voiding.{written_is_void, released_is_void, nothing_needless}
 use Rattle.wh_host_model.proofs.Space.Steady.{touches_soundly, epochs_soundly, writes_soundly, waits_soundly, ends_soundly}
 use Rattle.wh_host_model.proofs.Space.Sent.{commits_soundly}
-use Rattle.wh_host_model.proofs.Space.Merging.{offers_soundly}
+use Rattle.wh_host_model.proofs.Space.Listed.{offers_quiet, offers_soundly}
 use Rattle.wh_host_model.proofs.Space.Awaited.{begin_fetch_sound}
 use Rattle.wh_host_model.proofs.Space.Come.{commits_fetch_soundly}
 use Rattle.wh_host_model.proofs.Space.Enlarged.{grows_soundly, grows_by_zeros}
@@ -17,7 +17,7 @@ use Rattle.wh_host_model.proofs.Space.Exited.{exits_soundly}
 use Rattle.wh_host_model.proofs.Space.Chained.{empty_sound, fails_soundly, stays_sound, scans_soundly}
 use Rattle.wh_host_model.proofs.Space.Filled.{breaks_soundly, stores_soundly, stores_are_right}
 use Rattle.wh_host_model.proofs.Space.Filling.{some_store}
-use Rattle.wh_host_model.proofs.Space.Passed.{contents_are_listed, passes_fully}
+use Rattle.wh_host_model.proofs.Space.Passed.{contents_are_listed, passes_fully, passes_list_all}
 use Rattle.wh_host_model.proofs.Space.Charging.{charges_add_up, one_charged_page}
 use Rattle.wh_host_model.proofs.Space.OnePage.{one_page_must_leave}
 use Rattle.wh_host_model.proofs.laws.space_holds.Goals as goal
@@ -195,3 +195,6 @@ returns-clause-copies_are_free c = copies_are_free
 
 pub returns-clause-copies_leave_ready : goal.returns-clause-copies_leave_ready
 returns-clause-copies_leave_ready c = copies_leave_ready
+
+pub returns-clause-passes_list_all : goal.returns-clause-passes_list_all
+returns-clause-passes_list_all c = passes_list_all
