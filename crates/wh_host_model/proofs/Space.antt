@@ -56,4 +56,5 @@ pub mod Filling
 pub mod Pairing
 pub mod Passing
 pub mod Passed
+pub mod Unlisting
 pub mod WorkedRows

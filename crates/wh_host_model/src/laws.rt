@@ -3,7 +3,7 @@
 ghost use Rattle.wh_host_model.specs.Space.Laws.{ReadyIsDecided, NoBytesAreReady, OneUseOfAFrame, SomePageCanBeTaken, SomeSlotIsVacant, EvictionKeepsAll, FetchKeepsSound, FetchKeepsBytes, MovesAreFew, ProvisionIsRight, OnePageMustLeave, OneChargedPage, ChargesAddUp, BeginsEvictSoundly, BeginsEvictQuietly, BeginsFetchQuietly, CommitsEvictQuietly, CommitsFetchQuietly};
 ghost use Rattle.wh_host_model.specs.Space.Sight.{OffersQuietly, WritesQuietly, StepsQuietly, GrowsAlone, GrowsByZeros, EntersAlone, EntersAtZeros, ExitsAlone, PinsEnd, GoneIsSkipped, WrittenIsVoid, ReleasedIsVoid, NothingNeedless};
 ghost use Rattle.wh_host_model.specs.Space.Kept.{TouchesSoundly, EpochsSoundly, WritesSoundly, WaitsSoundly, EndsSoundly, CommitsEvictSoundly, OffersSoundly, BeginsFetchSoundly, CommitsFetchSoundly, GrowsSoundly, EntersSoundly, ExitsSoundly};
-ghost use Rattle.wh_host_model.specs.Space.Chain.{FailsSoundly, EmptyIsSound, StaysSound, ScansSoundly, PassesFully, PassesListAll, ContentsAreListed};
+ghost use Rattle.wh_host_model.specs.Space.Chain.{FailsSoundly, EmptyIsSound, StaysSound, ScansSoundly, PassesFully, PassesListAll, OnlyLendsUnlist, ContentsAreListed};
 ghost use Rattle.wh_host_model.specs.Space.Forks.{CopiesAreFree, CopiesAreRight, CopiesLeaveReady, LendsAlone, LendsSoundly};
 ghost use Rattle.wh_host_model.specs.Space.Storing.{BreaksSoundly, SomeStore, StoresSoundly, StoresAreRight};
 
@@ -59,6 +59,7 @@ pub fn space_holds()
     ensures passes_fully { PassesFully }
     ensures contents_are_listed { ContentsAreListed }
     ensures passes_list_all { PassesListAll }
+    ensures only_lends_unlist { OnlyLendsUnlist }
     ensures breaks_soundly { BreaksSoundly }
     ensures stores_soundly { StoresSoundly }
     ensures stores_are_right { StoresAreRight }

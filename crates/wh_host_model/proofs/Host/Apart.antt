@@ -5,7 +5,7 @@ use Rattle.std.specs.List.{AllByRecursion}
 use Rattle.wh_model.specs.Format.Syntax.{nothing, Module}
 use Rattle.wh_model.specs.Execution.Store.{Value, Instance, Store}
 use Rattle.wh_model.specs.Execution.Configuration.{Config, code, config, trapped}
-use Rattle.wh_model.specs.Execution.Instance.{Parameters, Piece, begins, IsInitial}
+use Rattle.wh_model.specs.Execution.Instance.{AreGiven, Parameters, Piece, begins, IsInitial, memory_min}
 use Rattle.wh_model.specs.Execution.Reduction.{After}
 use Rattle.wh_model.specs.Execution.Replay.{Outcome, returned, stopped, cancelled, dead, pending, Call, with_pieces, Invocation, Ends, has_returned, has_trapped, has_written, was_cancelled, never_began, Standing, store_at, Waits, Replays, ended, at_work, fails, IsDead, IsNotDead, IsJournal, Replay}
 use Rattle.wh_model.specs.Laws.ReplayLaws.{Alike}
@@ -20,6 +20,8 @@ use Rattle.wh_host_model.specs.Host.Apart.{AreTreatedAlike, ComeToTheSame, NoByt
 use Rattle.wh_host_model.specs.Host.Laws.{IsReplayed}
 use Rattle.wh_host_model.proofs.Host.Entries.{invoked_alike}
 use Rattle.wh_host_model.proofs.Host.Holding.{instances_replay}
+use Rattle.wh_host_model.proofs.Host.Limits.{SameLimit, initial_still, limit_is}
+use Rattle.wh_model.proofs.Instance.{one_beginning}
 
 -- ---- one call
 
@@ -211,13 +213,34 @@ store_there bytes r (computing t) = refl
 loaded_same : (o : Option Loaded) (a b : Loaded) → o ≡ Some a → o ≡ Some b → a ≡ b
 loaded_same o a b x y = (let both : Some a ≡ Some b = sym x ∙ y in cc)
 
+-- with parameters that let it grow as far an instance comes to the same
+replay_still : (m : Module) (p p2 : Parameters) (inst : Instance) (s : Store) (ps : List Piece) (calls : List Call) (y : Standing) → AreGiven p2 → IsInitial m p (begins inst s ps) → SameLimit m p p2 inst → Replay m p calls y → Replay m p2 calls y
+replay_still m p p2 inst s ps [] y given initial same r = absurd r
+replay_still m p p2 inst s ps (c ∷ cs) y given initial same (was, is, (inst1, s1, ps1, i1, rest)) =
+    let one : begins inst s ps ≡ begins inst1 s1 ps1 = one_beginning m p (begins inst s ps) (begins inst1 s1 ps1) initial i1 in
+    let instances : inst ≡ inst1 = cc in
+    (given, is, (inst1, s1, ps1, initial_still m p p2 inst1 s1 ps1 i1 (subst (SameLimit m p p2) instances same), rest))
+
+given_in : (m : Module) (p : Parameters) (calls : List Call) (y : Standing) → Replay m p calls y → AreGiven p
+given_in m p [] y r = absurd r
+given_in m p (c ∷ cs) y (given, is, rest) = given
+
 treated_alike : (w w2 : World) (t t2 : Tenant) → IsReplayed w t → IsReplayed w2 t2 → AreTreatedAlike w w2 t t2 → ComeToTheSame w w2 t t2
 treated_alike w w2 t t2 a b alike =
     let m : Module = a.loaded.m in
     let mine : a.loaded ≡ alike.loaded = loaded_same (module_of w t.of) a.loaded alike.loaded a.is_loaded alike.is_loaded in
     let other : b.loaded ≡ alike.loaded2 = loaded_same (module_of w2 t2.of) b.loaded alike.loaded2 b.is_loaded alike.is_loaded2 in
     let modules : b.loaded.m ≡ m = ap (λ (l : Loaded). l.m) other ∙ (sym alike.of_one ∙ sym (ap (λ (l : Loaded). l.m) mine)) in
-    let replay : Replay m (given_of t.params) (journal_calls (journal t2)) _ = subst (λ k. Replay m k (journal_calls (journal t2)) (Rattle.wh_host_model.specs.Host.Worlds.standing_in w2.space t2)) (sym alike.given) (subst (λ k. Replay k (given_of t2.params) (journal_calls (journal t2)) (Rattle.wh_host_model.specs.Host.Worlds.standing_in w2.space t2)) modules b.replay) in
+    let there : Replay m (given_of t2.params) (journal_calls (journal t2)) _ = subst (λ k. Replay k (given_of t2.params) (journal_calls (journal t2)) (Rattle.wh_host_model.specs.Host.Worlds.standing_in w2.space t2)) modules b.replay in
+    let begun : IsInitial m (given_of t2.params) (begins t2.inst b.first b.pieces) = subst (λ k. IsInitial k (given_of t2.params) (begins t2.inst b.first b.pieces)) modules b.initial in
+    let same : SameLimit m (given_of t2.params) (given_of t.params) t2.inst = record {
+      base = alike.base;
+      salt = alike.salt;
+      inputs = alike.inputs;
+      limit = sym (limit_is m (given_of t.params) t.inst a.first a.pieces a.initial) ∙ alike.limit;
+      small = λ small. (let bad = one_beginning m (given_of t.params) memory_min (begins t.inst a.first a.pieces) small a.initial in cc bad);
+    } in
+    let replay = replay_still m (given_of t2.params) (given_of t.params) t2.inst b.first b.pieces (journal_calls (journal t2)) _ (given_in m (given_of t.params) (journal_calls (journal t)) _ a.replay) begun same there in
     let asked_same : map call_asked (journal_calls (journal t)) ≡ map call_asked (journal_calls (journal t2)) = sym (calls_asked (journal t)) ∙ (ap journal_calls alike.calls ∙ calls_asked (journal t2)) in
     let one = replay_one m (given_of t.params) t.inst a.first a.pieces (journal_calls (journal t)) (journal_calls (journal t2)) _ _ a.initial a.replay replay asked_same in
     let stores : store_with (view w.space t.place) t.rest ≡ store_with (view w2.space t2.place) t2.rest = sym (store_there (view w.space t.place) t.rest t.doing) ∙ (one.stores_same ∙ store_there (view w2.space t2.place) t2.rest t2.doing) in

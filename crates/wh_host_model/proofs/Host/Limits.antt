@@ -80,3 +80,13 @@ moved m p p2 inst s ps b (in_bounds {inst = inst2} {globals = globals} {elements
 
 pub initial_still : (m : Module) (p p2 : Parameters) (inst : Instance) (s : Store) (ps : List Piece) → IsInitial m p (begins inst s ps) → SameLimit m p p2 inst → IsInitial m p2 (begins inst s ps)
 initial_still m p p2 inst s ps is same = moved m p p2 inst s ps (begins inst s ps) is refl same
+
+limit_at : (m : Module) (p : Parameters) (inst : Instance) (s : Store) (ps : List Piece) (b : Beginning) → IsInitial m p b → b ≡ begins inst s ps → inst.page_limit ≡ last_size m.memories p.page_limit
+unfolding limit_of
+limit_at m p inst s ps b (needs_more lt) e = absurd (cc e)
+limit_at m p inst s ps b (out_of_bounds le pr never) e = absurd (cc e)
+limit_at m p inst s ps b (in_bounds {inst = inst2} le pr e1 e2) e = sym (ap (λ z. limit_of z 0) e) ∙ pr.page_limit
+
+-- how far a memory may grow is what the parameters allow
+pub limit_is : (m : Module) (p : Parameters) (inst : Instance) (s : Store) (ps : List Piece) → IsInitial m p (begins inst s ps) → inst.page_limit ≡ last_size m.memories p.page_limit
+limit_is m p inst s ps is = limit_at m p inst s ps (begins inst s ps) is refl

@@ -208,19 +208,19 @@ put_shared t i p x y j q f there other is = elim (elsewhere t i p y j q) [
 ]
 
 -- an entry that is none
-unlisted_other : (marks : List Mark) (g f n : ℕ) (m : Mark) → g < length marks → m ≢ Unlisted n → slice_get (slice_set marks g m) f ≡ Some (Unlisted n) → slice_get marks f ≡ Some (Unlisted n)
+pub unlisted_other : (marks : List Mark) (g f n : ℕ) (m : Mark) → g < length marks → m ≢ Unlisted n → slice_get (slice_set marks g m) f ≡ Some (Unlisted n) → slice_get marks f ≡ Some (Unlisted n)
 unlisted_other marks g f n m within never is = elim (here_or g f) [
   | inr other ↦ sym (set_other marks g f m (λ e. other e)) ∙ is
   | inl same ↦ absurd (let both : Some m ≡ Some (Unlisted n) = sym (set_same marks g m within) ∙ subst (λ z. slice_get (slice_set marks g m) z ≡ Some (Unlisted n)) same is in never (cc both))
 ]
 
-plain_listed : (n : ℕ) → Plain ≢ Unlisted n
+pub plain_listed : (n : ℕ) → Plain ≢ Unlisted n
 plain_listed n e = cc e
 
-hint_listed : (hash i p n : ℕ) → Hint hash i p ≢ Unlisted n
+pub hint_listed : (hash i p n : ℕ) → Hint hash i p ≢ Unlisted n
 hint_listed hash i p n e = cc e
 
-shared_listed : (hash k n : ℕ) → Sharers hash k ≢ Unlisted n
+pub shared_listed : (hash k n : ℕ) → Sharers hash k ≢ Unlisted n
 shared_listed hash k n e = cc e
 
 untouched_apart : (f : ℕ) → Untouched ≢ Shared f

@@ -5,7 +5,6 @@ use Rattle.wh_host_model.specs.declared.Tax.{Tax}
 use Rattle.wh_host_model.specs.Space.Parts.{view}
 use Rattle.wh_host_model.specs.Host.Worlds.{Tenant, Loaded, World, journal, tenant, empty_world, module_of}
 use Rattle.wh_host_model.specs.Owners.{Entry}
-use Rattle.wh_host_model.specs.Owners.{given_of}
 use Rattle.wh_host_model.specs.Host.Events.{Event}
 use Rattle.wh_host_model.specs.Host.Happens.{AllHappen}
 
@@ -24,15 +23,19 @@ call_asked call = record call { outcome = unanswered call.outcome }
 abbrev pub asked : Entry → Entry
 asked e = record e { call = call_asked e.call }
 
--- Two instances, each in a host of its own, are of one module and were given the same, and the same was asked of both:
--- the same calls, with as many fragments and charges.
+-- Two instances, each in a host of its own, are of one module, were given the same base, salt and inputs, and may grow as
+-- far; and the same was asked of both: the same calls, with as many fragments and charges. The calls that were copied
+-- with an instance, which were asked of the one that it is a copy of, count as asked of it. Quotas may differ.
 pub record AreTreatedAlike (w w2 : World) (t t2 : Tenant) : Type 0 where
   pub loaded : Loaded
   pub loaded2 : Loaded
   pub is_loaded : module_of w t.of ≡ Some loaded
   pub is_loaded2 : module_of w2 t2.of ≡ Some loaded2
   pub of_one : loaded.m ≡ loaded2.m
-  pub given : given_of t.params ≡ given_of t2.params
+  pub base : t.params.base ≡ t2.params.base
+  pub salt : t.params.salt ≡ t2.params.salt
+  pub inputs : t.params.inputs ≡ t2.params.inputs
+  pub limit : t.inst.page_limit ≡ t2.inst.page_limit
   pub calls : map asked (journal t) ≡ map asked (journal t2)
 
 -- they answered the same, and have the same globals and table, wrote the same, and see the same

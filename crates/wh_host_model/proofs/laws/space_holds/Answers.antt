@@ -1,3 +1,4 @@
+use Rattle.wh_host_model.proofs.Space.Unlisting.{only_lends_unlist}
 use Rattle.wh_host_model.proofs.Space.ForkedCharges.{copies_are_free, copies_leave_ready}
 use Rattle.wh_host_model.proofs.Space.Forked.{copies_are_right, lends_alone, lends_soundly}
 use Rattle.wh_host_model.proofs.Space.Deciding.{ready_decided, no_bytes_are_ready, one_use_of_a_frame, page_to_take, slot_to_take, eviction_keeps, fetch_keeps_sound, fetch_keeps_bytes}
@@ -198,3 +199,6 @@ returns-clause-copies_leave_ready c = copies_leave_ready
 
 pub returns-clause-passes_list_all : goal.returns-clause-passes_list_all
 returns-clause-passes_list_all c = passes_list_all
+
+pub returns-clause-only_lends_unlist : goal.returns-clause-only_lends_unlist
+returns-clause-only_lends_unlist c = only_lends_unlist
