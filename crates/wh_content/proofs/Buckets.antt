@@ -4,7 +4,7 @@ use Rattle.std.proofs.lemmas.Bool.{cases_eq, cases_lt, cases_order}
 use Rattle.std.proofs.lemmas.List.{get_or-set_same, get_or-set_other, length-set}
 use Rattle.std.proofs.lemmas.Option.{slice_get_past}
 use Rattle.wh_host_model.specs.declared.states.Mark.{Mark}
-use Rattle.wh_host_model.specs.declared.states.Mark.TheVariants.{Plain, Sharers}
+use Rattle.wh_host_model.specs.declared.states.Mark.TheVariants.{Plain}
 use Rattle.wh_host_model.specs.Space.Sound.{HasHash}
 use Rattle.wh_host_model.proofs.Space.Putting.{set_same, set_other}
 use Rattle.wh_content.specs.Chains.{IsOfBucket, IsIn, IsPlace, IsFalling, LeadsOn, AreChains}
@@ -255,32 +255,36 @@ module _ (n b a f : ℕ) (marks : List Mark) (links : List ℕ) (many : length m
         ];
       }
 
--- The chains are as good for a frame that has another count of sharers.
-module _ (n f hash k l : ℕ) (marks : List Mark) (links : List ℕ) (fits : f < length marks)
-    (found : slice_get marks f ≡ Some (Sharers hash k)) where
-  in_before : (c g : ℕ) → IsIn n (slice_set marks f (Sharers hash l)) c g → IsIn n marks c g
+-- The chains are as good for a frame that has another mark, with the same hash or none.
+module _ (n f : ℕ) (mark mark2 : Mark) (marks : List Mark) (links : List ℕ) (fits : f < length marks)
+    (found : slice_get marks f ≡ Some mark) (down : (h : ℕ) → HasHash (Some mark2) h → HasHash (Some mark) h)
+    (up : (h : ℕ) → HasHash (Some mark) h → HasHash (Some mark2) h) where
+  in_before : (c g : ℕ) → IsIn n (slice_set marks f mark2) c g → IsIn n marks c g
   in_before c g is =
-      elim (at_put (IsOfBucket n c) marks f g (Sharers hash l) fits is) [
-        | inl here ↦ subst (IsIn n marks c) (sym here.0) (subst (IsOfBucket n c) (sym found) here.1)
+      elim (at_put (IsOfBucket n c) marks f g mark2 fits is) [
+        | inl here ↦
+            (let of : IsOfBucket n c (Some mark) = (here.1.0, down here.1.0 here.1.1, here.1.2) in
+            subst (IsIn n marks c) (sym here.0) (subst (IsOfBucket n c) (sym found) of))
         | inr other ↦ other.1
       ]
 
-  in_after : (c g : ℕ) → IsIn n marks c g → IsIn n (slice_set marks f (Sharers hash l)) c g
+  in_after : (c g : ℕ) → IsIn n marks c g → IsIn n (slice_set marks f mark2) c g
   in_after c g is =
-      let now = slice_set marks f (Sharers hash l) in
+      let now = slice_set marks f mark2 in
       elim (cases_eq g f) [
         | inl same ↦
-            (let of = subst (IsOfBucket n c) found (subst (IsIn n marks c) same is) in
-            subst (IsIn n now c) (sym same) (now_in n f marks (Sharers hash l) fits c of))
-        | inr other ↦ still_in n f marks (Sharers hash l) fits c g other is
+            (let old : IsOfBucket n c (Some mark) = subst (IsOfBucket n c) found (subst (IsIn n marks c) same is) in
+            let of : IsOfBucket n c (Some mark2) = (old.0, up old.0 old.1, old.2) in
+            subst (IsIn n now c) (sym same) (now_in n f marks mark2 fits c of))
+        | inr other ↦ still_in n f marks mark2 fits c g other is
       ]
 
-  place_before : (c p : ℕ) → IsPlace n (slice_set marks f (Sharers hash l)) c p → IsPlace n marks c p
+  place_before : (c p : ℕ) → IsPlace n (slice_set marks f mark2) c p → IsPlace n marks c p
   place_before c p (inl is) = inl (in_before c p is)
   place_before c p (inr head) = inr head
 
-  pub recounted : AreChains n marks links → AreChains n (slice_set marks f (Sharers hash l)) links
-  recounted chains = record {
+  pub remarked : AreChains n marks links → AreChains n (slice_set marks f mark2) links
+  remarked chains = record {
     each = λ c p less is. let old = chains.each c p less (place_before c p is) in record {
       there = λ g e. in_after c g (old.there g e);
       nearest = λ g low high now. old.nearest g low high (in_before c g now);

@@ -2,7 +2,7 @@
 use Rattle.std.proofs.Common.{◌≡◌, ◌⊎◌, ℕ, ◌<◌, List, Option, Some, None, length, slice_get, slice_set, sym, ◌∙◌, inl, inr, ap, subst, arith, length-set}
 use Rattle.std.proofs.lemmas.Bool.{cases_eq}
 use Rattle.wh_host_model.specs.declared.states.Mark.{Mark}
-use Rattle.wh_host_model.specs.declared.states.Mark.TheVariants.{Plain, Hint, Sharers}
+use Rattle.wh_host_model.specs.declared.states.Mark.TheVariants.{Plain, Hint, Sharers, Unlisted}
 use Rattle.wh_host_model.specs.Space.Sound.{HasHash}
 use Rattle.wh_host_model.proofs.Space.Putting.{set_same, set_other}
 use Rattle.wh_content.specs.Marks.{AreApart, IsOnlyWith}
@@ -31,6 +31,7 @@ one_hash None h k has also = absurd has
 one_hash (Some Plain) h k has also = absurd has
 one_hash (Some (Hint hash i p)) h k has also = sym has ∙ also
 one_hash (Some (Sharers hash n)) h k has also = sym has ∙ also
+one_hash (Some (Unlisted n)) h k has also = absurd has
 
 -- no other frame has the hash of a mark once f has none
 pub only_plain : (marks : List Mark) (f hash h : ℕ) (mark : Mark) → f < length marks → IsOnlyWith marks f hash

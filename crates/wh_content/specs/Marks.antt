@@ -1,7 +1,7 @@
 -- Which frame has an entry under a hash.
-use Rattle.std.specs.Prelude.{ℕ, ◌≡◌, List, slice_get}
+use Rattle.std.specs.Prelude.{ℕ, ◌≡◌, ◌+◌, ◌<◌, ◌^◌, List, slice_get}
 use Rattle.wh_host_model.specs.declared.states.Mark.{Mark}
-use Rattle.wh_host_model.specs.declared.states.Mark.TheVariants.{Hint, Sharers}
+use Rattle.wh_host_model.specs.declared.states.Mark.TheVariants.{Plain, Hint, Sharers, Unlisted}
 use Rattle.wh_host_model.specs.Space.Sound.{HasHash}
 use Rattle.wh_content.specs.declared.entry.ContentEntry.{ContentEntry}
 use Rattle.wh_content.specs.declared.entry.ContentEntry.TheVariants as entry
@@ -26,3 +26,10 @@ IsWithout marks hash = (frame : ℕ) → ¬ HasHash (slice_get marks frame) hash
 -- no two frames have entries under one hash
 abbrev pub AreApart : List Mark → Type 0
 AreApart marks = (frame hash : ℕ) → HasHash (slice_get marks frame) hash → IsOnlyWith marks frame hash
+
+-- one sharer more of a frame with this mark can be counted in 32 bits
+abbrev pub HasRoomForOne : Mark → Type 0
+HasRoomForOne Plain = Unit {0}
+HasRoomForOne (Hint hash i p) = Unit {0}
+HasRoomForOne (Sharers hash n) = n + 1 < 2 ^ 32
+HasRoomForOne (Unlisted n) = n + 1 < 2 ^ 32

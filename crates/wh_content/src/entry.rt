@@ -1,9 +1,8 @@
 // What a look-up finds.
 
-ghost use Rattle.std.specs.Prelude.{◌≡◌, IfSome, IfNone, Some};
+ghost use Rattle.std.specs.Prelude.{ℕ, ◌≡◌, IfSome, IfNone, Some};
 ghost use Rattle.wh_content.specs.Marks.{frame_of_entry, mark_of_entry};
 ghost use Rattle.wh_host_model.specs.Space.Sound.{HasHash};
-ghost use Rattle.wh_host_model.specs.declared.states.Mark.TheVariants.{Plain};
 
 use wh_host_model::Mark;
 
@@ -39,10 +38,10 @@ pub fn entry_under(hash: u64, frame: u32, mark: Mark) -> Option<ContentEntry>
 // The hash under which a frame with this mark has its entry.
 pub fn hash_of(mark: Mark) -> Option<u64>
     ensures some { IfSome result (λ hash. HasHash (Some mark) hash) }
-    ensures none { IfNone result (mark ≡ Plain) }
+    ensures none { IfNone result ((hash : ℕ) → ¬ HasHash (Some mark) hash) }
 {
     match mark {
-        Mark::Plain => None,
+        Mark::Plain | Mark::Unlisted { .. } => None,
         Mark::Hint { hash, .. } => Some(hash),
         Mark::Sharers { hash, .. } => Some(hash),
     }

@@ -4,7 +4,9 @@ ghost use Rattle.std.specs.Prelude.{◌≡◌, ◌+◌, ◌<◌, ◌%◌, Some, 
 ghost use Rattle.wh_content.specs.Marks.{frame_of_entry, mark_of_entry, IsOnlyWith, IsWithout};
 ghost use Rattle.wh_host_model.specs.Space.Breaks.{fewer_sharers};
 ghost use Rattle.wh_host_model.specs.Space.Sound.{HasHash};
-ghost use Rattle.wh_host_model.specs.declared.states.Mark.TheVariants.{Plain, Hint, Sharers};
+ghost use Rattle.wh_host_model.specs.declared.states.Mark.TheVariants.{Plain, Hint, Sharers, Unlisted};
+ghost use Rattle.wh_host_model.specs.Space.Forks.{one_more};
+ghost use Rattle.wh_content.specs.Marks.{HasRoomForOne};
 
 use crate::chains::Chains;
 use crate::entry::{ContentEntry, entry_under, hash_of};
@@ -124,16 +126,48 @@ impl Table {
         ensures { self.new
             ≡ slice_set self.old frame (fewer_sharers 1 (get_or self.old frame Plain)) }
     {
-        let Mark::Sharers { hash, count } = self.marks[frame as usize] else {
-            return;
-        };
-        if count > 1 {
-            self.marks[frame as usize] = Mark::Sharers {
-                hash,
-                count: count - 1,
-            };
-        } else {
-            self.forget_frame(frame);
+        match self.marks[frame as usize] {
+            Mark::Sharers { hash, count } if count > 1 => {
+                self.marks[frame as usize] = Mark::Sharers {
+                    hash,
+                    count: count - 1,
+                };
+            }
+            Mark::Unlisted { count } if count > 1 => {
+                self.marks[frame as usize] = Mark::Unlisted { count: count - 1 };
+            }
+            Mark::Sharers { .. } | Mark::Unlisted { .. } => self.forget_frame(frame),
+            Mark::Plain | Mark::Hint { .. } => {}
+        }
+    }
+
+    /// Says that so many pages share this frame, which is one of the table's, and that its hash isn't known. An entry that
+    /// it had goes.
+    pub fn share_unlisted(&mut self, frame: u32, sharers: u32)
+        requires { frame < length self.old }
+        ensures { self.new ≡ slice_set self.old frame (Unlisted sharers) }
+    {
+        self.forget_frame(frame);
+        self.marks[frame as usize] = Mark::Unlisted { count: sharers };
+    }
+
+    /// Says that one page more shares this frame, which is one of the table's. A frame that none shares stays as it is.
+    pub fn add_sharer(&mut self, frame: u32)
+        requires within { frame < length self.old }
+        requires few { HasRoomForOne (get_or self.old frame Plain) }
+        ensures { self.new ≡ slice_set self.old frame (one_more (get_or self.old frame Plain)) }
+    {
+        match self.marks[frame as usize] {
+            Mark::Sharers { hash, count } => {
+                self.marks[frame as usize] = Mark::Sharers {
+                    hash,
+                    count: count + 1,
+                };
+            }
+            Mark::Unlisted { count } => {
+                self.marks[frame as usize] = Mark::Unlisted { count: count + 1 };
+            }
+            Mark::Plain | Mark::Hint { .. } => {}
         }
     }
 
@@ -143,6 +177,7 @@ impl Table {
         ensures { self.new ≡ slice_set self.old frame Plain }
     {
         let Some(hash) = hash_of(self.marks[frame as usize]) else {
+            self.marks[frame as usize] = Mark::Plain;
             return;
         };
         let place = self.chains.behind(head_of(self.frames, hash), frame);

@@ -1,6 +1,7 @@
 use Rattle.std.proofs.Common.{refl, ◌∙◌, ap, Some, length-set}
 use Rattle.std.proofs.lemmas.Option.{slice_get_read}
-use Rattle.wh_content.proofs.Buckets.{recounted}
+use Rattle.wh_host_model.specs.declared.states.Mark.TheVariants.{Sharers, Unlisted}
+use Rattle.wh_content.proofs.Buckets.{remarked}
 use Rattle.wh_content.proofs.Entries.{apart_put}
 use Rattle.wh_content.proofs.table.Table.drop_sharer.Goals as goal
 
@@ -17,5 +18,21 @@ invariant_of-self c =
       many = simp length-set inv.many;
       apart = apart_put marks f _ inv.apart within (λ hash has. inv.apart f hash (rw found has));
       places = inv.places;
-      chains = recounted a.frames f c.in-Sharers.hash c.in-Sharers.count _ marks a.chains within found inv.chains;
+      chains = remarked a.frames f (Sharers c.in-Sharers.hash c.in-Sharers.count) _ marks a.chains within found (λ h x. x) (λ h x. x) inv.chains;
+    }
+
+pub invariant_of-self-then-count-gt1-2 : goal.invariant_of-self-then-count-gt1-2
+invariant_of-self-then-count-gt1-2 c =
+    let a = c.self.inside in
+    let marks = a.marks.items in
+    let f = c.args.frame in
+    let inv = c.self.invariant in
+    let within = rw (← c.self.view_is) at c.requires in
+    let found = slice_get_read marks _ f c.index.result.now refl within c.index.ensures ∙ ap Some c.in-Unlisted.is in
+    record {
+      few = inv.few;
+      many = simp length-set inv.many;
+      apart = apart_put marks f _ inv.apart within (λ hash has. absurd has);
+      places = inv.places;
+      chains = remarked a.frames f (Unlisted c.in-Unlisted.count) _ marks a.chains within found (λ h x. x) (λ h x. x) inv.chains;
     }

@@ -1,12 +1,29 @@
 use Rattle.std.proofs.Common.{◌<◌, ◌%◌, inr, refl, length-set, arith}
 use Rattle.std.proofs.lemmas.Option.{slice_get_read}
 use Rattle.wh_host_model.specs.declared.states.Mark.TheVariants.{Plain}
-use Rattle.wh_content.proofs.Buckets.{removed}
+use Rattle.wh_content.proofs.Buckets.{remarked, removed}
 use Rattle.wh_content.proofs.Entries.{apart_put}
 use Rattle.wh_content.proofs.table.Table.forget_frame.Goals as goal
 
 pub invariant_of-self : goal.invariant_of-self
 invariant_of-self c =
+    let a = c.self.inside in
+    let marks = a.marks.items in
+    let f = c.args.frame in
+    let inv = c.self.invariant in
+    let within = rw (← c.self.view_is) at c.requires in
+    let found = slice_get_read marks _ f c.index.result.now refl within c.index.ensures in
+    let none = rw c.in_default.is at c.hash_of.ensures.none in
+    record {
+      few = inv.few;
+      many = simp length-set inv.many;
+      apart = apart_put marks f Plain inv.apart within (λ h has. absurd has);
+      places = inv.places;
+      chains = remarked a.frames f c.index.result.now Plain marks a.chains within found (λ h has. absurd has) (λ h has. absurd (none h has)) inv.chains;
+    }
+
+pub invariant_of-self-2 : goal.invariant_of-self-2
+invariant_of-self-2 c =
     let a = c.self.inside in
     let n = a.frames in
     let marks = a.marks.items in
