@@ -42,6 +42,7 @@ pub mod Voided
 pub mod Entered
 pub mod Forked
 pub mod ForkedCharges
+pub mod ForkedPayer
 pub mod Exited
 pub mod Exiting
 pub mod Chained

@@ -4,7 +4,7 @@ ghost use Rattle.wh_host_model.specs.Space.Laws.{ReadyIsDecided, NoBytesAreReady
 ghost use Rattle.wh_host_model.specs.Space.Sight.{OffersQuietly, WritesQuietly, StepsQuietly, GrowsAlone, GrowsByZeros, EntersAlone, EntersAtZeros, ExitsAlone, PinsEnd, GoneIsSkipped, WrittenIsVoid, ReleasedIsVoid, NothingNeedless};
 ghost use Rattle.wh_host_model.specs.Space.Kept.{TouchesSoundly, EpochsSoundly, WritesSoundly, WaitsSoundly, EndsSoundly, CommitsEvictSoundly, OffersSoundly, BeginsFetchSoundly, CommitsFetchSoundly, GrowsSoundly, EntersSoundly, ExitsSoundly};
 ghost use Rattle.wh_host_model.specs.Space.Chain.{FailsSoundly, EmptyIsSound, StaysSound, ScansSoundly, PassesFully, PassesListAll, OnlyLendsUnlist, ContentsAreListed};
-ghost use Rattle.wh_host_model.specs.Space.Forks.{CopiesAreFree, CopiesAreRight, CopiesLeaveReady, LendsAlone, LendsSoundly};
+ghost use Rattle.wh_host_model.specs.Space.Forks.{CopiesAreFree, CopiesAreRight, CopiesLeavePayer, CopiesLeaveReady, LendsAlone, LendsSoundly};
 ghost use Rattle.wh_host_model.specs.Space.Storing.{BreaksSoundly, SomeStore, StoresSoundly, StoresAreRight};
 
 /// What holds of the memory on which all instances lie. The function does nothing; what it ensures are the laws.
@@ -68,5 +68,6 @@ pub fn space_holds()
     ensures lends_alone { LendsAlone }
     ensures copies_are_right { CopiesAreRight }
     ensures copies_are_free { CopiesAreFree }
+    ensures copies_leave_payer { CopiesLeavePayer }
     ensures copies_leave_ready { CopiesLeaveReady }
 {}

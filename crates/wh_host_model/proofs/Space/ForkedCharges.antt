@@ -137,19 +137,19 @@ stand_first s i j (suc n) s2 apart none (mid, before, l) = stand_on s mid i j n 
 
 -- ---- the one that comes stands nowhere
 
-record Comes (s : Space) (j size : ℕ) (mid : Space) : Type 0 where
-  same : (k f : ℕ) → k ≢ j → standing_at mid.tables k f ≡ standing_at s.tables k f
-  none : (f : ℕ) → standing_at mid.tables j f ≡ 0
-  was : (f : ℕ) → standing_at s.tables j f ≡ 0
-  sharing : (f : ℕ) → sharers mid f ≡ sharers s f
-  rows : (k : ℕ) → k ≢ j → get_or mid.tables k [] ≡ get_or s.tables k []
-  empty : get_or s.tables j [] ≡ []
-  untouched_row : get_or mid.touched j [] ≡ replicate (16 * size) false
-  touched_rows : (k : ℕ) → k ≢ j → get_or mid.touched k [] ≡ get_or s.touched k []
-  long : (length mid.tables ≡ length s.tables) ⊎ ((j ≡ length s.tables) × (length mid.tables ≡ length s.tables + 1))
-  within : j < length mid.tables
+pub record Comes (s : Space) (j size : ℕ) (mid : Space) : Type 0 where
+  pub same : (k f : ℕ) → k ≢ j → standing_at mid.tables k f ≡ standing_at s.tables k f
+  pub none : (f : ℕ) → standing_at mid.tables j f ≡ 0
+  pub was : (f : ℕ) → standing_at s.tables j f ≡ 0
+  pub sharing : (f : ℕ) → sharers mid f ≡ sharers s f
+  pub rows : (k : ℕ) → k ≢ j → get_or mid.tables k [] ≡ get_or s.tables k []
+  pub empty : get_or s.tables j [] ≡ []
+  pub untouched_row : get_or mid.touched j [] ≡ replicate (16 * size) false
+  pub touched_rows : (k : ℕ) → k ≢ j → get_or mid.touched k [] ≡ get_or s.touched k []
+  pub long : (length mid.tables ≡ length s.tables) ⊎ ((j ≡ length s.tables) × (length mid.tables ≡ length s.tables + 1))
+  pub within : j < length mid.tables
 
-comes : (s : Space) (i j : ℕ) (c : Claimed) (size : ℕ) (mid : Space) → IsSound s → j ≢ i → Enters s j c size mid → Comes s j size mid
+pub comes : (s : Space) (i j : ℕ) (c : Claimed) (size : ℕ) (mid : Space) → IsSound s → j ≢ i → Enters s j c size mid → Comes s j size mid
 comes s i j c size mid sound apart enters =
     let row : List Page = replicate (16 * size) Untouched in
     let tables : List (List Page) = with_row s.tables j row in
@@ -312,7 +312,7 @@ copies_are_free s i j c s2 sound copies last =
     let charged : (k : ℕ) → k ≢ j → charged_of s2 k ≡ charged_of s k = λ k away. ap (λ n. below n (frame_charge s2 k)) same.frames ∙ below_each n (frame_charge s k) (frame_charge s2 k) (λ f. same.others k f away) in
     let actives : (k : ℕ) → k ≢ j → active_of s2 k ≡ active_of s k = λ k away. ap (λ n. below n (active2 k)) same.frames ∙ below_each n (active k) (active2 k) (λ f. ap (λ t. cond (t == 0) 0 (frame_charge s2 k f)) (same.touched f) ∙ ap (cond (touchers s f == 0) 0) (same.others k f away)) in (
       ap (λ n. below n (frame_charge s2 j)) same.frames ∙ (below_each n (λ f. 0) (frame_charge s2 j) same.mine ∙ below_zero n),
-      λ k away. (charged k away, (let a = charged k away in let b = actives k away in let t = same.tax in rw (a, b, t) refl)),
+      λ k away. (charged k away, (let a = charged k away in let b = actives k away in let t = same.tax in rw (a, b, t) refl), actives k away),
     )
 
 -- ---- what is ready

@@ -8,8 +8,8 @@ use Rattle.wh_host_model.specs.declared.states.Mark.TheVariants.{Plain, Hint, Sh
 use Rattle.wh_host_model.specs.Space.States.{page_at, page_bytes, put}
 use Rattle.wh_host_model.specs.Space.Parts.{Claimed, Occupant, Space, all_bytes, backing, occupant_at, view}
 use Rattle.wh_host_model.specs.Space.Ready.{Ready}
-use Rattle.wh_host_model.specs.Space.Charges.{charged_of}
-use Rattle.wh_host_model.specs.Space.Claims.{weight_of}
+use Rattle.wh_host_model.specs.Space.Charges.{active_of, charged_of}
+use Rattle.wh_host_model.specs.Space.Claims.{IsPayer, weight_of}
 use Rattle.wh_host_model.specs.Space.Places.{Enters}
 use Rattle.wh_host_model.specs.Space.Sound.{IsSound}
 
@@ -85,12 +85,21 @@ abbrev pub CopiesAreRight : Type 0
 CopiesAreRight = (s : Space) (i j : ℕ) (c : Claimed) (s2 : Space) → IsSound s → Copies s i j c s2 → IsCopied s i j s2
 
 -- A copy that comes last is charged nothing, since somebody else's page is the first on each of its frames; and to
--- nobody else other frames are charged than before, nor do those of anybody weigh more or less.
+-- nobody else other frames are charged than before, nor are more or fewer of them active, nor do they weigh more or less.
 abbrev pub CopiesAreFree : Type 0
 CopiesAreFree =
     (s : Space) (i j : ℕ) (c : Claimed) (s2 : Space) → IsSound s → Copies s i j c s2
     → ((k : ℕ) (t : Occupant) → occupant_at s k t → t.number < c.number)
-    → (charged_of s2 j ≡ 0) × ((k : ℕ) → k ≢ j → (charged_of s2 k ≡ charged_of s k) × (weight_of s2 k ≡ weight_of s k))
+    → (charged_of s2 j ≡ 0)
+    × ((k : ℕ) → k ≢ j
+    → (charged_of s2 k ≡ charged_of s k) × (weight_of s2 k ≡ weight_of s k) × (active_of s2 k ≡ active_of s k))
+
+-- whoever would have to pay still would, and nobody else
+abbrev pub CopiesLeavePayer : Type 0
+CopiesLeavePayer =
+    (s : Space) (i j : ℕ) (c : Claimed) (s2 : Space) → IsSound s → Copies s i j c s2
+    → ((k : ℕ) (t : Occupant) → occupant_at s k t → t.number < c.number)
+    → (k : ℕ) → IsPayer s2 k ↔ IsPayer s k
 
 -- what was ready for somebody else is ready still, and nothing else is
 abbrev pub CopiesLeaveReady : Type 0

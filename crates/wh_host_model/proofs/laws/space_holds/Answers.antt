@@ -1,3 +1,4 @@
+use Rattle.wh_host_model.proofs.Space.ForkedPayer.{copies_leave_payer}
 use Rattle.wh_host_model.proofs.Space.Unlisting.{only_lends_unlist}
 use Rattle.wh_host_model.proofs.Space.ForkedCharges.{copies_are_free, copies_leave_ready}
 use Rattle.wh_host_model.proofs.Space.Forked.{copies_are_right, lends_alone, lends_soundly}
@@ -202,3 +203,6 @@ returns-clause-passes_list_all c = passes_list_all
 
 pub returns-clause-only_lends_unlist : goal.returns-clause-only_lends_unlist
 returns-clause-only_lends_unlist c = only_lends_unlist
+
+pub returns-clause-copies_leave_payer : goal.returns-clause-copies_leave_payer
+returns-clause-copies_leave_payer c = copies_leave_payer
