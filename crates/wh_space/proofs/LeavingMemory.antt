@@ -4,7 +4,7 @@ use Rattle.std.proofs.lemmas.Bool.Decides.{nat_tests}
 use Rattle.std.proofs.lemmas.List.{get_or-set_other, length-map, map-set}
 use Rattle.wh_host_model.specs.Frames.{Pool, one_if, tally}
 use Rattle.wh_host_model.specs.declared.states.Mark.{Mark}
-use Rattle.wh_host_model.specs.declared.states.Mark.TheVariants.{Plain, Hint, Sharers}
+use Rattle.wh_host_model.specs.declared.states.Mark.TheVariants.{Plain, Hint, Sharers, Unlisted}
 use Rattle.wh_host_model.specs.declared.states.Page.{Page}
 use Rattle.wh_host_model.specs.Space.Errands.{ticket_of}
 use Rattle.wh_host_model.specs.Space.Parts.{Occupant, Pins, Space, has_number, occupant_at, sharers}
@@ -61,6 +61,7 @@ some_owners n a b some = grind (arith, nat_tests)
 mark_is : (s : Space) (i f : ℕ) (m : Mark) → IsSound s → i < length s.tables → Names s f (Some m) → mark_after (count_of (owns f) s.tables i) (count_of (shares f) s.tables i) m ≡ released_mark i (count_of (shares f) s.tables i) m
 mark_is s i f Plain sound less names = refl
 mark_is s i f (Sharers hash n) sound less names = refl
+mark_is s i f (Unlisted n) sound less names = refl
 mark_is s i f (Hint hash j p) sound less names =
     let x = page_there (owns f) (page_at s.tables j p) names.0 in
     elim (here_or i j) [

@@ -1,10 +1,10 @@
 -- Pages that go with their instance, one after the other: what of the frames and entries is left.
-use Rattle.std.proofs.Common.{◌≡◌, inl, inr, ℕ, ◌+◌, ◌-◌, ◌<◌, ◌≤◌, cond, nat_lt, List, [], ◌∷◌, Some, length, drop, get_or, slice_get, slice_set, zero, suc, refl, sym, ◌∙◌, ap, subst, arith, length-set}
+use Rattle.std.proofs.Common.{◌≡◌, inl, inr, ℕ, ◌+◌, ◌-◌, ◌<◌, ◌≤◌, cond, nat_lt, false, List, [], ◌∷◌, Option, Some, None, length, drop, get_or, slice_get, slice_set, zero, suc, refl, sym, ◌∙◌, ap, subst, arith, length-set}
 use Rattle.std.proofs.lemmas.Bool.{cases_lt}
 use Rattle.std.proofs.lemmas.Bool.Decides.{nat_tests}
 use Rattle.wh_host_model.specs.Frames.{IsTaken, one_if, tally}
 use Rattle.wh_host_model.specs.declared.states.Mark.{Mark}
-use Rattle.wh_host_model.specs.declared.states.Mark.TheVariants.{Plain, Hint, Sharers}
+use Rattle.wh_host_model.specs.declared.states.Mark.TheVariants.{Plain, Hint, Sharers, Unlisted}
 use Rattle.wh_host_model.specs.declared.states.Page.{Page}
 use Rattle.wh_host_model.specs.declared.states.Page.TheVariants.{Untouched, Private, Shared, Leaving, LeavingShared, Coming, Swapped}
 use Rattle.wh_host_model.specs.Space.Breaks.{fewer_sharers}
@@ -32,20 +32,28 @@ abbrev pub mark_after : ℕ → ℕ → Mark → Mark
 mark_after owners sharing Plain = Plain
 mark_after owners sharing (Hint hash j p) = cond (nat_lt 0 owners) Plain (Hint hash j p)
 mark_after owners sharing (Sharers hash n) = fewer_sharers sharing (Sharers hash n)
+mark_after owners sharing (Unlisted n) = fewer_sharers sharing (Unlisted n)
 
 -- no owner is left of a frame that nobody shared
 no_owner : (s : Space) (f t : ℕ) (m : Mark) → Names s f (Some m) → sharers s f ≡ 0 → mark_after 1 t m ≡ Plain
 no_owner s f t Plain names none = refl
 no_owner s f t (Hint hash j p) names none = refl
 no_owner s f t (Sharers hash n) names none = absurd (let a = names.0 in let b = names.1 in omega arith)
+no_owner s f t (Unlisted n) names none = absurd (let a = names.0 in let b = names.1 in omega arith)
+
+-- so many sharers, with this hash or without one
+abbrev pub counting : Option ℕ → ℕ → Mark
+counting None n = Unlisted n
+counting (Some hash) n = Sharers hash n
 
 -- a frame that pages share has their number
-shared_mark : (s : Space) (f : ℕ) (m : Mark) → Names s f (Some m) → 1 ≤ sharers s f → (hash : ℕ) × (m ≡ Sharers hash (sharers s f))
+shared_mark : (s : Space) (f : ℕ) (m : Mark) → Names s f (Some m) → 1 ≤ sharers s f → (hash : Option ℕ) × (m ≡ counting hash (sharers s f))
 shared_mark s f Plain names some = absurd (let a : sharers s f ≡ 0 = names in omega arith)
 shared_mark s f (Hint hash j p) names some = absurd (let a = names.1 in omega arith)
-shared_mark s f (Sharers hash n) names some = (hash, ap (Sharers hash) (sym names.0))
+shared_mark s f (Sharers hash n) names some = (Some hash, ap (Sharers hash) (sym names.0))
+shared_mark s f (Unlisted n) names some = (None, ap (λ k. Unlisted k) (sym names.0))
 
-pub shared_entry : (s : Space) (f : ℕ) → FramesAreSound s → f < length s.marks → 1 ≤ sharers s f → (hash : ℕ) × (slice_get s.marks f ≡ Some (Sharers hash (sharers s f)))
+pub shared_entry : (s : Space) (f : ℕ) → FramesAreSound s → f < length s.marks → 1 ≤ sharers s f → (hash : Option ℕ) × (slice_get s.marks f ≡ Some (counting hash (sharers s f)))
 shared_entry s f sound within some =
     let there = get_there s.marks f within in
     let mark = shared_mark s f there.0 (subst (Names s f) there.1 (sound.names f)) some in
@@ -53,11 +61,21 @@ shared_entry s f sound within some =
 
 -- ---- one more sharer goes: it is the last one, or it isn't
 
-pub some_left : (t n hash : ℕ) → t < n → fewer_sharers t (Sharers hash n) ≡ Sharers hash (n - t)
-some_left t n hash less = grind (arith, nat_tests)
+pub some_left : (t n : ℕ) (hash : Option ℕ) → t < n → fewer_sharers t (counting hash n) ≡ counting hash (n - t)
+some_left t n None less = grind (arith, nat_tests)
+some_left t n (Some hash) less = grind (arith, nat_tests)
 
-none_left : (t n hash : ℕ) → n ≤ t → fewer_sharers t (Sharers hash n) ≡ Plain
-none_left t n hash most = grind (arith, nat_tests)
+none_left : (t n : ℕ) (hash : Option ℕ) → n ≤ t → fewer_sharers t (counting hash n) ≡ Plain
+none_left t n None most = grind (arith, nat_tests)
+none_left t n (Some hash) most = grind (arith, nat_tests)
+
+after_counting : (owners sharing n : ℕ) (hash : Option ℕ) → mark_after owners sharing (counting hash n) ≡ fewer_sharers sharing (counting hash n)
+after_counting owners sharing n None = refl
+after_counting owners sharing n (Some hash) = refl
+
+not_plain : (n : ℕ) (hash : Option ℕ) → is_plain (counting hash n) ≡ false
+not_plain n None = refl
+not_plain n (Some hash) = refl
 
 frees_none : (t n : ℕ) → t < n → freed_by t n ≡ 0
 frees_none t n less = grind (arith, nat_tests)
@@ -87,7 +105,8 @@ none_gone s sound = record {
   unmarked : (s : Space) (f : ℕ) (m : Mark) → Names s f (Some m) → mark_after 0 0 m ≡ m
   unmarked s f Plain names = refl
   unmarked s f (Hint hash j p) names = refl
-  unmarked s f (Sharers hash n) names = let some = names.1 in let e : n - 0 ≡ n = omega arith in some_left 0 n hash (omega arith) ∙ ap (Sharers hash) e
+  unmarked s f (Sharers hash n) names = let some = names.1 in let e : n - 0 ≡ n = omega arith in some_left 0 n (Some hash) (omega arith) ∙ ap (Sharers hash) e
+  unmarked s f (Unlisted n) names = let some = names.1 in let e : n - 0 ≡ n = omega arith in some_left 0 n None (omega arith) ∙ ap (λ k. Unlisted k) e
 
 -- the frame of a page that goes is taken
 taken_still : (s : Space) (gone : List Page) (f : ℕ) (a : Holdings) → FramesAreSound s → IsLeft s gone a → IsTaken s.pool f → tally (owns f) gone + freed_by (tally (shares f) gone) (sharers s f) ≡ 0 → IsHeld f a
@@ -173,9 +192,9 @@ record HasSharers (s : Space) (gone : List Page) (f : ℕ) (a : Holdings) : Type
   pub still : IsHeld f a
   pub less : tally (shares f) gone < sharers s f
   pub owners : tally (owns f) gone ≡ 0
-  pub hash : ℕ
-  pub was : slice_get s.marks f ≡ Some (Sharers hash (sharers s f))
-  pub mark : get_or a.marks f Plain ≡ Sharers hash (sharers s f - tally (shares f) gone)
+  pub hash : Option ℕ
+  pub was : slice_get s.marks f ≡ Some (counting hash (sharers s f))
+  pub mark : get_or a.marks f Plain ≡ counting hash (sharers s f - tally (shares f) gone)
 
 has_sharers : (s : Space) (gone rest : List Page) (x : Page) (f : ℕ) (a : Holdings) → FramesAreSound s → Shares x f → AreWithin s gone (x ∷ rest) → IsLeft s gone a → HasSharers s gone f a
 has_sharers s gone rest x f a sound is within left =
@@ -190,26 +209,26 @@ has_sharers s gone rest x f a sound is within left =
     let none = frees_none (tally (shares f) gone) (sharers s f) less in
     let still = taken_still s gone f a sound left taken (omega arith) in
     let entry = shared_entry s f sound (let l = sound.marks in let w = taken.0 in omega arith) (omega arith) in
-    let mark = get_or_is a.marks f (fewer_sharers (tally (shares f) gone) (Sharers entry.0 (sharers s f))) Plain (left.marks f (Sharers entry.0 (sharers s f)) entry.1) in
+    let mark = get_or_is a.marks f (fewer_sharers (tally (shares f) gone) (counting entry.0 (sharers s f))) Plain (left.marks f (counting entry.0 (sharers s f)) entry.1 ∙ ap Some (after_counting (tally (owns f) gone) (tally (shares f) gone) (sharers s f) entry.0)) in
     record { still = still; less = less; owners = owners; hash = entry.0; was = entry.1; mark = mark ∙ some_left (tally (shares f) gone) (sharers s f) entry.0 less }
 
 -- what one more leaves
-fewer_more : (t n hash : ℕ) → t < n → fewer_sharers 1 (Sharers hash (n - t)) ≡ fewer_sharers (1 + t) (Sharers hash n)
+fewer_more : (t n : ℕ) (hash : Option ℕ) → t < n → fewer_sharers 1 (counting hash (n - t)) ≡ fewer_sharers (1 + t) (counting hash n)
 fewer_more t n hash less = elim (cases_lt (1 + t) n) [
-  | inl more ↦ (let e : (n - t) - 1 ≡ n - (1 + t) = omega arith in some_left 1 (n - t) hash (omega arith) ∙ (ap (Sharers hash) e ∙ sym (some_left (1 + t) n hash more)))
+  | inl more ↦ (let e : (n - t) - 1 ≡ n - (1 + t) = omega arith in some_left 1 (n - t) hash (omega arith) ∙ (ap (counting hash) e ∙ sym (some_left (1 + t) n hash more)))
   | inr last ↦ none_left 1 (n - t) hash (omega arith) ∙ sym (none_left (1 + t) n hash last)
 ]
 
-sharer_marks : (s : Space) (gone : List Page) (x : Page) (f : ℕ) (a : Holdings) → Shares x f → IsLeft s gone a → (has : HasSharers s gone f a) → (mark : Mark) → mark ≡ fewer_sharers (1 + tally (shares f) gone) (Sharers has.hash (sharers s f))
+sharer_marks : (s : Space) (gone : List Page) (x : Page) (f : ℕ) (a : Holdings) → Shares x f → IsLeft s gone a → (has : HasSharers s gone f a) → (mark : Mark) → mark ≡ fewer_sharers (1 + tally (shares f) gone) (counting has.hash (sharers s f))
     → (g : ℕ) (m : Mark) → slice_get s.marks g ≡ Some m → slice_get (slice_set a.marks f mark) g ≡ Some (mark_after (owns g x + tally (owns g) gone) (shares g x + tally (shares g) gone) m)
 sharer_marks s gone x f a is left has mark now g m at = elim (here_or f g) [
   | inl same ↦
       (let o = one_same g f same in
       let sharing : shares g x + tally (shares g) gone ≡ 1 + tally (shares f) gone = rw (is.shares g, o, same) refl in
-      let both : Some m ≡ Some (Sharers has.hash (sharers s f)) = sym at ∙ (ap (slice_get s.marks) same ∙ has.was) in
-      let was : m ≡ Sharers has.hash (sharers s f) = cc in
+      let both : Some m ≡ Some (counting has.hash (sharers s f)) = sym at ∙ (ap (slice_get s.marks) same ∙ has.was) in
+      let was : m ≡ counting has.hash (sharers s f) = cc in
       let there : slice_get (slice_set a.marks f mark) g ≡ Some mark = rw same (set_same a.marks f mark has.still.1) in
-      there ∙ ap Some (now ∙ rw (sharing, was) refl))
+      there ∙ ap Some (now ∙ (sym (after_counting (owns g x + tally (owns g) gone) (1 + tally (shares f) gone) (sharers s f) has.hash) ∙ rw (sharing, was) refl)))
   | inr other ↦
       (let here : shares g x ≡ 0 = is.shares g ∙ one_other g f (λ e. other e) in
       let none = is.owns g in
@@ -220,7 +239,7 @@ sharer_marks s gone x f a is left has mark now g m at = elim (here_or f g) [
 
 -- with others left the frame stays taken
 more_left : (s : Space) (gone : List Page) (x : Page) (f : ℕ) (a : Holdings) → Shares x f → IsLeft s gone a → (has : HasSharers s gone f a) → 1 + tally (shares f) gone < sharers s f
-    → IsLeft s (x ∷ gone) (record { pool = a.pool; marks = slice_set a.marks f (Sharers has.hash (sharers s f - (1 + tally (shares f) gone))) })
+    → IsLeft s (x ∷ gone) (record { pool = a.pool; marks = slice_set a.marks f (counting has.hash (sharers s f - (1 + tally (shares f) gone))) })
 more_left s gone x f a is left has more = record {
   bytes = left.bytes;
   free = λ g.
@@ -239,8 +258,8 @@ more_left s gone x f a is left has more = record {
             ap (λ z. freed_by z (sharers s g)) stays)
       ] in
       omega arith);
-  entries = length-set a.marks f (Sharers has.hash (sharers s f - (1 + tally (shares f) gone))) ∙ left.entries;
-  marks = sharer_marks s gone x f a is left has (Sharers has.hash (sharers s f - (1 + tally (shares f) gone))) (sym (some_left (1 + tally (shares f) gone) (sharers s f) has.hash more));
+  entries = length-set a.marks f (counting has.hash (sharers s f - (1 + tally (shares f) gone))) ∙ left.entries;
+  marks = sharer_marks s gone x f a is left has (counting has.hash (sharers s f - (1 + tally (shares f) gone))) (sym (some_left (1 + tally (shares f) gone) (sharers s f) has.hash more));
 }
 
 -- and with none it is free
@@ -277,9 +296,10 @@ last_left s gone x f a is left has last = record {
 sharer_left : (s : Space) (gone rest : List Page) (x : Page) (f : ℕ) (a : Holdings) → FramesAreSound s → Shares x f → AreWithin s gone (x ∷ rest) → IsLeft s gone a → IsLeft s (x ∷ gone) (sharer_gone f a)
 sharer_left s gone rest x f a sound is within left =
     let has = has_sharers s gone rest x f a sound is within left in
-    let mark : fewer_sharers 1 (get_or a.marks f Plain) ≡ fewer_sharers (1 + tally (shares f) gone) (Sharers has.hash (sharers s f)) = ap (fewer_sharers 1) has.mark ∙ fewer_more (tally (shares f) gone) (sharers s f) has.hash has.less in
+    let mark : fewer_sharers 1 (get_or a.marks f Plain) ≡ fewer_sharers (1 + tally (shares f) gone) (counting has.hash (sharers s f)) = ap (fewer_sharers 1) has.mark ∙ fewer_more (tally (shares f) gone) (sharers s f) has.hash has.less in
     elim (cases_lt (1 + tally (shares f) gone) (sharers s f)) [
-      | inl more ↦ with_mark s gone x f a (Sharers has.hash (sharers s f - (1 + tally (shares f) gone))) (mark ∙ some_left (1 + tally (shares f) gone) (sharers s f) has.hash more) (more_left s gone x f a is left has more)
+      | inl more ↦ with_mark s gone x f a (counting has.hash (sharers s f - (1 + tally (shares f) gone))) (mark ∙ some_left (1 + tally (shares f) gone) (sharers s f) has.hash more)
+          (subst (λ b. IsLeft s (x ∷ gone) (record { pool = cond b (freed a.pool f) a.pool; marks = slice_set a.marks f (counting has.hash (sharers s f - (1 + tally (shares f) gone))) })) (sym (not_plain (sharers s f - (1 + tally (shares f) gone)) has.hash)) (more_left s gone x f a is left has more))
       | inr last ↦ with_mark s gone x f a Plain (mark ∙ none_left (1 + tally (shares f) gone) (sharers s f) has.hash last) (last_left s gone x f a is left has last)
     ] where
       with_mark : (s : Space) (gone : List Page) (x : Page) (f : ℕ) (a : Holdings) (mark : Mark) → fewer_sharers 1 (get_or a.marks f Plain) ≡ mark

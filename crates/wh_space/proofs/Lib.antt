@@ -24,3 +24,5 @@ pub mod Charged
 pub mod Numbering
 pub mod Besides
 pub mod Blocks
+pub mod Copying
+pub mod Unshared

@@ -12,10 +12,10 @@ use Rattle.wh_host_model.specs.declared.states.Offer.TheVariants.{Merged}
 use Rattle.wh_host_model.specs.declared.states.Page.{Page}
 use Rattle.wh_host_model.specs.declared.states.Page.TheVariants.{Untouched, Private, Shared, Leaving, LeavingShared, Coming, Swapped}
 use Rattle.wh_host_model.specs.Space.Offers.{FindsHint, FindsShared, IsOffered, joined_to, paired_with, gives_up}
-use Rattle.wh_host_model.specs.Space.Parts.{Occupant, Space, frame_bytes, of_occupant}
+use Rattle.wh_host_model.specs.Space.Parts.{Occupant, Space, frame_bytes, of_occupant, sharers}
 use Rattle.wh_host_model.specs.Space.Sound.{HasHash, HasTable, IsSound, Names}
-use Rattle.wh_host_model.specs.Space.States.{count, owns, page_at, shares}
-use Rattle.wh_host_model.proofs.Space.Merging.{offers_soundly}
+use Rattle.wh_host_model.specs.Space.States.{count, owns, page_at, shares, untouched}
+use Rattle.wh_host_model.proofs.Space.Merging.{alone_soundly}
 use Rattle.wh_host_model.proofs.Space.Offered.{owned as owned_frame, plain_before, zeroed_sound}
 use Rattle.wh_host_model.proofs.Space.Putting.{get_pages, is_page, set_same, there_of}
 use Rattle.wh_host_model.proofs.Space.Reading.{owned_taken, shared_taken, taken_under}
@@ -65,7 +65,7 @@ none_stays s f g j q hash sound found = λ other has. absurd
 
 -- ---- how many pages share a frame
 
-one_most : (f g : ℕ) → one_if f g ≤ 1
+pub one_most : (f g : ℕ) → one_if f g ≤ 1
 one_most f g = grind (arith, nat_tests)
 
 page_most : (f g : ℕ) (x : Page) → shares f x + owns g x ≤ 1
@@ -81,7 +81,7 @@ row_most : (f g : ℕ) (table : List Page) → tally (shares f) table + tally (o
 row_most f g [] = omega arith
 row_most f g (x ∷ table) = let a = page_most f g x in let b = row_most f g table in omega arith
 
-table_most : (o : Option Occupant) (table : List Page) → HasTable o table → length table ≤ of_occupant (λ t. t.min) o + of_occupant (λ t. (t.max - t.min) + 1) o
+pub table_most : (o : Option Occupant) (table : List Page) → HasTable o table → length table ≤ of_occupant (λ t. t.min) o + of_occupant (λ t. (t.max - t.min) + 1) o
 table_most None table has = rw has (omega arith)
 table_most (Some t) table has = let a = has.1 in let b = has.2 in omega arith
 
@@ -105,6 +105,38 @@ few_sharers s i p g f n hash sound few there found =
     let slots = sound.admissible.1 in
     omega (arith, few)
 
+-- so can those of a frame beside a page that is untouched
+untouched_most : (f : ℕ) (x : Page) → shares f x + untouched x ≤ 1
+untouched_most f Untouched = omega arith
+untouched_most f (Private h) = omega arith
+untouched_most f (Shared h) = let a = one_most f h in omega (arith, a)
+untouched_most f (Leaving h) = omega arith
+untouched_most f (LeavingShared h) = let a = one_most f h in omega (arith, a)
+untouched_most f (Coming k) = omega arith
+untouched_most f (Swapped k) = omega arith
+
+untouched_row : (f : ℕ) (table : List Page) → tally (shares f) table + tally untouched table ≤ length table
+untouched_row f [] = omega arith
+untouched_row f (x ∷ table) = let a = untouched_most f x in let b = untouched_row f table in omega (arith, a, b)
+
+untouched_all : (f : ℕ) (os : List (Option Occupant)) (ts : List (List Page)) → length ts ≡ length os → ((i : ℕ) (o : Option Occupant) → slice_get os i ≡ Some o → HasTable o (get_or ts i []))
+    → count (shares f) ts + count untouched ts ≤ tally (of_occupant (λ t. t.min)) os + tally (of_occupant (λ t. (t.max - t.min) + 1)) os
+untouched_all f os [] long have = omega arith
+untouched_all f [] (table ∷ ts) long have = absurd (omega arith)
+untouched_all f (o ∷ os) (table ∷ ts) long have =
+    let a = untouched_row f table in
+    let b = table_most o table (have 0 o refl) in
+    let c = untouched_all f os ts (omega arith) (λ i x is. have (suc i) x is) in
+    omega arith
+
+pub few_beside : (s : Space) (f j p : ℕ) → IsSound s → HasFewPages s → page_at s.tables j p ≡ Some Untouched → sharers s f + 1 < 2 ^ 32
+few_beside s f j p sound few onto =
+    let one = get_pages untouched s.tables j p Untouched onto in
+    let most = untouched_all f s.occupants s.tables sound.occupants.tables sound.occupants.have in
+    let frames = sound.admissible.0 in
+    let slots = sound.admissible.1 in
+    omega (arith, few, one, most, frames, slots)
+
 -- ---- what the memory is then
 
 pub remade_is : (a b : Inside) (tables : List (List Page)) (touched : List (List Bool)) (pool : Pool) (marks : List Mark) → b.occupant_entries ≡ a.occupant_entries → b.slots ≡ a.slots → b.pins ≡ a.pins → b.tax ≡ a.tax
@@ -116,9 +148,9 @@ pub emptied_sound : (s : Space) (i p g : ℕ) → IsSound s → IsOffered s i p 
 emptied_sound s i p g sound offered = untouched_soundly (gives_up s i p g Untouched) i p (zeroed_sound s i p g sound offered)
 
 pub joined_sound : (s : Space) (i p g f hash n : ℕ) → IsSound s → IsOffered s i p g → frame_bytes s g ≢ zero_page → frame_bytes s g ≡ frame_bytes s f → FindsShared s hash f n → IsSound (joined_to s i p g f hash n)
-joined_sound s i p g f hash n sound offered some same found = offers_soundly (λ bytes. hash) s i p hash Merged (joined_to s i p g f hash n) sound (g, f, offered, some, same, inl (n, found, refl))
+joined_sound s i p g f hash n sound offered some same found = alone_soundly (λ bytes. hash) s i p hash Merged (joined_to s i p g f hash n) sound (g, f, offered, some, same, inl (n, found, refl))
 
 pub paired_sound : (s : Space) (i p g f hash j q : ℕ) → IsSound s → IsOffered s i p g → frame_bytes s g ≢ zero_page → frame_bytes s g ≡ frame_bytes s f → f ≢ g → FindsHint s hash f j q → IsOffered s j q f
     → IsSound (paired_with s i p g f hash j q)
 paired_sound s i p g f hash j q sound offered some same apart found other =
-    offers_soundly (λ bytes. hash) s i p hash Merged (paired_with s i p g f hash j q) sound (g, f, offered, some, same, inr (j, q, apart, (found, other, refl), refl))
+    alone_soundly (λ bytes. hash) s i p hash Merged (paired_with s i p g f hash j q) sound (g, f, offered, some, same, inr (j, q, apart, (found, other, refl), refl))

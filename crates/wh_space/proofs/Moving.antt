@@ -10,7 +10,7 @@ use Rattle.wh_host_model.specs.Space.Breaks.{fewer_sharers}
 use Rattle.wh_host_model.specs.Space.Moves.{frame_of, one_fewer}
 use Rattle.wh_host_model.proofs.Space.Sent.{is_sound_sent}
 use Rattle.wh_host_model.proofs.Space.Reading.{taken_under}
-use Rattle.wh_space.proofs.LeavingPages.{shared_entry, some_left}
+use Rattle.wh_space.proofs.LeavingPages.{counting, shared_entry, some_left}
 use Rattle.wh_host_model.specs.declared.states.Page.{Page}
 use Rattle.wh_host_model.specs.declared.states.Page.TheVariants.{Untouched, Private, Shared, Leaving, LeavingShared, Coming, Swapped}
 use Rattle.wh_host_model.specs.declared.states.Slot.{Slot}
@@ -293,17 +293,21 @@ may_depart a j p can =
 -- ---- a page that is in its slot
 
 -- an entry with one sharer fewer, for a frame that several share
-fewer_is : (s : Space) (f : ℕ) → FramesAreSound s → f < length s.marks
+pub fewer_is : (s : Space) (f : ℕ) → FramesAreSound s → f < length s.marks
     → cond (nat_lt 1 (sharers s f)) (fewer_sharers 1 (get_or s.marks f Plain)) Plain ≡ cond (nat_lt 1 (sharers s f)) (one_fewer (slice_get s.marks f)) Plain
 fewer_is s f sound within = elim (cases_lt 1 (sharers s f)) [
   | inl more ↦
       (let entry = shared_entry s f sound within (omega arith) in
-      let mark = get_or_is s.marks f (Sharers entry.0 (sharers s f)) Plain entry.1 in
-      let one : fewer_sharers 1 (get_or s.marks f Plain) ≡ Sharers entry.0 (sharers s f - 1) = ap (fewer_sharers 1) mark ∙ some_left 1 (sharers s f) entry.0 more in
-      let two : one_fewer (slice_get s.marks f) ≡ Sharers entry.0 (sharers s f - 1) = ap one_fewer entry.1 in
+      let mark = get_or_is s.marks f (counting entry.0 (sharers s f)) Plain entry.1 in
+      let one : fewer_sharers 1 (get_or s.marks f Plain) ≡ counting entry.0 (sharers s f - 1) = ap (fewer_sharers 1) mark ∙ some_left 1 (sharers s f) entry.0 more in
+      let two : one_fewer (slice_get s.marks f) ≡ counting entry.0 (sharers s f - 1) = ap one_fewer entry.1 ∙ one_less entry.0 (sharers s f) in
       ap (λ (m : Mark). cond (nat_lt 1 (sharers s f)) m Plain) (one ∙ sym two))
   | inr few ↦ few_same (sharers s f) (fewer_sharers 1 (get_or s.marks f Plain)) (one_fewer (slice_get s.marks f)) few
 ] where
+  one_less : (hash : Option ℕ) (n : ℕ) → one_fewer (Some (counting hash n)) ≡ counting hash (n - 1)
+  one_less None n = refl
+  one_less (Some hash) n = refl
+
   few_same : (n : ℕ) (a b : Mark) → n ≤ 1 → cond (nat_lt 1 n) a Plain ≡ cond (nat_lt 1 n) b Plain
   few_same n a b few = grind (arith, nat_tests)
 

@@ -2,7 +2,7 @@
 use Rattle.std.specs.Prelude.{ℕ, ◌<◌, ◌++◌, cond, Bool, true, false, List, [], ◌∷◌, length, get_or, slice_set}
 use Rattle.wh_host_model.specs.Frames.{IsTaken, Pool}
 use Rattle.wh_host_model.specs.declared.states.Mark.{Mark}
-use Rattle.wh_host_model.specs.declared.states.Mark.TheVariants.{Plain, Hint, Sharers}
+use Rattle.wh_host_model.specs.declared.states.Mark.TheVariants.{Plain, Hint, Sharers, Unlisted}
 use Rattle.wh_host_model.specs.declared.states.Page.{Page}
 use Rattle.wh_host_model.specs.declared.states.Page.TheVariants.{Untouched, Private, Shared, Leaving, LeavingShared, Coming, Swapped}
 use Rattle.wh_host_model.specs.Space.Breaks.{fewer_sharers}
@@ -21,6 +21,7 @@ abbrev pub is_plain : Mark → Bool
 is_plain Plain = true
 is_plain (Hint hash i p) = false
 is_plain (Sharers hash n) = false
+is_plain (Unlisted n) = false
 
 -- the page goes that was alone on frame f; one of its sharers does, and with the last one it is free
 abbrev pub owner_gone : ℕ → Holdings → Holdings

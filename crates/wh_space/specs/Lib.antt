@@ -1,10 +1,12 @@
 pub mod Arrivals
 pub mod Claiming
 pub mod Counts
+pub mod Forks
 pub mod TicketOwners
 pub mod OccupantEntries
 pub mod Lacking
 pub mod Leaving
+pub mod Listing
 pub mod Merges
 pub mod Numbered
 pub mod UnchangedTables

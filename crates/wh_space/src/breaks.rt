@@ -22,7 +22,7 @@ impl Memory {
         match self.content.mark(frame) {
             Mark::Plain => 0,
             Mark::Hint { .. } => 0,
-            Mark::Sharers { count, .. } => count,
+            Mark::Sharers { count, .. } | Mark::Unlisted { count } => count,
         }
     }
 

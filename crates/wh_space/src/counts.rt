@@ -15,7 +15,7 @@ fn sharers_under(mark: Mark) -> u32
     match mark {
         Mark::Plain => 0,
         Mark::Hint { .. } => 0,
-        Mark::Sharers { count, .. } => count,
+        Mark::Sharers { count, .. } | Mark::Unlisted { count } => count,
     }
 }
 
@@ -27,7 +27,7 @@ fn is_shared_under(mark: Mark) -> u32
     match mark {
         Mark::Plain => 0,
         Mark::Hint { .. } => 0,
-        Mark::Sharers { .. } => 1,
+        Mark::Sharers { .. } | Mark::Unlisted { .. } => 1,
     }
 }
 

@@ -35,7 +35,7 @@ fn as_it_was(page: Page) -> Page
 }
 
 // A page has left a frame that so many pages shared. If others do they are one fewer, and else the frame is free.
-fn leave_frame(content: &mut Table, pool: &mut FramePool, frame: u32, sharers: u32)
+pub fn leave_frame(content: &mut Table, pool: &mut FramePool, frame: u32, sharers: u32)
     requires taken { IsTaken pool.old frame }
     requires entry { frame < length content.old }
     ensures marks { content.new ≡ slice_set content.old frame

@@ -1,0 +1,9 @@
+use Rattle.std.proofs.Common.{ℕ, ◌≡◌, ◌<◌, Some}
+use Rattle.wh_host_model.specs.declared.states.Page.{Page}
+use Rattle.wh_host_model.specs.Space.States.{page_at}
+use Rattle.wh_space.specs.Forks.{IsHere}
+use Rattle.wh_space.proofs.memory.Memory.is_away.Given as goal
+
+-- the first pages are here
+abbrev pub invariant-loop-number : goal.invariant-loop-number
+invariant-loop-number l = (q : ℕ) (page : Page) → q < l.number → page_at l.self.tables l.place q ≡ Some page → IsHere page
