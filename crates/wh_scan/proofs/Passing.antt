@@ -5,7 +5,7 @@ use Rattle.std.proofs.lemmas.Bool.{cases_lt}
 use Rattle.wh_host_model.specs.declared.states.Offer.{Offer}
 use Rattle.wh_host_model.specs.declared.states.Offer.TheVariants.{Skipped, Zeroed, Hinted, Stale, Merged, FalseMatch}
 use Rattle.wh_host_model.specs.declared.states.Page.{Page}
-use Rattle.wh_host_model.specs.Space.Offers.{Offers}
+use Rattle.wh_host_model.specs.Space.Offers.{Offers, OffersAlone, OffersUnlisted}
 use Rattle.wh_host_model.specs.Space.Parts.{Occupant, Space, backing}
 use Rattle.wh_host_model.specs.Space.Scanning.{IsHashOf, Scans}
 use Rattle.wh_host_model.specs.Space.Sound.{HasTable, IsSound}
@@ -29,15 +29,30 @@ scans_one hashes s xs i p hash answer mid s2 first is offers = scans_on hashes s
 
 -- ---- there are as few pages
 
+alone_few : (hashes : List ℕ → ℕ) (s : Space) (i p hash : ℕ) (answer : Offer) (s2 : Space)
+    → OffersAlone hashes s i p hash answer s2 → HasFewPages s → HasFewPages s2
+alone_few hashes s i p hash Skipped s2 (is, why) few = subst HasFewPages (sym is) few
+alone_few hashes s i p hash FalseMatch s2 (is, why) few = subst HasFewPages (sym is) few
+alone_few hashes s i p hash Zeroed s2 (g, offered, zeros, is) few = subst HasFewPages (sym is) few
+alone_few hashes s i p hash Hinted s2 (g, offered, some, none, is) few = subst HasFewPages (sym is) few
+alone_few hashes s i p hash Stale s2 (g, f, j, q, offered, some, found, apart, other, changed, is) few = subst HasFewPages (sym is) few
+alone_few hashes s i p hash Merged s2 (g, f, offered, some, same, inl (n, found, is)) few = subst HasFewPages (sym is) few
+alone_few hashes s i p hash Merged s2 (g, f, offered, some, same, inr (j, q, apart, hint, is)) few = subst HasFewPages (sym is) few
+
+unlisted_few : (hashes : List ℕ → ℕ) (s : Space) (i p hash : ℕ) (answer : Offer) (s2 : Space)
+    → OffersUnlisted hashes s i p hash answer s2 → HasFewPages s → HasFewPages s2
+unlisted_few hashes s i p hash Skipped s2 (is, why) few = subst HasFewPages (sym is) few
+unlisted_few hashes s i p hash FalseMatch s2 (is, why) few = subst HasFewPages (sym is) few
+unlisted_few hashes s i p hash Zeroed s2 (f, n, may, zeros, is) few = subst HasFewPages (sym is) few
+unlisted_few hashes s i p hash Hinted s2 (f, n, may, some, none, is) few = subst HasFewPages (sym is) few
+unlisted_few hashes s i p hash Stale s2 (f, n, g, j, q, may, some, found, offered, changed, is) few = subst HasFewPages (sym is) few
+unlisted_few hashes s i p hash Merged s2 (f, n, g, may, some, same, inl (m, found, is)) few = subst HasFewPages (sym is) few
+unlisted_few hashes s i p hash Merged s2 (f, n, g, may, some, same, inr (j, q, hint, is)) few = subst HasFewPages (sym is) few
+
 offers_few : (hashes : List ℕ → ℕ) (s : Space) (i p hash : ℕ) (answer : Offer) (s2 : Space)
     → Offers hashes s i p hash answer s2 → HasFewPages s → HasFewPages s2
-offers_few hashes s i p hash Skipped s2 (is, why) few = subst HasFewPages (sym is) few
-offers_few hashes s i p hash FalseMatch s2 (is, why) few = subst HasFewPages (sym is) few
-offers_few hashes s i p hash Zeroed s2 (g, offered, zeros, is) few = subst HasFewPages (sym is) few
-offers_few hashes s i p hash Hinted s2 (g, offered, some, none, is) few = subst HasFewPages (sym is) few
-offers_few hashes s i p hash Stale s2 (g, f, j, q, offered, some, found, apart, other, changed, is) few = subst HasFewPages (sym is) few
-offers_few hashes s i p hash Merged s2 (g, f, offered, some, same, inl (n, found, is)) few = subst HasFewPages (sym is) few
-offers_few hashes s i p hash Merged s2 (g, f, offered, some, same, inr (j, q, apart, hint, is)) few = subst HasFewPages (sym is) few
+offers_few hashes s i p hash answer s2 (inl o) few = alone_few hashes s i p hash answer s2 o few
+offers_few hashes s i p hash answer s2 (inr o) few = unlisted_few hashes s i p hash answer s2 o few
 
 pub scans_few : (hashes : List ℕ → ℕ) (s : Space) (xs : List (ℕ × ℕ)) (s2 : Space) → Scans hashes s xs s2
     → HasFewPages s → HasFewPages s2
@@ -58,15 +73,30 @@ scans_rows hashes s xs s2 i sound scans =
     sym (row_of (backing s2) s2.tables i) ∙ (ap (λ (z : List (List (List ℕ))). length (get_or z i [])) same ∙ row_of (backing s) s.tables i)
 
 -- nor does an instance
+alone_occupants : (hashes : List ℕ → ℕ) (s : Space) (i p hash : ℕ) (answer : Offer) (s2 : Space)
+    → OffersAlone hashes s i p hash answer s2 → s2.occupants ≡ s.occupants
+alone_occupants hashes s i p hash Skipped s2 (is, why) = ap (λ (z : Space). z.occupants) is
+alone_occupants hashes s i p hash FalseMatch s2 (is, why) = ap (λ (z : Space). z.occupants) is
+alone_occupants hashes s i p hash Zeroed s2 (g, offered, zeros, is) = ap (λ (z : Space). z.occupants) is
+alone_occupants hashes s i p hash Hinted s2 (g, offered, some, none, is) = ap (λ (z : Space). z.occupants) is
+alone_occupants hashes s i p hash Stale s2 (g, f, j, q, offered, some, found, apart, other, changed, is) = ap (λ (z : Space). z.occupants) is
+alone_occupants hashes s i p hash Merged s2 (g, f, offered, some, same, inl (n, found, is)) = ap (λ (z : Space). z.occupants) is
+alone_occupants hashes s i p hash Merged s2 (g, f, offered, some, same, inr (j, q, apart, hint, is)) = ap (λ (z : Space). z.occupants) is
+
+unlisted_occupants : (hashes : List ℕ → ℕ) (s : Space) (i p hash : ℕ) (answer : Offer) (s2 : Space)
+    → OffersUnlisted hashes s i p hash answer s2 → s2.occupants ≡ s.occupants
+unlisted_occupants hashes s i p hash Skipped s2 (is, why) = ap (λ (z : Space). z.occupants) is
+unlisted_occupants hashes s i p hash FalseMatch s2 (is, why) = ap (λ (z : Space). z.occupants) is
+unlisted_occupants hashes s i p hash Zeroed s2 (f, n, may, zeros, is) = ap (λ (z : Space). z.occupants) is
+unlisted_occupants hashes s i p hash Hinted s2 (f, n, may, some, none, is) = ap (λ (z : Space). z.occupants) is
+unlisted_occupants hashes s i p hash Stale s2 (f, n, g, j, q, may, some, found, offered, changed, is) = ap (λ (z : Space). z.occupants) is
+unlisted_occupants hashes s i p hash Merged s2 (f, n, g, may, some, same, inl (m, found, is)) = ap (λ (z : Space). z.occupants) is
+unlisted_occupants hashes s i p hash Merged s2 (f, n, g, may, some, same, inr (j, q, hint, is)) = ap (λ (z : Space). z.occupants) is
+
 offers_occupants : (hashes : List ℕ → ℕ) (s : Space) (i p hash : ℕ) (answer : Offer) (s2 : Space)
     → Offers hashes s i p hash answer s2 → s2.occupants ≡ s.occupants
-offers_occupants hashes s i p hash Skipped s2 (is, why) = ap (λ (z : Space). z.occupants) is
-offers_occupants hashes s i p hash FalseMatch s2 (is, why) = ap (λ (z : Space). z.occupants) is
-offers_occupants hashes s i p hash Zeroed s2 (g, offered, zeros, is) = ap (λ (z : Space). z.occupants) is
-offers_occupants hashes s i p hash Hinted s2 (g, offered, some, none, is) = ap (λ (z : Space). z.occupants) is
-offers_occupants hashes s i p hash Stale s2 (g, f, j, q, offered, some, found, apart, other, changed, is) = ap (λ (z : Space). z.occupants) is
-offers_occupants hashes s i p hash Merged s2 (g, f, offered, some, same, inl (n, found, is)) = ap (λ (z : Space). z.occupants) is
-offers_occupants hashes s i p hash Merged s2 (g, f, offered, some, same, inr (j, q, apart, hint, is)) = ap (λ (z : Space). z.occupants) is
+offers_occupants hashes s i p hash answer s2 (inl o) = alone_occupants hashes s i p hash answer s2 o
+offers_occupants hashes s i p hash answer s2 (inr o) = unlisted_occupants hashes s i p hash answer s2 o
 
 pub scans_occupants : (hashes : List ℕ → ℕ) (s : Space) (xs : List (ℕ × ℕ)) (s2 : Space) → Scans hashes s xs s2 → s2.occupants ≡ s.occupants
 scans_occupants hashes s [] s2 is = ap (λ (z : Space). z.occupants) is
