@@ -7,7 +7,7 @@ use Rattle.wh_host_model.specs.declared.states.Slot.{Slot}
 use Rattle.wh_host_model.specs.declared.states.Slot.TheVariants.{Vacant, Taken, Evicting, EvictVoid, Fetching, FetchVoid}
 use Rattle.wh_host_model.specs.Space.Errands.{Pass, errand_for, pass_of}
 use Rattle.wh_host_model.specs.Space.Moves.{has_pins, unpinned}
-use Rattle.wh_host_model.specs.Space.Offers.{Offers}
+use Rattle.wh_host_model.specs.Space.Offers.{Offers, OffersAlone, OffersUnlisted}
 use Rattle.wh_host_model.specs.Space.Parts.{Space}
 use Rattle.wh_host_model.specs.Space.Places.{Exits, released_use}
 use Rattle.wh_host_model.specs.Space.Scanning.{Scans}
@@ -105,14 +105,27 @@ exits_backing s i s2 exits =
 
 -- ---- offers
 
+alone_backing : (hashes : List ℕ → ℕ) (s : Space) (i p hash : ℕ) (answer : Offer) (s2 : Space) → OffersAlone hashes s i p hash answer s2 → KeepsBacking s s2
+alone_backing hashes s i p hash Skipped s2 (is, why) = same_backing s s2 is
+alone_backing hashes s i p hash FalseMatch s2 (is, why) = same_backing s s2 is
+alone_backing hashes s i p hash Hinted s2 (g, offered, some, none, is) = backs _ _ (ap pass_of is) (ap (λ (a : Space). length a.pool.frames) is) (ap (λ (a : Space). a.tax) is)
+alone_backing hashes s i p hash Stale s2 (g, f, j, q, offered, some, found, apart, other, changed, is) = backs _ _ (ap pass_of is) (ap (λ (a : Space). length a.pool.frames) is) (ap (λ (a : Space). a.tax) is)
+alone_backing hashes s i p hash Zeroed s2 (g, offered, zeros, is) = backs _ _ (ap pass_of is) (ap (λ (a : Space). length a.pool.frames) is) (ap (λ (a : Space). a.tax) is)
+alone_backing hashes s i p hash Merged s2 (g, f, offered, some, same, inl (n, found, is)) = backs _ _ (ap pass_of is) (ap (λ (a : Space). length a.pool.frames) is) (ap (λ (a : Space). a.tax) is)
+alone_backing hashes s i p hash Merged s2 (g, f, offered, some, same, inr (j, q, apart, hint, is)) = backs _ _ (ap pass_of is) (ap (λ (a : Space). length a.pool.frames) is) (ap (λ (a : Space). a.tax) is)
+
+unlisted_backing : (hashes : List ℕ → ℕ) (s : Space) (i p hash : ℕ) (answer : Offer) (s2 : Space) → OffersUnlisted hashes s i p hash answer s2 → KeepsBacking s s2
+unlisted_backing hashes s i p hash Skipped s2 (is, why) = same_backing s s2 is
+unlisted_backing hashes s i p hash FalseMatch s2 (is, why) = same_backing s s2 is
+unlisted_backing hashes s i p hash Hinted s2 (f, n, may, some, none, is) = backs _ _ (ap pass_of is) (ap (λ (a : Space). length a.pool.frames) is) (ap (λ (a : Space). a.tax) is)
+unlisted_backing hashes s i p hash Stale s2 (f, n, g, j, q, may, some, found, offered, changed, is) = backs _ _ (ap pass_of is) (ap (λ (a : Space). length a.pool.frames) is) (ap (λ (a : Space). a.tax) is)
+unlisted_backing hashes s i p hash Zeroed s2 (f, n, may, zeros, is) = backs _ _ (ap pass_of is) (ap (λ (a : Space). length a.pool.frames) is) (ap (λ (a : Space). a.tax) is)
+unlisted_backing hashes s i p hash Merged s2 (f, n, g, may, some, same, inl (m, found, is)) = backs _ _ (ap pass_of is) (ap (λ (a : Space). length a.pool.frames) is) (ap (λ (a : Space). a.tax) is)
+unlisted_backing hashes s i p hash Merged s2 (f, n, g, may, some, same, inr (j, q, hint, is)) = backs _ _ (ap pass_of is) (ap (λ (a : Space). length a.pool.frames) is) (ap (λ (a : Space). a.tax) is)
+
 pub offers_backing : (hashes : List ℕ → ℕ) (s : Space) (i p hash : ℕ) (answer : Offer) (s2 : Space) → Offers hashes s i p hash answer s2 → KeepsBacking s s2
-offers_backing hashes s i p hash Skipped s2 (is, why) = same_backing s s2 is
-offers_backing hashes s i p hash FalseMatch s2 (is, why) = same_backing s s2 is
-offers_backing hashes s i p hash Hinted s2 (g, offered, some, none, is) = backs _ _ (ap pass_of is) (ap (λ (a : Space). length a.pool.frames) is) (ap (λ (a : Space). a.tax) is)
-offers_backing hashes s i p hash Stale s2 (g, f, j, q, offered, some, found, apart, other, changed, is) = backs _ _ (ap pass_of is) (ap (λ (a : Space). length a.pool.frames) is) (ap (λ (a : Space). a.tax) is)
-offers_backing hashes s i p hash Zeroed s2 (g, offered, zeros, is) = backs _ _ (ap pass_of is) (ap (λ (a : Space). length a.pool.frames) is) (ap (λ (a : Space). a.tax) is)
-offers_backing hashes s i p hash Merged s2 (g, f, offered, some, same, inl (n, found, is)) = backs _ _ (ap pass_of is) (ap (λ (a : Space). length a.pool.frames) is) (ap (λ (a : Space). a.tax) is)
-offers_backing hashes s i p hash Merged s2 (g, f, offered, some, same, inr (j, q, apart, hint, is)) = backs _ _ (ap pass_of is) (ap (λ (a : Space). length a.pool.frames) is) (ap (λ (a : Space). a.tax) is)
+offers_backing hashes s i p hash answer s2 (inl o) = alone_backing hashes s i p hash answer s2 o
+offers_backing hashes s i p hash answer s2 (inr o) = unlisted_backing hashes s i p hash answer s2 o
 
 pub scans_backing : (hashes : List ℕ → ℕ) (s : Space) (pages : List (ℕ × ℕ)) (s2 : Space) → Scans hashes s pages s2 → KeepsBacking s s2
 scans_backing hashes s [] s2 is = same_backing s s2 is

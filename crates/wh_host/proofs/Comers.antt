@@ -156,6 +156,7 @@ admitted_here h w k p m a x place rs rs1 rs2 s2 st is none b begins are enters u
       rest = rest_of s;
       doing = made.0;
       ended = made.1;
+      copied = 0;
       open_calls = made.2;
       waiting_for = None;
       dead = false;
@@ -199,6 +200,7 @@ admitted_here h w k p m a x place rs rs1 rs2 s2 st is none b begins are enters u
       is_loaded = ap (slice_get h.modules) begins.of ∙ is;
       given = subst (λ g. AreGivenAs g p) (sym begins.given) (record { shares = b.shares; min = b.min; max = b.max; fuel = b.fuel; base = refl; salt = refl });
       limit = omega (arith, limits, most);
+      own = refl;
       is = over;
     } in
     let vacant : entry_at h.entries place ≡ None = ap (λ (zs : List (Option InstanceEntry)). entry_at zs place) (sym are) ∙ enters.vacant in

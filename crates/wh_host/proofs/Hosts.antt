@@ -180,18 +180,20 @@ moved_on modules x s s2 i t r sees = record {
   is_loaded = r.is_loaded;
   given = r.given;
   limit = r.limit;
+  own = r.own;
   is = subst (λ b. IsTenant r.loaded.linked x.page_limit x.tenant b t) (sym sees) r.is;
 }
 
 -- and another one of the same owner, over what that one sees
-pub same_owner : (modules : List LoadedModule) (x : InstanceEntry) (s s2 : Space) (i : ℕ) (t t2 : Tenant) (z : HostInstanceState) → (r : IsEntryOf modules x s i t) → t2.of ≡ t.of → t2.params ≡ t.params → IsTenant r.loaded.linked x.page_limit z (view s2 t2.place) t2 → IsEntryOf modules (record x { tenant = z }) s2 i t2
-same_owner modules x s s2 i t t2 z r of params is = record {
+pub same_owner : (modules : List LoadedModule) (x : InstanceEntry) (s s2 : Space) (i : ℕ) (t t2 : Tenant) (z : HostInstanceState) → (r : IsEntryOf modules x s i t) → t2.of ≡ t.of → t2.params ≡ t.params → t2.copied ≡ t.copied → IsTenant r.loaded.linked x.page_limit z (view s2 t2.place) t2 → IsEntryOf modules (record x { tenant = z }) s2 i t2
+same_owner modules x s s2 i t t2 z r of params copied is = record {
   number = r.number;
   of = r.of ∙ sym of;
   loaded = r.loaded;
   is_loaded = r.is_loaded;
   given = subst (AreGivenAs x.given) (sym params) r.given;
   limit = subst (λ (p : Params). x.page_limit ≤ p.max / 16) (sym params) r.limit;
+  own = copied ∙ r.own;
   is = is;
 }
 
@@ -250,19 +252,20 @@ pub record StaysIn (s s2 : Space) (t t2 : Tenant) : Type 0 where
   pub place : t2.place ≡ t.place
   pub of : t2.of ≡ t.of
   pub params : t2.params ≡ t.params
+  pub copied : t2.copied ≡ t.copied
   pub others : OthersLeftAlone t.place s s2
 
 pub closed_stays : (s s0 : Space) (t : Tenant) {e : _} {es : _} {r : _} (t2 : Tenant) → Closes s t e es r t2 → OthersLeftAlone t.place s0 s → StaysIn s0 s t t2
-closed_stays s s0 t t2 (faces_next alive faces) others = record { place = refl; of = refl; params = refl; others = others }
-closed_stays s s0 t t2 (is_dead died) others = record { place = refl; of = refl; params = refl; others = others }
+closed_stays s s0 t t2 (faces_next alive faces) others = record { place = refl; of = refl; params = refl; copied = refl; others = others }
+closed_stays s s0 t t2 (is_dead died) others = record { place = refl; of = refl; params = refl; copied = refl; others = others }
 
 pub turn_stays : (q : ℕ) (s s2 : Space) (t t2 : Tenant) (answer : TurnEnd) → Turn q s t answer s2 t2 → StaysIn s s2 t t2
-turn_stays q s s2 t t2 answer (is_idle none) = record { place = refl; of = refl; params = refl; others = (apart_none t.place s).others }
+turn_stays q s s2 t t2 answer (is_idle none) = record { place = refl; of = refl; params = refl; copied = refl; others = (apart_none t.place s).others }
 turn_stays q s s2 t t2 answer (has_ended {e = e} is_open goes alone pins closes) = closed_stays s2 s t t2 closes (apart_then (proceeds_apart t e goes) (apart_steps alone.steps)).others
-turn_stays q s s2 t t2 answer (has_no_fuel {e = e} is_open goes alone pins) = record { place = refl; of = refl; params = refl; others = (apart_then (proceeds_apart t e goes) (apart_steps alone.steps)).others }
-turn_stays q s s2 t t2 answer (has_no_frame {e = e} is_open goes alone pins) = record { place = refl; of = refl; params = refl; others = (apart_then (proceeds_apart t e goes) (apart_steps alone.steps)).others }
-turn_stays q s s2 t t2 answer (can_go_on {e = e} is_open goes alone pins keeps) = record { place = refl; of = refl; params = refl; others = (apart_then (proceeds_apart t e goes) (apart_steps alone.steps)).others }
-turn_stays q s s2 t t2 answer (keeps_its_fault is_open stands doing none next left ready) = record { place = refl; of = refl; params = refl; others = (apart_none t.place s).others }
+turn_stays q s s2 t t2 answer (has_no_fuel {e = e} is_open goes alone pins) = record { place = refl; of = refl; params = refl; copied = refl; others = (apart_then (proceeds_apart t e goes) (apart_steps alone.steps)).others }
+turn_stays q s s2 t t2 answer (has_no_frame {e = e} is_open goes alone pins) = record { place = refl; of = refl; params = refl; copied = refl; others = (apart_then (proceeds_apart t e goes) (apart_steps alone.steps)).others }
+turn_stays q s s2 t t2 answer (can_go_on {e = e} is_open goes alone pins keeps) = record { place = refl; of = refl; params = refl; copied = refl; others = (apart_then (proceeds_apart t e goes) (apart_steps alone.steps)).others }
+turn_stays q s s2 t t2 answer (keeps_its_fault is_open stands doing none next left ready) = record { place = refl; of = refl; params = refl; copied = refl; others = (apart_none t.place s).others }
 
 -- of nobody
 pub idle_host : (h : HostState) (w : World) (id : InstId) (q : ℕ) → IsHost h w → NoInstance w id → (w2 : World) × IsTurn w id q Idle w2 × IsHost h w2
@@ -277,7 +280,7 @@ turned_host h w id q x z answer s2 st at number f to =
     let w2 = with_tenant w id.number (Some t2) s2 in
     let happens : IsTurn w id q answer w2 = of_one (f.live, f.at) to.1 in
     let over : IsTenant f.is.loaded.linked x.page_limit z (view s2 t2.place) t2 = subst (λ i. IsTenant f.is.loaded.linked x.page_limit z (view s2 i) t2) (sym to.2.place_is) to.2.is in
-    let represents = same_owner h.modules x w.space s2 id.number f.t t2 z f.is stays.of stays.params over in
+    let represents = same_owner h.modules x w.space s2 id.number f.t t2 z f.is stays.of stays.params stays.copied over in
     let sees : (j : ℕ) → j ≢ id.place → view s2 j ≡ view w.space j = λ j other. (stays.others j (λ e. other (e ∙ f.at))).view in
     (w2, happens, changed h w id.place id.number x (record x { tenant = z }) t2 s2 st at number to.2.place_is represents sees (comes_on w w2 (turn id q) st.comes (answer, happens)))
 
@@ -320,7 +323,7 @@ series_here h w id q turns n x z m end s2 st at number is used ends =
     let stays = turn_stays few w.space s2 f.t t2 end its_turn in
     let w2 = with_tenant w id.number (Some t2) s2 in
     let over : IsTenant f.is.loaded.linked x.page_limit z (view s2 t2.place) t2 = subst (λ i. IsTenant f.is.loaded.linked x.page_limit z (view s2 i) t2) (sym lies2.place_is) lies2.is in
-    let represents = same_owner h.modules x w.space s2 id.number f.t t2 z f.is stays.of stays.params over in
+    let represents = same_owner h.modules x w.space s2 id.number f.t t2 z f.is stays.of stays.params stays.copied over in
     let sees : (j : ℕ) → j ≢ id.place → view s2 j ≡ view w.space j = λ j other. (stays.others j (λ e. other (e ∙ f.at))).view in
     let happens : IsTurn w id few end w2 = of_one (f.live, f.at) its_turn in
     let claimed : claim w.space f.t.place ≡ Some lies.claimed = ap (claim w.space) f.at ∙ lies.claim_is in (
@@ -340,12 +343,13 @@ pub record SameTenant (t t2 : Tenant) : Type 0 where
   pub place : t2.place ≡ t.place
   pub of : t2.of ≡ t.of
   pub params : t2.params ≡ t.params
+  pub copied : t2.copied ≡ t.copied
 
 pub refuel_stays : (t : Tenant) (n : ℕ) (t2 : Tenant) → Refuels t n t2 → SameTenant t t2
-refuel_stays t n t2 (has_more is_open stands) = record { place = refl; of = refl; params = refl }
+refuel_stays t n t2 (has_more is_open stands) = record { place = refl; of = refl; params = refl; copied = refl }
 
 pub retry_stays : (t t2 : Tenant) → Retries t t2 → SameTenant t t2
-retry_stays t t2 (may_try is_open stands) = record { place = refl; of = refl; params = refl }
+retry_stays t t2 (may_try is_open stands) = record { place = refl; of = refl; params = refl; copied = refl }
 
 pub asked_found : (h : HostState) (w : World) (id : InstId) (x : InstanceEntry) (z : HostInstanceState) (R : Tenant → Tenant → Type 0) → (st : IsHost h w) → entry_at h.entries id.place ≡ Some x → x.number ≡ Some id.number
     → ((t t2 : Tenant) → R t t2 → SameTenant t t2) → (f : Found h w id.place id.number x) → (t2 : Tenant) × R f.t t2 × IsTenant f.is.loaded.linked x.page_limit z (view w.space f.t.place) t2
@@ -357,7 +361,7 @@ asked_found h w id x z R st at number stays f made e happens =
     let live : IsLive w id f.t = (f.live, f.at) in
     let y : InstanceEntry = record x { tenant = z } in
     let over : IsTenant f.is.loaded.linked x.page_limit z (view w.space t2.place) t2 = subst (λ i. IsTenant f.is.loaded.linked x.page_limit z (view w.space i) t2) (sym alike.place) made.2 in
-    let represents = same_owner h.modules x w.space w.space id.number f.t t2 z f.is alike.of alike.params over in
+    let represents = same_owner h.modules x w.space w.space id.number f.t t2 z f.is alike.of alike.params alike.copied over in
     let w2 = with_tenant w id.number (Some t2) w.space in
     let then = changed h w id.place id.number x y t2 w.space st at number (alike.place ∙ f.at) represents (λ j other. refl) (comes_on w w2 e st.comes (happens f.t t2 live made.1)) in
     let rs = slice_set h.entries id.place (Some y) in

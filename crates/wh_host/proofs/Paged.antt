@@ -110,7 +110,7 @@ fault_here h w id x z awaits fault e s2 st at number same keeps happens =
     let y : InstanceEntry = record x { tenant = z } in
     let sees : view s2 f.t.place ≡ view w.space f.t.place = (same.0 f.t.place).view in
     let over : IsTenant f.is.loaded.linked x.page_limit z (view s2 t2.place) t2 = subst (λ b. IsTenant f.is.loaded.linked x.page_limit z b t2) (sym sees) made.1 in
-    let represents = same_owner h.modules x w.space s2 id.number f.t t2 z f.is refl refl over in
+    let represents = same_owner h.modules x w.space s2 id.number f.t t2 z f.is refl refl refl over in
     let w2 = with_tenant w id.number (Some t2) s2 in
     let moves : MovesPages w id awaits (Some fault) w2 = has_failed same refl (f.live, f.at) made.0 in
     (w2, moves, changed h w id.place id.number x y t2 s2 st at number f.at represents (λ j other. (same.0 j).view) (comes_on w w2 e st.comes (happens w2 moves)))
@@ -130,6 +130,7 @@ resident_on modules x s s2 i t alike r = record {
   is_loaded = r.is_loaded;
   given = r.given;
   limit = r.limit;
+  own = r.own;
   is = represents_on (linked_parts r.loaded.linked) x.page_limit (view s t.place) (view s2 t.place) alike.many x.tenant t r.is;
 }
 

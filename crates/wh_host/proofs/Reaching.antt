@@ -1,5 +1,5 @@
 -- Turns beside others that took no charge stopped where what comes next can't be reached.
-use Rattle.std.proofs.Common.{⊎_elim, ◌≡◌, ◌∙◌, ◌⊎◌, inl, inr, ℕ, suc, ◌+◌, ◌-◌, ◌*◌, ◌<◌, ◌≤◌, true, false, List, [], ◌∷◌, Option, Some, None, length, slice_get, refl, sym, ap, subst, arith}
+use Rattle.std.proofs.Common.{⊎_elim, ◌≡◌, ◌∙◌, ◌⊎◌, inl, inr, ℕ, suc, ◌+◌, ◌-◌, ◌*◌, ◌≤◌, true, List, [], Option, Some, length, slice_get, refl, sym, ap, subst, arith}
 use Rattle.std.proofs.Math.Nat.{one-mul, suc-mul}
 use Rattle.wh_model.specs.declared.memory.Need.{Need}
 use Rattle.wh_model.specs.Execution.Asking.{Asks}
@@ -10,7 +10,6 @@ use Rattle.wh_model.specs.Execution.Store.{Instance}
 use Rattle.wh_model.specs.Execution.Taking.{Takes, took_all, took}
 use Rattle.wh_host_model.specs.declared.plain.InstId.{InstId}
 use Rattle.wh_host_model.specs.Host.Turns.{Opens, as_it_was, Computes, Upshot, to_end, out_of_fuel, to_wait, to_go_on, Proceeds, returns, traps, writes_all, uses_fuel, waits, waits_to_write, has_had_its_turn}
-use Rattle.wh_host_model.specs.Host.Happens.{IsLive}
 use Rattle.wh_host_model.specs.Host.Worlds.{Doing, Rest, Tenant, World, computing, store_with, tenant}
 use Rattle.wh_host_model.specs.Space.Parts.{Space, view}
 use Rattle.wh_instance.specs.Bursts.{AreUsed}
@@ -31,7 +30,7 @@ use Rattle.wh_host.specs.Joining.{HasAnswer, HaveRun, series_end}
 use Rattle.wh_host.specs.Rounds.{EachHadLeave, EachTakesSome, IsOutOfReach}
 use Rattle.wh_host.proofs.BesideTurns.{none_seen}
 use Rattle.wh_host.proofs.Hosts.{found, lies_here}
-use Rattle.wh_host.proofs.RunnerLists.{not_both, taken_or}
+use Rattle.wh_host.proofs.RunnerLists.{taken_or}
 
 -- ---- one that stopped
 

@@ -86,7 +86,7 @@ cancelled_here h w id x z st at number asked =
     let w2 = with_tenant w id.number (Some t2) s2 in
     let happens : IsCancel w id call_ok w2 = is_cancelled (f.live, f.at) cancels in
     let over : IsTenant f.is.loaded.linked x.page_limit z (view s2 t2.place) t2 = subst (λ b. IsTenant f.is.loaded.linked x.page_limit z b t2) (sym there ∙ ap (view s2) (sym stays.place)) made.5 in
-    let represents = same_owner h.modules x w.space s2 id.number f.t t2 z f.is stays.of stays.params over in
+    let represents = same_owner h.modules x w.space s2 id.number f.t t2 z f.is stays.of stays.params stays.copied over in
     let then = changed h w id.place id.number x (record x { tenant = z }) t2 s2 st at number (stays.place ∙ f.at) represents (λ j other. (others j other).view) (comes_on w w2 (cancel id) st.comes (call_ok, happens)) in
     let rs = slice_set h.entries id.place (Some (record x { tenant = z })) in
     (w2, happens, subst (λ s. IsHost (record h { entries = rs; space = ended s id.place }) w2) (sym st.space) then)
@@ -94,7 +94,7 @@ cancelled_here h w id x z st at number asked =
 -- ---- a call comes
 
 takes_stays : (w : World) (t t2 : Tenant) {m : _} {name : List ℕ} {given : List ℤ} {fuel at : ℕ} → TakesCall m w.space t name given fuel at t2 → SameTenant t t2
-takes_stays w t t2 takes = rw takes.after (record { place = refl; of = refl; params = refl })
+takes_stays w t t2 takes = rw takes.after (record { place = refl; of = refl; params = refl; copied = refl })
 
 pub some_tenant : (h : HostState) (w : World) (id : InstId) (x : InstanceEntry) (m : LoadedModule) → IsHost h w → entry_at h.entries id.place ≡ Some x → x.number ≡ Some id.number → slice_get h.modules x.of ≡ Some m → IsSomeTenant m.linked x.tenant
 some_tenant h w id x m st at number is =
@@ -229,7 +229,7 @@ loaded_here h w bytes m number st same accepted next few =
         there = λ i t e.
             let f = st.there i t e in
             let r = f.2 in
-            (f.0, f.1, record { number = r.number; of = r.of; loaded = r.loaded; is_loaded = still_loaded h.modules m r.loaded f.0.of r.is_loaded; given = r.given; limit = r.limit; is = r.is });
+            (f.0, f.1, record { number = r.number; of = r.of; loaded = r.loaded; is_loaded = still_loaded h.modules m r.loaded f.0.of r.is_loaded; given = r.given; limit = r.limit; own = r.own; is = r.is });
         all = st.all;
       },
     )

@@ -2,7 +2,7 @@
 use Rattle.std.proofs.Common.{◌≡◌, ℕ, zero, suc, ◌+◌, min, Some, List, [], ◌∷◌, length, slice_get, refl, sym, ap, subst, ◌∙◌, arith}
 use Rattle.wh_host_model.specs.Frames.{tally}
 use Rattle.wh_host_model.specs.declared.states.Mark.{Mark}
-use Rattle.wh_host_model.specs.declared.states.Mark.TheVariants.{Plain, Hint, Sharers}
+use Rattle.wh_host_model.specs.declared.states.Mark.TheVariants.{Plain, Hint, Sharers, Unlisted}
 use Rattle.wh_host_model.specs.Space.Parts.{Space, numbers_below, sharers}
 use Rattle.wh_host_model.specs.Space.Sound.{FramesAreSound, IsSound, Names}
 use Rattle.wh_space.specs.Counts.{is_shared, sharers_in}
@@ -25,6 +25,7 @@ shared_by : (s : Space) (f : ℕ) (m : Mark) → Names s f (Some m) → (is_shar
 shared_by s f Plain none = rw none (refl, refl)
 shared_by s f (Hint hash i p) none = let e = none.1 in rw e (refl, refl)
 shared_by s f (Sharers hash n) some = let e = some.0 in let a = some.1 in (rw e (omega (arith, a)), sym e)
+shared_by s f (Unlisted n) some = let e = some.0 in let a = some.1 in (rw e (omega (arith, a)), sym e)
 
 named : (s : Space) → FramesAreSound s → (f : ℕ) (m : Mark) → slice_get s.marks f ≡ Some m → Names s f (Some m)
 named s sound f m at = subst (Names s f) at (sound.names f)

@@ -50,7 +50,7 @@ pub record AreGivenAs (g : StoredParams) (p : Params) : Type 0 where
   pub salt : g.salt ≡ p.salt
 
 -- Who has a place is the instance of this number: of the same module, with as many pages at most as it was promised,
--- over what it sees in memory.
+-- over what it sees in memory. No call copies an instance yet, so all its calls are its own.
 pub record IsEntryOf (modules : List LoadedModule) (x : InstanceEntry) (s : Space) (i : ℕ) (t : Tenant) : Type 0 where
   pub number : x.number ≡ Some i
   pub of : x.of ≡ t.of
@@ -58,6 +58,7 @@ pub record IsEntryOf (modules : List LoadedModule) (x : InstanceEntry) (s : Spac
   pub is_loaded : slice_get modules x.of ≡ Some loaded
   pub given : AreGivenAs x.given t.params
   pub limit : x.page_limit ≤ t.params.max / 16
+  pub own : t.copied ≡ 0
   pub is : IsTenant loaded.linked x.page_limit x.tenant (view s t.place) t
 
 -- The host represents this one, to which events lead, and reads of a swap device that gave other bytes, if there were

@@ -1,10 +1,8 @@
 //! Pages of an instance as they are looked at, to be hashed while the host goes on.
 
-ghost use Rattle.std.specs.Prelude.{◌≡◌, ◌*◌, ◌<◌, ◌^◌, ℕ, true, [], IfNone, IfSome, None, Some, get_or, length};
+ghost use Rattle.std.specs.Prelude.{◌≡◌, ◌*◌, ◌<◌, ◌^◌, ℕ, true, [], IfNone, IfSome, None, get_or, length};
 ghost use Rattle.wh_host_model.specs.Space.Parts.{frame_bytes, has_number};
-ghost use Rattle.wh_host_model.specs.Space.States.{page_at};
-ghost use Rattle.wh_host_model.specs.declared.states.Page.TheVariants.{Private};
-ghost use Rattle.wh_space.specs.Merges.{IsNotPrivate};
+ghost use Rattle.wh_scan.specs.Sampling.{HasNoSample, IsSampledOn};
 
 use crate::host::Host;
 use wh_host_model::InstId;
@@ -18,15 +16,15 @@ impl Host {
         self.memory.size(place)
     }
 
-    /// Returns the bytes of a page of an instance, where it is alone on a frame; none too where no such instance is there, or
-    /// its place is 2^32 or more.
+    /// Returns the bytes of a page of an instance, where it is alone on a frame, or on one that is shared and has no entry; none
+    /// too where no such instance is there, or its place is 2^32 or more.
     pub fn sample(&self, id: InstId, page: u32) -> Option<Sample>
         ensures some { IfSome result (λ sample. (frame : ℕ)
-            × (page_at self.now.space.tables id.place page ≡ Some (Private frame))
+            × IsSampledOn self.now.space id.place page frame
             × (sample.bytes ≡ frame_bytes self.now.space frame)) }
         ensures none { IfNone result (id.place < 2 ^ 32
             → has_number (get_or self.now.space.occupants id.place None) id.number ≡ true
-            → IsNotPrivate self.now.space id.place page) }
+            → HasNoSample self.now.space id.place page) }
     {
         let place = id.place;
         if place > u32::MAX as usize {

@@ -14,7 +14,7 @@ use Rattle.wh_host_model.proofs.Space.Forked.{entered_row}
 use Rattle.wh_host_model.proofs.Space.Putting.{here_or, put_other, put_other_row}
 use Rattle.wh_host_model.proofs.Space.Rooms.{get_there}
 use Rattle.wh_host_model.proofs.Space.Rows.{past_there}
-use Rattle.wh_space.specs.Forks.{IsHere, MayLend}
+use Rattle.wh_space.specs.Lendable.{IsHere, MayLend}
 use Rattle.wh_space.specs.Merges.{HasFewPages}
 
 put_apart : (t : List (List Page)) (i p k q : ℕ) (x : Page) → q ≢ p → page_at (put t i p x) k q ≡ page_at t k q

@@ -1,7 +1,7 @@
 pub mod Arrivals
 pub mod Claiming
 pub mod Counts
-pub mod Forks
+pub mod Lendable
 pub mod TicketOwners
 pub mod OccupantEntries
 pub mod Lacking

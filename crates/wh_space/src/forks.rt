@@ -8,7 +8,7 @@ ghost use Rattle.wh_host_model.specs.Space.Places.{HasRoomFor, IsFreePlace};
 ghost use Rattle.wh_host_model.specs.Space.States.{page_at};
 ghost use Rattle.wh_host_model.specs.declared.states.Page.TheVariants.{Private, Shared, Untouched};
 ghost use Rattle.wh_space.specs.Arrivals.{claimed};
-ghost use Rattle.wh_space.specs.Forks.{IsHere, MayLend};
+ghost use Rattle.wh_space.specs.Lendable.{IsHere, MayLend};
 ghost use Rattle.wh_space.specs.Merges.{HasFewPages};
 
 use crate::memory::Memory;

@@ -3,7 +3,7 @@
 ghost use Rattle.std.specs.Prelude.{◌≡◌, ◌≢◌, ℕ, IfSome, IfNone, Some, false, slice_get};
 ghost use Rattle.wh_host_model.specs.Frames.{IsTaken};
 ghost use Rattle.wh_host_model.specs.Pages.{zero_page};
-ghost use Rattle.wh_host_model.specs.Space.Offers.{FindsHint, FindsNone, FindsShared, MayBeListed, listed, listed_for, moved_to};
+ghost use Rattle.wh_host_model.specs.Space.Offers.{FindsHint, FindsNone, FindsShared, MayBeListed, listed_under, listed_for, moved_to};
 ghost use Rattle.wh_host_model.specs.Space.Parts.{frame_bytes};
 ghost use Rattle.wh_host_model.specs.Space.States.{page_at};
 ghost use Rattle.wh_host_model.specs.declared.states.Mark.TheVariants.{Unlisted};
@@ -58,7 +58,7 @@ impl Memory {
         requires unlisted { slice_get self.old.marks frame ≡ Some (Unlisted sharers) }
         requires some { frame_bytes self.old frame ≢ zero_page }
         requires none { FindsNone self.old hash }
-        ensures { self.new ≡ listed self.old frame hash sharers }
+        ensures { self.new ≡ listed_under self.old frame hash sharers }
     {
         let _ = &self.tax;
         self.content.share(frame, hash, sharers);

@@ -13,7 +13,7 @@ use Rattle.wh_model.proofs.Journals.{after_same, one_end, not_open, from_beginni
 use Rattle.wh_model.proofs.Opened.{opened_store}
 use Rattle.std.proofs.lemmas.List.{reverse-reverse}
 use Rattle.wh_host_model.specs.Space.Parts.{view}
-use Rattle.wh_host_model.specs.Host.Worlds.{Doing, Loaded, Rest, Tenant, World, computing, has_left, journal, journal_calls, module_of, resting, standing_with, store_with}
+use Rattle.wh_host_model.specs.Host.Worlds.{Doing, Loaded, Rest, Tenant, World, computing, has_left, journal, journal_calls, loaded_of, resting, standing_with, store_with}
 use Rattle.wh_host_model.specs.Owners.{Entry}
 use Rattle.wh_host_model.specs.Owners.{given_of}
 use Rattle.wh_host_model.specs.Host.Apart.{AreTreatedAlike, ComeToTheSame, NoBytesReachAnother, asked, call_asked, unanswered}
@@ -228,8 +228,8 @@ given_in m p (c ∷ cs) y (given, is, rest) = given
 treated_alike : (w w2 : World) (t t2 : Tenant) → IsReplayed w t → IsReplayed w2 t2 → AreTreatedAlike w w2 t t2 → ComeToTheSame w w2 t t2
 treated_alike w w2 t t2 a b alike =
     let m : Module = a.loaded.m in
-    let mine : a.loaded ≡ alike.loaded = loaded_same (module_of w t.of) a.loaded alike.loaded a.is_loaded alike.is_loaded in
-    let other : b.loaded ≡ alike.loaded2 = loaded_same (module_of w2 t2.of) b.loaded alike.loaded2 b.is_loaded alike.is_loaded2 in
+    let mine : a.loaded ≡ alike.loaded = loaded_same (loaded_of w t.of) a.loaded alike.loaded a.is_loaded alike.is_loaded in
+    let other : b.loaded ≡ alike.loaded2 = loaded_same (loaded_of w2 t2.of) b.loaded alike.loaded2 b.is_loaded alike.is_loaded2 in
     let modules : b.loaded.m ≡ m = ap (λ (l : Loaded). l.m) other ∙ (sym alike.of_one ∙ sym (ap (λ (l : Loaded). l.m) mine)) in
     let there : Replay m (given_of t2.params) (journal_calls (journal t2)) _ = subst (λ k. Replay k (given_of t2.params) (journal_calls (journal t2)) (Rattle.wh_host_model.specs.Host.Worlds.standing_in w2.space t2)) modules b.replay in
     let begun : IsInitial m (given_of t2.params) (begins t2.inst b.first b.pieces) = subst (λ k. IsInitial k (given_of t2.params) (begins t2.inst b.first b.pieces)) modules b.initial in

@@ -12,7 +12,7 @@ use Rattle.wh_model.specs.Execution.Store.{FuncInst, Instance, Value, host, own,
 use Rattle.wh_model.specs.Format.Syntax.{Body, Export, FuncType, Module}
 use Rattle.wh_model.proofs.Instance.{one_beginning}
 use Rattle.wh_host_model.specs.Space.Parts.{Space, minima, spreads}
-use Rattle.wh_host_model.specs.Host.Worlds.{Loaded, Tenant, World, journal, module_of}
+use Rattle.wh_host_model.specs.Host.Worlds.{Loaded, Tenant, World, journal, loaded_of}
 use Rattle.wh_host_model.specs.Owners.{Params, given_of, AdmitFault, admit_rank, frames, instances, memory, min_max, most_instances, no_module, segments, shares, swap, AreArguments, ExportsOwn, InvokeFault, IsArgument, arguments, instance_dead, journal_full, most_calls, most_open, no_export, queue_full, rank}
 use Rattle.wh_host_model.specs.Host.OwnerCalls.{IsFirst, Meets, open_count}
 use Rattle.wh_model.specs.Linking.Accepting.{IsAccepted}
@@ -105,8 +105,8 @@ begins_outside m p segment_bounds is = inl is
 begins_outside m p memory_min is = inr (λ other. (let bad = one_beginning m p memory_min segment_bounds is other in cc bad))
 begins_outside m p (begins inst s ps) is = inr (λ other. (let bad = one_beginning m p (begins inst s ps) segment_bounds is other in cc bad))
 
-of_loaded : (w : World) (k : ℕ) (P : Loaded → Type 0) → ((l : Loaded) → module_of w k ≡ Some l → Decided (P l)) → Decided ((l : Loaded) × (module_of w k ≡ Some l) × P l)
-of_loaded w k P decide = elim (loaded_or_not (module_of w k)) [
+of_loaded : (w : World) (k : ℕ) (P : Loaded → Type 0) → ((l : Loaded) → loaded_of w k ≡ Some l → Decided (P l)) → Decided ((l : Loaded) × (loaded_of w k ≡ Some l) × P l)
+of_loaded w k P decide = elim (loaded_or_not (loaded_of w k)) [
   | inl none ↦ inr (λ one. (let bad : None ≡ Some one.0 = sym none ∙ one.1 in cc bad))
   | inr (l, is) ↦ elim (decide l is) [
     | inl so ↦ inl (l, is, so)
@@ -114,7 +114,7 @@ of_loaded w k P decide = elim (loaded_or_not (module_of w k)) [
   ]
 ]
 
-admit_fault : (w : World) (k : ℕ) (p : Params) → ((i : ℕ) (l : Loaded) → module_of w i ≡ Some l → IsAccepted l.bytes l.m) → (f : AdmitFault) → Decided (MeetsFault w k p f)
+admit_fault : (w : World) (k : ℕ) (p : Params) → ((i : ℕ) (l : Loaded) → loaded_of w i ≡ Some l → IsAccepted l.bytes l.m) → (f : AdmitFault) → Decided (MeetsFault w k p f)
 admit_fault w k p loads no_module = at_most (length w.modules) k
 admit_fault w k p loads shares = either (below p.shares 1) (below 1000000 p.shares)
 admit_fault w k p loads min_max = either (below p.min 2) (either (below p.max p.min) (below 65536 p.max))
@@ -150,7 +150,7 @@ admit_below instances = omega arith
 admit_below memory = omega arith
 admit_below segments = omega arith
 
-pub first_to_admit : (w : World) (k : ℕ) (p : Params) → ((i : ℕ) (l : Loaded) → module_of w i ≡ Some l → IsAccepted l.bytes l.m)
+pub first_to_admit : (w : World) (k : ℕ) (p : Params) → ((i : ℕ) (l : Loaded) → loaded_of w i ≡ Some l → IsAccepted l.bytes l.m)
     → ((f : AdmitFault) × IsFirstMet w k p f) ⊎ ((f : AdmitFault) → ¬ (MeetsFault w k p f))
 first_to_admit w k p loads = elim (first_of admit_rank admit_at admit_is (MeetsFault w k p) (admit_fault w k p loads) 9) [
   | inl (f, met, first) ↦ inl (f, (met, first))
@@ -179,7 +179,7 @@ away_or_not s i = elim (found (λ page. untouched page + stays page ≡ 0) (λ p
   zero_or_not zero = inl refl
   zero_or_not (suc n) = inr (λ e. omega arith)
 
-fork_fault : (w : World) (t : Tenant) (q : Quota) → ((i : ℕ) (l : Loaded) → module_of w i ≡ Some l → IsAccepted l.bytes l.m) → (f : ForkFault) → Decided (MeetsForkFault w t q f)
+fork_fault : (w : World) (t : Tenant) (q : Quota) → ((i : ℕ) (l : Loaded) → loaded_of w i ≡ Some l → IsAccepted l.bytes l.m) → (f : ForkFault) → Decided (MeetsForkFault w t q f)
 fork_fault w t q loads call_open = idle_or_not t.open_calls
 fork_fault w t q loads start_failed = failed_or_not t.dead
 fork_fault w t q loads (not_admitted f) = admit_fault w t.of (with_quota t.params q) loads f
@@ -211,7 +211,7 @@ fork_below (not_admitted f) = let low = admit_below f in omega (arith, low)
 fork_below other_limit = omega arith
 fork_below page_away = omega arith
 
-pub first_to_fork : (w : World) (t : Tenant) (q : Quota) → ((i : ℕ) (l : Loaded) → module_of w i ≡ Some l → IsAccepted l.bytes l.m)
+pub first_to_fork : (w : World) (t : Tenant) (q : Quota) → ((i : ℕ) (l : Loaded) → loaded_of w i ≡ Some l → IsAccepted l.bytes l.m)
     → ((f : ForkFault) × IsFirstForkFault w t q f) ⊎ ((f : ForkFault) → ¬ (MeetsForkFault w t q f))
 first_to_fork w t q loads = elim (first_of fork_rank fork_at fork_is (MeetsForkFault w t q) (fork_fault w t q loads) 12) [
   | inl (f, met, first) ↦ inl (f, (met, first))

@@ -12,7 +12,7 @@ use Rattle.wh_host_model.specs.Space.Parts.{Space, Claimed, Occupant, view, clai
 use Rattle.wh_host_model.specs.Space.Sound.{IsSound}
 use Rattle.wh_host_model.specs.Space.Places.{IsFreePlace}
 use Rattle.wh_host_model.specs.Host.Spaces.{LeftAlone, AllLeftAlone, ArrivesSeeing}
-use Rattle.wh_host_model.specs.Host.Worlds.{Doing, Rest, Suspension, Tenant, Loaded, World, for_device, for_fuel, module_of, promised, tenant, with_tenant}
+use Rattle.wh_host_model.specs.Host.Worlds.{Doing, Rest, Suspension, Tenant, Loaded, World, for_device, for_fuel, loaded_of, promised, tenant, with_tenant}
 use Rattle.wh_host_model.specs.Owners.{Entry}
 use Rattle.wh_host_model.specs.Owners.{ForkFault, Params, Quota, call_open, given_of, memory, most_fuel, not_admitted, other_limit, with_quota}
 use Rattle.wh_host_model.specs.Host.CallAnswers.{Closes, faces_next, is_dead, Turn, is_idle, has_ended, has_no_fuel, has_no_frame, can_go_on, keeps_its_fault}
@@ -62,7 +62,7 @@ IsOwned w = (place : ℕ) (c : Claimed) → claim w.space place ≡ Some c → (
 -- all instances; and no two lie at one place
 pub record IsGoodBy (K : Keeping) (w : World) : Type 0 where
   pub sound : IsSound w.space
-  pub modules : (k : ℕ) (l : Loaded) → module_of w k ≡ Some l → IsAccepted l.bytes l.m
+  pub modules : (k : ℕ) (l : Loaded) → loaded_of w k ≡ Some l → IsAccepted l.bytes l.m
   pub apart : (i j : ℕ) (a b : Tenant) → tenant w i ≡ Some a → tenant w j ≡ Some b → a.place ≡ b.place → i ≡ j
   pub owned : IsOwned w
   pub each : (i : ℕ) (t : Tenant) → tenant w i ≡ Some t → IsFineBy K w.modules w.space i t
@@ -350,7 +350,7 @@ module _ (K : Keeping) (up : IsKeptUp K) where
     empty_or [] some = refl
     empty_or (e ∷ es) some = absurd (some (λ bad. cc bad))
 
-  same_beginning : (w : World) (t : Tenant) (q : Quota) (l : Loaded) → ((fault : ForkFault) → ¬ (MeetsForkFault w t q fault)) → module_of w t.of ≡ Some l → SameLimit l.m (given_of t.params) (given_of (with_quota t.params q)) t.inst
+  same_beginning : (w : World) (t : Tenant) (q : Quota) (l : Loaded) → ((fault : ForkFault) → ¬ (MeetsForkFault w t q fault)) → loaded_of w t.of ≡ Some l → SameLimit l.m (given_of t.params) (given_of (with_quota t.params q)) t.inst
   same_beginning w t q l none is = record {
     base = refl;
     salt = refl;

@@ -11,7 +11,7 @@ use Rattle.wh_host_model.specs.declared.states.Offer.TheVariants.{Skipped, Zeroe
 use Rattle.wh_host_model.specs.Space.Forks.{one_more}
 use Rattle.wh_host_model.specs.Space.Kept.{OffersSoundly}
 use Rattle.wh_host_model.specs.Space.Moves.{one_fewer}
-use Rattle.wh_host_model.specs.Space.Offers.{FindsHint, FindsNone, FindsShared, IsOffered, MayBeListed, OffersUnlisted, gone_from, joined_to, listed, listed_for, moved_to}
+use Rattle.wh_host_model.specs.Space.Offers.{FindsHint, FindsNone, FindsShared, IsOffered, MayBeListed, OffersUnlisted, gone_from, joined_to, listed_under, listed_for, moved_to}
 use Rattle.wh_host_model.specs.Space.Parts.{Space, all_bytes, backing, frame_bytes, sharers, kept}
 use Rattle.wh_host_model.specs.Space.Sight.{OffersQuietly}
 use Rattle.wh_host_model.specs.Space.Errands.{fetches_into}
@@ -37,7 +37,7 @@ counted s f n sound is = let names : Names s f (Some (Unlisted n)) = subst (Name
 inside : (s : Space) (f : ℕ) (m : Mark) → FramesAreSound s → slice_get s.marks f ≡ Some m → f < length s.pool.frames
 inside s f m sound is = let a = there_of s.marks f m is in let b = sound.marks in omega arith
 
-pub listed_sound : (s : Space) (f hash n : ℕ) → IsSound s → slice_get s.marks f ≡ Some (Unlisted n) → frame_bytes s f ≢ zero_page → FindsNone s hash → IsSound (listed s f hash n)
+pub listed_sound : (s : Space) (f hash n : ℕ) → IsSound s → slice_get s.marks f ≡ Some (Unlisted n) → frame_bytes s f ≢ zero_page → FindsNone s hash → IsSound (listed_under s f hash n)
 unfolding remade
 listed_sound s f hash n sound is some none =
     let c = counted s f n sound.frames is in

@@ -13,7 +13,7 @@ use Rattle.wh_host_model.specs.declared.states.Offer.TheVariants.{Skipped, Zeroe
 use Rattle.wh_host_model.specs.Space.Errands.{is_ticket, tickets}
 use Rattle.wh_host_model.specs.Space.Moves.{frame_of, one_fewer}
 use Rattle.wh_host_model.specs.Space.Parts.{Slots, Space, all_bytes, backing, frame_bytes, kept, pinned_by, sharers}
-use Rattle.wh_host_model.specs.Space.Offers.{FindsShared, IsHinted, IsOffered, MayBeListed, Offers, OffersAlone, OffersUnlisted, gives_up, gone_from, hinted, joined_to, listed, listed_for, moved_to, paired_with}
+use Rattle.wh_host_model.specs.Space.Offers.{FindsShared, IsHinted, IsOffered, MayBeListed, Offers, OffersAlone, OffersUnlisted, gives_up, gone_from, hinted, joined_to, listed_under, listed_for, moved_to, paired_with}
 use Rattle.wh_host_model.specs.Space.Scanning.{IsContent, IsHashOf, MadeUnder}
 use Rattle.wh_host_model.specs.Space.Sound.{FramesAreSound, IsSound, Names, SlotsAreSound}
 use Rattle.wh_host_model.specs.Space.States.{at, count, leaving, owns, page_at, page_bytes, put, resident, shares}
@@ -433,11 +433,11 @@ not_own s i p f j q g sound there own e =
 
 -- the frame has its entry, other entries being these
 listed_step : (hashes : List ℕ → ℕ) (s : Space) (i p hash f n : ℕ) (answer : Offer) (marks : List Mark) → IsScanning hashes s → IsHashOf hashes s i p hash → MayBeListed s i p f n
-    → Offers hashes s i p hash answer (listed (record s { marks = marks }) f hash n) → length marks ≡ length s.marks → ScriptState hashes s.pool.frames marks
+    → Offers hashes s i p hash answer (listed_under (record s { marks = marks }) f hash n) → length marks ≡ length s.marks → ScriptState hashes s.pool.frames marks
     → ((h a b : ℕ) → slice_get s.marks h ≡ Some (Hint (hashes (frame_bytes s h)) a b) → slice_get marks h ≡ Some (Hint (hashes (frame_bytes s h)) a b)) → ((h k : ℕ) → slice_get marks h ≡ Some (Unlisted k) → slice_get s.marks h ≡ Some (Unlisted k))
-    → IsStep hashes s i p (listed (record s { marks = marks }) f hash n)
+    → IsStep hashes s i p (listed_under (record s { marks = marks }) f hash n)
 listed_step hashes s i p hash f n answer marks scan its may offer long made hints unlisted =
-    let s2 : Space = listed (record s { marks = marks }) f hash n in
+    let s2 : Space = listed_under (record s { marks = marks }) f hash n in
     let within : f < length marks = (let a = there_of s.marks f (Unlisted n) may.1 in omega arith) in
     let own : hashes (frame_bytes s f) ≡ hash = its.1 f may.0 (n, may.1) in
     let counted : slice_get s2.marks f ≡ Some (Sharers hash n) = set_same marks f (Sharers hash n) within in

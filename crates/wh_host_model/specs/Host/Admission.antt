@@ -13,7 +13,7 @@ use Rattle.wh_model.specs.Linking.Imports.{IsFirstFault}
 use Rattle.wh_model.specs.Linking.Accepting.{IsModule, IsAccepted}
 use Rattle.wh_host_model.specs.Space.Parts.{Space, minima, spreads}
 use Rattle.wh_host_model.specs.Host.Spaces.{Arrives, Departs}
-use Rattle.wh_host_model.specs.Host.Worlds.{Rest, Doing, resting, has_left, Tenant, Loaded, World, promised, with_tenant, module_of}
+use Rattle.wh_host_model.specs.Host.Worlds.{Rest, Doing, resting, has_left, Tenant, Loaded, World, promised, with_tenant, loaded_of}
 use Rattle.wh_host_model.specs.Owners.{Entry}
 use Rattle.wh_host_model.specs.Owners.{Params, given_of, most_fuel}
 use Rattle.wh_host_model.specs.Host.CallAnswers.{Faces}
@@ -73,8 +73,8 @@ MeetsFault w k p min_max = (p.min < 2) ⊎ (p.max < p.min) ⊎ (65536 < p.max)
 MeetsFault w k p frames = length w.space.pool.frames < minima w.space + p.min
 MeetsFault w k p swap = length w.space.slots.uses < spreads w.space + ((p.max - p.min) + 1)
 MeetsFault w k p instances = most_instances ≤ live_count w.tenants
-MeetsFault w k p memory = (l : Loaded) × (module_of w k ≡ Some l) × IsInitial l.m (given_of p) memory_min
-MeetsFault w k p segments = (l : Loaded) × (module_of w k ≡ Some l) × IsInitial l.m (given_of p) segment_bounds
+MeetsFault w k p memory = (l : Loaded) × (loaded_of w k ≡ Some l) × IsInitial l.m (given_of p) memory_min
+MeetsFault w k p segments = (l : Loaded) × (loaded_of w k ≡ Some l) × IsInitial l.m (given_of p) segment_bounds
 
 abbrev pub IsFirstMet : World → ℕ → Params → AdmitFault → Type 0
 IsFirstMet w k p fault =
@@ -98,7 +98,7 @@ pub record LetsIn (w : World) (k : ℕ) (p : Params) (place number : ℕ) (w2 : 
   pub can_count : p.fuel ≤ most_fuel
   pub given : AreGiven (given_of p)
   pub loaded : Loaded
-  pub is_loaded : module_of w k ≡ Some loaded
+  pub is_loaded : loaded_of w k ≡ Some loaded
   pub inst : Instance
   pub s : Store
   pub pieces : List Piece

@@ -3,7 +3,7 @@ use Rattle.std.specs.Prelude.{◌≡◌, ℕ, List, map, Some}
 use Rattle.wh_model.specs.Execution.Replay.{Outcome, returned, stopped, cancelled, dead, pending, Call}
 use Rattle.wh_host_model.specs.declared.Tax.{Tax}
 use Rattle.wh_host_model.specs.Space.Parts.{view}
-use Rattle.wh_host_model.specs.Host.Worlds.{Tenant, Loaded, World, journal, tenant, empty_world, module_of}
+use Rattle.wh_host_model.specs.Host.Worlds.{Tenant, Loaded, World, journal, tenant, empty_world, loaded_of}
 use Rattle.wh_host_model.specs.Owners.{Entry}
 use Rattle.wh_host_model.specs.Host.Events.{Event}
 use Rattle.wh_host_model.specs.Host.Happens.{AllHappen}
@@ -29,8 +29,8 @@ asked e = record e { call = call_asked e.call }
 pub record AreTreatedAlike (w w2 : World) (t t2 : Tenant) : Type 0 where
   pub loaded : Loaded
   pub loaded2 : Loaded
-  pub is_loaded : module_of w t.of ≡ Some loaded
-  pub is_loaded2 : module_of w2 t2.of ≡ Some loaded2
+  pub is_loaded : loaded_of w t.of ≡ Some loaded
+  pub is_loaded2 : loaded_of w2 t2.of ≡ Some loaded2
   pub of_one : loaded.m ≡ loaded2.m
   pub base : t.params.base ≡ t2.params.base
   pub salt : t.params.salt ≡ t2.params.salt

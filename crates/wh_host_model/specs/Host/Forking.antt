@@ -7,7 +7,7 @@ use Rattle.wh_host_model.specs.Space.Parts.{Space}
 use Rattle.wh_host_model.specs.Space.Claims.{stays}
 use Rattle.wh_host_model.specs.Space.Forks.{Copies}
 use Rattle.wh_host_model.specs.Owners.{ForkFault, Quota, call_open, fork_rank, not_admitted, other_limit, page_away, start_failed, with_quota}
-use Rattle.wh_host_model.specs.Host.Worlds.{Loaded, Tenant, World, module_of, promised}
+use Rattle.wh_host_model.specs.Host.Worlds.{Loaded, Tenant, World, loaded_of, promised}
 use Rattle.wh_host_model.specs.Host.Admission.{MeetsFault}
 
 -- a page that isn't in memory, or is on its way: it is neither untouched nor on a frame that it isn't leaving
@@ -20,7 +20,7 @@ MeetsForkFault w t q call_open = t.open_calls ≢ []
 MeetsForkFault w t q start_failed = t.dead ≡ true
 MeetsForkFault w t q (not_admitted fault) = MeetsFault w t.of (with_quota t.params q) fault
 MeetsForkFault w t q other_limit =
-    ((l : Loaded) × (module_of w t.of ≡ Some l) × (last_size l.m.memories (q.max / 16) ≢ t.inst.page_limit))
+    ((l : Loaded) × (loaded_of w t.of ≡ Some l) × (last_size l.m.memories (q.max / 16) ≢ t.inst.page_limit))
     ⊎ (q.max < length (get_or w.space.tables t.place []))
 MeetsForkFault w t q page_away = IsAway w.space t.place
 

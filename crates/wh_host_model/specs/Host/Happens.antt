@@ -6,7 +6,7 @@ use Rattle.wh_host_model.specs.declared.plain.InstId.{InstId}
 use Rattle.wh_host_model.specs.declared.plain.SwapError.{SwapError}
 use Rattle.wh_host_model.specs.Space.Parts.{Space}
 use Rattle.wh_host_model.specs.Host.Spaces.{AllLeftAlone}
-use Rattle.wh_host_model.specs.Host.Worlds.{for_frame, for_device, Tenant, Loaded, World, tenant, with_tenant, module_of}
+use Rattle.wh_host_model.specs.Host.Worlds.{for_frame, for_device, Tenant, Loaded, World, tenant, with_tenant, loaded_of}
 use Rattle.wh_host_model.specs.Owners.{Params, AdmitFault, ForkFault, InvokeFault, Quota}
 use Rattle.wh_host_model.specs.Host.CallAnswers.{Turn}
 use Rattle.wh_host_model.specs.Host.OwnerCalls.{Meets, IsFirst, TakesCall, Refuels, Cancels, Retries}
@@ -59,14 +59,14 @@ pub data InvokeAnswer : Type 0 where
 pub data IsInvoke (w : World) (id : InstId) (name : List ℕ) (given : List ℤ) (fuel : ℕ)
     : InvokeAnswer → World → Type 0 where
   is_invoked : {t t2 : Tenant} {l : Loaded} {at : ℕ}
-      → IsLive w id t → module_of w t.of ≡ Some l → TakesCall l.m w.space t name given fuel at t2
+      → IsLive w id t → loaded_of w t.of ≡ Some l → TakesCall l.m w.space t name given fuel at t2
       → IsInvoke w id name given fuel (invoke_ok at) (with_tenant w id.number (Some t2) w.space)
   has_no_instance : NoInstance w id → IsInvoke w id name given fuel invoke_no_instance w
   isnt_invoked : {t : Tenant} {l : Loaded} {fault : InvokeFault}
-      → IsLive w id t → module_of w t.of ≡ Some l → IsFirst l.m t name given fault
+      → IsLive w id t → loaded_of w t.of ≡ Some l → IsFirst l.m t name given fault
       → IsInvoke w id name given fuel (invoke_refused fault) w
   no_memory_to_invoke : {t : Tenant} {l : Loaded}
-      → IsLive w id t → module_of w t.of ≡ Some l → ((fault : InvokeFault) → ¬ (Meets l.m t name given fault))
+      → IsLive w id t → loaded_of w t.of ≡ Some l → ((fault : InvokeFault) → ¬ (Meets l.m t name given fault))
       → IsInvoke w id name given fuel invoke_out_of_memory w
 
 -- the answers to refuel, cancel and retry

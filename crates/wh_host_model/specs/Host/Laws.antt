@@ -13,7 +13,7 @@ use Rattle.wh_host_model.specs.declared.plain.TurnEnd.TheVariants.{Again, Frame}
 use Rattle.wh_host_model.specs.Space.Parts.{Space, Claimed, Promised, view, claim, promise_at, wants}
 use Rattle.wh_host_model.specs.Space.Sound.{IsSound}
 use Rattle.wh_host_model.specs.Space.Ready.{Ready}
-use Rattle.wh_host_model.specs.Host.Worlds.{computing, Tenant, Loaded, World, promised, journal, journal_calls, store_in, standing_in, tenant, empty_world, module_of}
+use Rattle.wh_host_model.specs.Host.Worlds.{computing, Tenant, Loaded, World, promised, journal, journal_calls, store_in, standing_in, tenant, empty_world, loaded_of}
 use Rattle.wh_host_model.specs.Owners.{given_of, most_calls, most_open}
 use Rattle.wh_host_model.specs.Host.CallAnswers.{Turn}
 use Rattle.wh_host_model.specs.Host.OwnerCalls.{open_count}
@@ -64,7 +64,7 @@ EachHas P w = (i : ℕ) (t : Tenant) → tenant w i ≡ Some t → P w t
 -- what it sees. No other instance is named.
 pub record IsReplayed (w : World) (t : Tenant) : Type 0 where
   pub loaded : Loaded
-  pub is_loaded : module_of w t.of ≡ Some loaded
+  pub is_loaded : loaded_of w t.of ≡ Some loaded
   pub accepted : IsAccepted loaded.bytes loaded.m
   pub first : Store
   pub pieces : List Piece
@@ -85,7 +85,7 @@ CopiedCallsHaveEnded = AfterEvents (EachHas (λ w t. t.copied ≤ length t.ended
 -- the calls are in order, with arguments as they were given and results of their types; not too many, nor too many open
 pub record HasJournal (w : World) (t : Tenant) : Type 0 where
   pub loaded : Loaded
-  pub is_loaded : module_of w t.of ≡ Some loaded
+  pub is_loaded : loaded_of w t.of ≡ Some loaded
   pub calls : InOrder loaded.m t.inst t.dead t.ended t.open_calls
   pub few : length (journal t) ≤ most_calls
   pub few_open : open_count t ≤ most_open

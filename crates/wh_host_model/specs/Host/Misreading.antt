@@ -7,7 +7,7 @@ use Rattle.wh_host_model.specs.declared.Tax.{Tax}
 use Rattle.wh_host_model.specs.Space.Parts.{Space, view, claim, wants}
 use Rattle.wh_host_model.specs.Space.Sound.{IsSound}
 use Rattle.wh_host_model.specs.Host.Spaces.{KeepsPromise}
-use Rattle.wh_host_model.specs.Host.Worlds.{for_frame, Loaded, World, empty_world, module_of}
+use Rattle.wh_host_model.specs.Host.Worlds.{for_frame, Loaded, World, empty_world, loaded_of}
 use Rattle.wh_host_model.specs.Host.Events.{Event}
 use Rattle.wh_host_model.specs.Host.Happens.{Happens}
 use Rattle.wh_host_model.specs.Host.Laws.{EachHas, HasJournal, PlacesAreTenants}
@@ -64,7 +64,7 @@ PlacesStayRight = HoldsAnyhow PlacesAreTenants
 
 abbrev pub ModulesStayAccepted : Type 0
 ModulesStayAccepted =
-    HoldsAnyhow (λ w. (k : ℕ) (l : Loaded) → module_of w k ≡ Some l → IsAccepted l.bytes l.m)
+    HoldsAnyhow (λ w. (k : ℕ) (l : Loaded) → loaded_of w k ≡ Some l → IsAccepted l.bytes l.m)
 
 abbrev pub JournalsStayInOrder : Type 0
 JournalsStayInOrder = HoldsAnyhow (EachHas HasJournal)

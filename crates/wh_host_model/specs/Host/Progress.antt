@@ -4,7 +4,7 @@ use Rattle.wh_model.specs.Format.Syntax.{Module}
 use Rattle.wh_host_model.specs.declared.plain.InstId.{InstId}
 use Rattle.wh_host_model.specs.declared.plain.TurnEnd.{TurnEnd}
 use Rattle.wh_host_model.specs.declared.plain.TurnEnd.TheVariants.{Idle, Fuel}
-use Rattle.wh_host_model.specs.Host.Worlds.{Tenant, Loaded, World, for_fuel, with_tenant, module_of}
+use Rattle.wh_host_model.specs.Host.Worlds.{Tenant, Loaded, World, for_fuel, with_tenant, loaded_of}
 use Rattle.wh_host_model.specs.Owners.{Entry}
 use Rattle.wh_host_model.specs.Owners.{ForkFault, Params, Quota, given_of, AdmitFault, most_modules, InvokeFault, most_fuel}
 use Rattle.wh_host_model.specs.Host.OwnerCalls.{Meets}
@@ -39,7 +39,7 @@ AdmissionsAreTaken =
 abbrev pub CallsAreTaken : Type 0
 CallsAreTaken =
     AfterEvents (λ w. (id : InstId) (name : List ℕ) (given : List ℤ) (fuel : ℕ) (t : Tenant) (l : Loaded)
-    → IsLive w id t → module_of w t.of ≡ Some l
+    → IsLive w id t → loaded_of w t.of ≡ Some l
     → ((fault : InvokeFault) → ¬ (Meets l.m t name given fault)) → fuel ≤ most_fuel
     → (at : ℕ) × (w2 : World) × IsInvoke w id name given fuel (invoke_ok at) w2)
 

@@ -98,8 +98,8 @@ abbrev pub standing_in : Space → Tenant → Standing
 standing_in s t = standing_with (view s t.place) t.rest t.doing
 
 -- the module of a number, if it is there
-abbrev pub module_of : World → ℕ → Option Loaded
-module_of w k = slice_get w.modules k
+abbrev pub loaded_of : World → ℕ → Option Loaded
+loaded_of w k = slice_get w.modules k
 
 -- the live instance of a number, if it is
 abbrev pub tenant : World → ℕ → Option Tenant

@@ -94,12 +94,12 @@ OffersAlone hashes s i p hash FalseMatch s2 =
 -- ---- a page on a frame that is shared and has no entry
 
 -- frame f, which n pages share, has its entry under this hash
-abbrev pub listed : Space → ℕ → ℕ → ℕ → Space
-listed s f hash n = record s { marks = slice_set s.marks f (Sharers hash n) }
+abbrev pub listed_under : Space → ℕ → ℕ → ℕ → Space
+listed_under s f hash n = record s { marks = slice_set s.marks f (Sharers hash n) }
 
 -- the same where frame g had a hint under the hash, which is forgotten
 abbrev pub listed_for : Space → ℕ → ℕ → ℕ → ℕ → Space
-listed_for s g f hash n = listed (record s { marks = slice_set s.marks g Plain }) f hash n
+listed_for s g f hash n = listed_under (record s { marks = slice_set s.marks g Plain }) f hash n
 
 -- the page has left the sharers of frame f, and is another one now
 abbrev pub gone_from : Space → ℕ → ℕ → ℕ → Page → Space
@@ -123,7 +123,7 @@ OffersUnlisted hashes s i p hash Zeroed s2 =
     (f n : ℕ) × MayBeListed s i p f n × (frame_bytes s f ≡ zero_page)
     × (s2 ≡ (let s1 : Space = gone_from s i p f Untouched in record s1 { touched = put s1.touched i p false }))
 OffersUnlisted hashes s i p hash Hinted s2 =
-    (f n : ℕ) × MayBeListed s i p f n × (frame_bytes s f ≢ zero_page) × FindsNone s hash × (s2 ≡ listed s f hash n)
+    (f n : ℕ) × MayBeListed s i p f n × (frame_bytes s f ≢ zero_page) × FindsNone s hash × (s2 ≡ listed_under s f hash n)
 OffersUnlisted hashes s i p hash Stale s2 =
     (f n g j q : ℕ) × MayBeListed s i p f n × (frame_bytes s f ≢ zero_page) × FindsHint s hash g j q
     × IsOffered s j q g × (hashes (frame_bytes s g) ≢ hash) × (s2 ≡ listed_for s g f hash n)
