@@ -23,6 +23,7 @@ someone = record {
   rest = record { globals = []; table = []; inputs = []; output = [] };
   doing = resting;
   ended = [];
+  copied = 0;
   open_calls = [];
   waiting_for = None;
   dead = false;

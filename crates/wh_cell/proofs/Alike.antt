@@ -1,8 +1,8 @@
 -- The charges of a host are the same in whatever host of the definitions it stands for.
-use Rattle.std.proofs.Common.{◌≡◌, ℕ, zero, suc, ◌+◌, List, [], ◌∷◌, length, get_or, Option, Some, None, refl, sym, ap, subst, ◌∙◌, arith}
+use Rattle.std.proofs.Common.{◌≡◌, ℕ, zero, suc, ◌+◌, List, [], ◌∷◌, drop, length, get_or, Option, Some, None, refl, sym, ap, subst, ◌∙◌, arith}
 use Rattle.std.specs.List.{sum_by}
 use Rattle.std.proofs.lemmas.List.Sums.{sum_by-cons, sum_by-append}
-use Rattle.wh_host_model.specs.Host.Worlds.{Tenant, World, journal, tenant}
+use Rattle.wh_host_model.specs.Host.Worlds.{Tenant, World, journal, own_calls, tenant}
 use Rattle.wh_host_model.specs.Owners.{Entry}
 use Rattle.wh_journal.specs.Calls.{JournalCallState}
 use Rattle.wh_instance.specs.Tenancy.{RepresentsEach}
@@ -26,17 +26,18 @@ same_charges (c ∷ cs) (e ∷ es) h =
 abbrev resident_charges : InstanceEntry → ℕ
 resident_charges x = code_charges x.tenant.journal.ended + code_charges x.tenant.journal.open_calls
 
-tenant_charges : (h : HostState) (w : World) (i : ℕ) (t : Tenant) (x : InstanceEntry) → IsEntryOf h.modules x w.space i t → charges_in (journal t) ≡ resident_charges x
+tenant_charges : (h : HostState) (w : World) (i : ℕ) (t : Tenant) (x : InstanceEntry) → IsEntryOf h.modules x w.space i t → charges_in (own_calls t) ≡ resident_charges x
 tenant_charges h w i t x r =
     let ended = same_charges x.tenant.journal.ended t.ended r.is.ended in
     let open_calls = same_charges x.tenant.journal.open_calls t.open_calls r.is.open_calls in
-    omega (arith, ended, open_calls, sum_by-append charges_at t.ended t.open_calls)
+    let own : charges_in (own_calls t) ≡ charges_in (journal t) = ap (λ k. charges_in (drop k (journal t))) r.own in
+    omega (arith, own, ended, open_calls, sum_by-append charges_at t.ended t.open_calls)
 
 some_is : {A : Type 0} (x y : A) → Some x ≡ Some y → x ≡ y
 some_is x y e = cc e
 
 -- an instance of the one is one of the other, with as many charges
-one_alike : (h : HostState) (w w2 : World) (i : ℕ) (t : Tenant) → IsHost h w → IsHost h w2 → tenant w i ≡ Some t → (u : Tenant) × (tenant w2 i ≡ Some u) × (charges_in (journal t) ≡ charges_in (journal u))
+one_alike : (h : HostState) (w w2 : World) (i : ℕ) (t : Tenant) → IsHost h w → IsHost h w2 → tenant w i ≡ Some t → (u : Tenant) × (tenant w2 i ≡ Some u) × (charges_in (own_calls t) ≡ charges_in (own_calls u))
 one_alike h w w2 i t st st2 live =
     let f = st.there i t live in
     let g = st2.all t.place i f.0 f.1 f.2.number in

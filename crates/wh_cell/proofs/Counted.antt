@@ -1,5 +1,5 @@
 -- What each event makes of the charges of a host, and of the book that fits them.
-use Rattle.std.proofs.Common.{◌≡◌, ℕ, zero, suc, ◌+◌, ◌≤◌, List, [], ◌∷◌, ◌++◌, length, map, get_or, slice_get, slice_set, Option, Some, None, refl, sym, ap, ◌∙◌, arith, append_assoc, length-append}
+use Rattle.std.proofs.Common.{◌≡◌, ℕ, zero, suc, ◌+◌, ◌≤◌, List, [], ◌∷◌, ◌++◌, drop, take, length, map, get_or, slice_get, slice_set, Option, Some, None, refl, sym, ap, ◌∙◌, arith, append_assoc, length-append}
 use Rattle.std.specs.List.{sum_by}
 use Rattle.std.proofs.lemmas.List.Sums.{sum_by-cons, sum_by-append}
 use Rattle.wh_model.specs.declared.memory.Need.{Need}
@@ -7,7 +7,7 @@ use Rattle.wh_model.specs.Execution.Store.{Instance}
 use Rattle.wh_model.specs.Execution.Replay.{Call, dead}
 use Rattle.wh_host_model.specs.declared.plain.TurnEnd.{TurnEnd}
 use Rattle.wh_host_model.specs.Space.Parts.{Space}
-use Rattle.wh_host_model.specs.Host.Worlds.{Rest, Doing, Tenant, World, journal, tenant, with_tenant}
+use Rattle.wh_host_model.specs.Host.Worlds.{Rest, Doing, Tenant, World, journal, own_calls, tenant, with_tenant}
 use Rattle.wh_host_model.specs.Owners.{Entry}
 use Rattle.wh_host_model.specs.Host.Turns.{Upshot, Proceeds, returns, traps, writes_all, uses_fuel, waits, waits_to_write, has_had_its_turn}
 use Rattle.wh_host_model.specs.Host.CallAnswers.{gone_further, ended_by, Closes, faces_next, is_dead, Turn, is_idle, has_ended, has_no_fuel, has_no_frame, can_go_on, keeps_its_fault}
@@ -32,6 +32,31 @@ pub at_seam : (xs ys : List Entry) (e : Entry) → slice_get (xs ++ e ∷ ys) (l
 at_seam [] ys e = refl
 at_seam (x ∷ xs) ys e = at_seam xs ys e
 
+-- ---- an instance's own calls
+
+own_part : (k : ℕ) (xs ys : List Entry) → k ≤ length xs → charges_in (drop k (xs ++ ys)) + charges_in (take k xs) ≡ charges_in (xs ++ ys)
+own_part zero xs ys few = omega arith
+own_part (suc k) [] ys few = absurd (omega (arith, few))
+own_part (suc k) (x ∷ xs) ys few =
+    omega (arith, own_part k xs ys (omega (arith, few)), sum_by-cons charges_at x (take k xs), sum_by-cons charges_at x (xs ++ ys))
+
+-- where the calls that had ended stay, as many more charges are its own as there are in all
+pub own_more : (t t2 : Tenant) (n : ℕ) (rest : List Entry) → t2.copied ≡ t.copied → t.copied ≤ length t.ended → journal t2 ≡ t.ended ++ rest → charges_in (journal t2) ≡ charges_in (journal t) + n
+    → charges_in (own_calls t2) ≡ charges_in (own_calls t) + n
+own_more t t2 n rest same few now more =
+    let was = own_part t.copied t.ended t.open_calls few in
+    let is = own_part t.copied t.ended rest few in
+    let own : charges_in (own_calls t2) ≡ charges_in (drop t.copied (t.ended ++ rest)) = ap (λ k. charges_in (drop k (journal t2))) same ∙ ap (λ (xs : List Entry). charges_in (drop t.copied xs)) now in
+    omega (arith, was, is, own, more, ap charges_in now)
+
+none_dropped : (xs ys : List Entry) → drop (length xs) (xs ++ ys) ≡ ys
+none_dropped [] ys = refl
+none_dropped (x ∷ xs) ys = none_dropped xs ys
+
+-- all calls of a copy are copied
+pub copy_has_none : (ended open_calls : List Entry) → open_calls ≡ [] → charges_in (drop (length ended) (ended ++ open_calls)) ≡ 0
+copy_has_none ended open_calls none = ap charges_in (none_dropped ended open_calls ∙ none)
+
 -- ---- a turn
 
 -- in a turn of q charges the present call has taken so many more, and no other one any
@@ -39,6 +64,7 @@ pub record Spends (q : ℕ) (t t2 : Tenant) : Type 0 where
   pub taken : ℕ
   pub few : taken ≤ q
   pub all : charges_in (journal t2) ≡ charges_in (journal t) + taken
+  pub own : t.copied ≤ length t.ended → charges_in (own_calls t2) ≡ charges_in (own_calls t) + taken
   pub idle : t.open_calls ≡ [] → taken ≡ 0
   pub present : (e : Entry) (es : List Entry) → t.open_calls ≡ e ∷ es
       → (e2 : Entry) × (slice_get (journal t2) (length t.ended) ≡ Some e2) × (e2.call.charges ≡ e.call.charges + taken)
@@ -61,19 +87,22 @@ none_open xs es e a b = let no : [] ≡ e ∷ es = sym a ∙ b in cc no
 
 -- the present call goes further, and may end
 goes_further : (q : ℕ) (t t2 : Tenant) (e f : Entry) (es fs : List Entry) (n : ℕ) → n ≤ q → t.open_calls ≡ e ∷ es
-    → f.call.charges ≡ e.call.charges + n → charges_in fs ≡ charges_in es → journal t2 ≡ t.ended ++ f ∷ fs → Spends q t t2
-goes_further q t t2 e f es fs n few there more rest now = record {
+    → f.call.charges ≡ e.call.charges + n → charges_in fs ≡ charges_in es → journal t2 ≡ t.ended ++ f ∷ fs → t2.copied ≡ t.copied → Spends q t t2
+goes_further q t t2 e f es fs n few there more rest now copied = record {
   taken = n;
   few = few;
-  all =
-      let was : charges_in (journal t) ≡ charges_in (t.ended ++ e ∷ es) = ap (λ (xs : List Entry). charges_in (t.ended ++ xs)) there in
-      let is : charges_in (journal t2) ≡ charges_in (t.ended ++ f ∷ fs) = ap charges_in now in
-      omega (arith, was, is, more, rest, middle t.ended es e, middle t.ended fs f);
+  all = all;
+  own = λ had. own_more t t2 n (f ∷ fs) copied had now all;
   idle = λ none. absurd (none_open t.open_calls es e none there);
   present = λ g gs here.
       let same : e ≡ g = head_there e g es gs (sym there ∙ here) in
       (f, ap (λ (xs : List Entry). slice_get xs (length t.ended)) now ∙ at_seam t.ended fs f, more ∙ ap (λ (x : Entry). x.call.charges + n) same);
-}
+} where
+  all : charges_in (journal t2) ≡ charges_in (journal t) + n
+  all =
+      let was : charges_in (journal t) ≡ charges_in (t.ended ++ e ∷ es) = ap (λ (xs : List Entry). charges_in (t.ended ++ xs)) there in
+      let is : charges_in (journal t2) ≡ charges_in (t.ended ++ f ∷ fs) = ap charges_in now in
+      omega (arith, was, is, more, rest, middle t.ended es e, middle t.ended fs f)
 
 pub closed_journal : {s : Space} {t t2 : Tenant} {e : Entry} {es : List Entry} {r : Rest} → Closes s t e es r t2
     → (fs : List Entry) × (charges_in fs ≡ charges_in es) × (journal t2 ≡ t.ended ++ e ∷ fs)
@@ -82,11 +111,16 @@ closed_journal {t = t} {e = e} {es = es} (is_dead died) =
     let fs = map (λ (w : Entry). ended_by w dead) es in
     (fs ++ [], omega (arith, sum_by-append charges_at fs [], dead_charges es), append_assoc t.ended (e ∷ fs) [])
 
+pub closed_copied : {s : Space} {t t2 : Tenant} {e : Entry} {es : List Entry} {r : Rest} → Closes s t e es r t2 → t2.copied ≡ t.copied
+closed_copied (faces_next alive f) = refl
+closed_copied (is_dead died) = refl
+
 stays : (q : ℕ) (t : Tenant) → Spends q t t
 stays q t = record {
   taken = 0;
   few = omega arith;
   all = omega arith;
+  own = λ had. omega arith;
   idle = λ none. refl;
   present = λ e es there. (e, ap (λ (xs : List Entry). slice_get (t.ended ++ xs) (length t.ended)) there ∙ at_seam t.ended es e, omega arith);
 }
@@ -95,14 +129,30 @@ pub turn_spends : (q : ℕ) (s s2 : Space) (t t2 : Tenant) (answer : TurnEnd) �
 turn_spends q s s2 t t2 answer (is_idle none) = stays q t
 turn_spends q s s2 t t2 answer (has_ended {e = e} {es = es} {o = o} {k = k} {n = n} there g leaves pins c) =
     let j = closed_journal c in
-    goes_further q t t2 e (ended_by (gone_further e k n) o) es j.0 n (within_turn g) there refl j.1 j.2
+    goes_further q t t2 e (ended_by (gone_further e k n) o) es j.0 n (within_turn g) there refl j.1 j.2 (closed_copied c)
 turn_spends q s s2 t t2 answer (has_no_fuel {e = e} {es = es} {k = k} {n = n} there g leaves pins) =
-    goes_further q t t2 e (gone_further e k n) es es n (within_turn g) there refl refl refl
+    goes_further q t t2 e (gone_further e k n) es es n (within_turn g) there refl refl refl refl
 turn_spends q s s2 t t2 answer (has_no_frame {e = e} {es = es} {k = k} {n = n} there g leaves pins) =
-    goes_further q t t2 e (gone_further e k n) es es n (within_turn g) there refl refl refl
+    goes_further q t t2 e (gone_further e k n) es es n (within_turn g) there refl refl refl refl
 turn_spends q s s2 t t2 answer (can_go_on {e = e} {es = es} {k = k} {n = n} there g leaves pins fault) =
-    goes_further q t t2 e (gone_further e k n) es es n (within_turn g) there refl refl refl
+    goes_further q t t2 e (gone_further e k n) es es n (within_turn g) there refl refl refl refl
 turn_spends q s s2 t t2 answer (keeps_its_fault there stands doing none next fuel ready) = stays q t
+
+-- the calls that were copied with an instance have ended still
+more_ended : (n : ℕ) (es fs : List Entry) → n ≤ length es → n ≤ length (es ++ fs)
+more_ended n es fs few = let l = length-append es fs in omega (arith, few, l)
+
+closed_lasts : {s : Space} {t t2 : Tenant} {e : Entry} {es : List Entry} {r : Rest} → Closes s t e es r t2 → t.copied ≤ length t.ended → t2.copied ≤ length t2.ended
+closed_lasts {t = t} {e = e} (faces_next alive f) few = more_ended t.copied t.ended (e ∷ []) few
+closed_lasts {t = t} {e = e} {es = es} (is_dead died) few = more_ended t.copied t.ended (e ∷ map (λ (w : Entry). ended_by w dead) es) few
+
+pub turn_lasts : (q : ℕ) (s s2 : Space) (t t2 : Tenant) (answer : TurnEnd) → Turn q s t answer s2 t2 → t.copied ≤ length t.ended → t2.copied ≤ length t2.ended
+turn_lasts q s s2 t t2 answer (is_idle none) few = few
+turn_lasts q s s2 t t2 answer (has_ended there g leaves pins c) few = closed_lasts c few
+turn_lasts q s s2 t t2 answer (has_no_fuel there g leaves pins) few = few
+turn_lasts q s s2 t t2 answer (has_no_frame there g leaves pins) few = few
+turn_lasts q s s2 t t2 answer (can_go_on there g leaves pins fault) few = few
+turn_lasts q s s2 t t2 answer (keeps_its_fault there stands doing none next fuel ready) few = few
 
 -- ---- the instances of a host
 
@@ -152,7 +202,7 @@ pub taken_none : (w : World) → HasTaken w 0 w
 taken_none w = record { charges = omega arith; live = refl; admitted = refl }
 
 -- one instance has taken so many more
-pub taken_by_one : (w : World) (i n : ℕ) (t t2 : Tenant) (s : Space) → tenant w i ≡ Some t → charges_in (journal t2) ≡ charges_in (journal t) + n
+pub taken_by_one : (w : World) (i n : ℕ) (t t2 : Tenant) (s : Space) → tenant w i ≡ Some t → charges_in (own_calls t2) ≡ charges_in (own_calls t) + n
     → HasTaken w n (with_tenant w i (Some t2) s)
 taken_by_one w i n t t2 s there more = record {
   charges = omega (arith, set_charges w.tenants i t (Some t2) there, more);
@@ -169,7 +219,7 @@ fits_taken w w2 n total h f = record {
 }
 
 -- an instance comes that has taken none
-pub fits_new : (w : World) (t : Tenant) (s : Space) (total : ℕ) → charges_in (journal t) ≡ 0 → FitsBook w total
+pub fits_new : (w : World) (t : Tenant) (s : Space) (total : ℕ) → charges_in (own_calls t) ≡ 0 → FitsBook w total
     → FitsBook (record w { tenants = w.tenants ++ Some t ∷ []; space = s }) total
 fits_new w t s total none f =
     let sums = sum_by-append charges_by w.tenants (Some t ∷ []) in

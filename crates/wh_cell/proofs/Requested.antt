@@ -1,5 +1,5 @@
 -- What requests, and pages that move, make of the book that fits the charges of a host.
-use Rattle.std.proofs.Common.{◌≡◌, ℕ, ◌+◌, List, [], ◌∷◌, ◌++◌, Option, Some, refl, sym, ap, subst, ◌∙◌, arith, ℤ}
+use Rattle.std.proofs.Common.{◌≡◌, ◌≢◌, ℕ, ◌+◌, ◌≤◌, length, List, [], ◌∷◌, ◌++◌, Option, Some, refl, sym, ap, subst, ◌∙◌, arith, ℤ}
 use Rattle.std.proofs.lemmas.List.Sums.{sum_by-cons, sum_by-append}
 use Rattle.wh_model.specs.Format.Syntax.{Module}
 use Rattle.wh_model.specs.Execution.Store.{Instance, Store}
@@ -8,16 +8,21 @@ use Rattle.wh_model.specs.Execution.Replay.{cancelled}
 use Rattle.wh_host_model.specs.declared.plain.InstId.{InstId}
 use Rattle.wh_host_model.specs.declared.plain.SwapError.{SwapError}
 use Rattle.wh_host_model.specs.Space.Parts.{Space}
-use Rattle.wh_host_model.specs.Host.Worlds.{Doing, Tenant, World, journal, for_device}
+use Rattle.wh_host_model.specs.Host.Worlds.{Doing, Tenant, World, journal, own_calls, tenant, for_device}
 use Rattle.wh_host_model.specs.Owners.{Entry, new_entry}
-use Rattle.wh_host_model.specs.Owners.{Params}
+use Rattle.wh_host_model.specs.Owners.{Params, Quota, call_open}
+use Rattle.wh_host_model.specs.Host.Forking.{Forks}
 use Rattle.wh_host_model.specs.Host.OwnerCalls.{TakesCall, more_fuel, Refuels, has_more, Cancels, Retries, may_try}
 use Rattle.wh_host_model.specs.Host.OwnerCalls as calls
 use Rattle.wh_host_model.specs.Host.Admission.{StartsAs, writes, runs, ends}
-use Rattle.wh_host_model.specs.Host.Happens.{IsLoad, is_loaded, isnt_loaded, no_memory_to_load, LoadAnswer, IsAdmit, is_admitted, isnt_admitted, no_memory_to_admit, AdmitAnswer, IsInvoke, is_invoked, has_no_instance, isnt_invoked, no_memory_to_invoke, InvokeAnswer, CallAnswer, IsRefuel, is_refueled, no_one_to_refuel, no_call_to_refuel, IsCancel, is_cancelled, no_one_to_cancel, no_call_to_cancel, IsRetry, is_retried, no_one_to_retry, no_fault_to_retry, IsRelease, is_released, no_one_to_release, MovesPages, moved, has_failed, OnlyMoves}
+use Rattle.wh_host_model.specs.Host.Happens.{IsFork, ForkAnswer, is_forked, isnt_forked, no_memory_to_fork, no_one_to_fork, IsLoad, is_loaded, isnt_loaded, no_memory_to_load, LoadAnswer, IsAdmit, is_admitted, isnt_admitted, no_memory_to_admit, AdmitAnswer, IsInvoke, is_invoked, has_no_instance, isnt_invoked, no_memory_to_invoke, InvokeAnswer, CallAnswer, IsRefuel, is_refueled, no_one_to_refuel, no_call_to_refuel, IsCancel, is_cancelled, no_one_to_cancel, no_call_to_cancel, IsRetry, is_retried, no_one_to_retry, no_fault_to_retry, IsRelease, is_released, no_one_to_release, MovesPages, moved, has_failed, OnlyMoves}
 use Rattle.wh_host_model.specs.Host.Misreading.{IsMisread}
 use Rattle.wh_cell.specs.Charging.{charges_in, FitsBook, HasTaken}
-use Rattle.wh_cell.proofs.Counted.{charges_at, middle, closed_journal, taken_by_one, fits_taken, fits_new, fits_gone}
+use Rattle.wh_cell.proofs.Counted.{charges_at, middle, closed_copied, closed_journal, copy_has_none, own_more, taken_by_one, fits_taken, fits_new, fits_gone}
+
+-- the calls that were copied with an instance have ended
+abbrev pub HasCopiedEnded : World → Type 0
+HasCopiedEnded w = (i : ℕ) (t : Tenant) → tenant w i ≡ Some t → t.copied ≤ length t.ended
 
 -- nothing was taken
 pub fits_still : (w w2 : World) (total : ℕ) → HasTaken w 0 w2 → FitsBook w total → FitsBook w2 total
@@ -45,14 +50,16 @@ asked_none : (t : Tenant) (e : Entry) → e.call.charges ≡ 0 → charges_in (t
 asked_none t e none =
     omega (arith, none, sum_by-append charges_at t.ended (t.open_calls ++ e ∷ []), sum_by-append charges_at t.open_calls (e ∷ []), sum_by-append charges_at t.ended t.open_calls, sum_by-cons charges_at e [])
 
-takes_none : {m : Module} {s : Space} {t t2 : Tenant} {name : List ℕ} {given : List ℤ} {fuel at : ℕ} → TakesCall m s t name given fuel at t2 → charges_in (journal t2) ≡ charges_in (journal t) + 0
-takes_none {t = t} {given = given} {fuel = fuel} k = ap (λ (z : Tenant). charges_in (journal z)) k.after ∙ asked_none t (new_entry k.func k.vs given fuel) refl
+takes_none : {m : Module} {s : Space} {t t2 : Tenant} {name : List ℕ} {given : List ℤ} {fuel at : ℕ} → TakesCall m s t name given fuel at t2 → t.copied ≤ length t.ended → charges_in (own_calls t2) ≡ charges_in (own_calls t) + 0
+takes_none {t = t} {t2 = t2} {given = given} {fuel = fuel} k had =
+    let e : Entry = new_entry k.func k.vs given fuel in
+    own_more t t2 0 (t.open_calls ++ e ∷ []) (ap (λ (z : Tenant). z.copied) k.after) had (ap (λ (z : Tenant). journal z) k.after) (ap (λ (z : Tenant). charges_in (journal z)) k.after ∙ asked_none t e refl)
 
-pub invoke_fits : (w w2 : World) (id : InstId) (name : List ℕ) (given : List ℤ) (fuel : ℕ) (answer : InvokeAnswer) (total : ℕ) → IsInvoke w id name given fuel answer w2 → FitsBook w total → FitsBook w2 total
-invoke_fits w w2 id name given fuel answer total (is_invoked {t = t} {t2 = t2} live is takes) f = fits_still w w2 total (taken_by_one w id.number 0 t t2 w.space live.0 (takes_none takes)) f
-invoke_fits w w2 id name given fuel answer total (has_no_instance none) f = f
-invoke_fits w w2 id name given fuel answer total (isnt_invoked live is first) f = f
-invoke_fits w w2 id name given fuel answer total (no_memory_to_invoke live is none) f = f
+pub invoke_fits : (w w2 : World) (id : InstId) (name : List ℕ) (given : List ℤ) (fuel : ℕ) (answer : InvokeAnswer) (total : ℕ) → HasCopiedEnded w → IsInvoke w id name given fuel answer w2 → FitsBook w total → FitsBook w2 total
+invoke_fits w w2 id name given fuel answer total had (is_invoked {t = t} {t2 = t2} live is takes) f = fits_still w w2 total (taken_by_one w id.number 0 t t2 w.space live.0 (takes_none takes (had id.number t live.0))) f
+invoke_fits w w2 id name given fuel answer total had (has_no_instance none) f = f
+invoke_fits w w2 id name given fuel answer total had (isnt_invoked live is first) f = f
+invoke_fits w w2 id name given fuel answer total had (no_memory_to_invoke live is none) f = f
 
 -- the present call is another one that has taken as many
 like_first : (t t2 : Tenant) (e f : Entry) (es : List Entry) → t.open_calls ≡ e ∷ es → f.call.charges ≡ e.call.charges → journal t2 ≡ t.ended ++ f ∷ es → charges_in (journal t2) ≡ charges_in (journal t) + 0
@@ -61,27 +68,28 @@ like_first t t2 e f es there same now =
     let is : charges_in (journal t2) ≡ charges_in (t.ended ++ f ∷ es) = ap charges_in now in
     omega (arith, was, is, same, middle t.ended es e, middle t.ended es f)
 
-refuels_none : {t : Tenant} {n : ℕ} {t2 : Tenant} → Refuels t n t2 → charges_in (journal t2) ≡ charges_in (journal t) + 0
-refuels_none {t = t} {n = n} {t2 = t2} (has_more {e = e} {es = es} there stands) = like_first t t2 e (more_fuel e n) es there refl refl
+refuels_none : {t : Tenant} {n : ℕ} {t2 : Tenant} → Refuels t n t2 → t.copied ≤ length t.ended → charges_in (own_calls t2) ≡ charges_in (own_calls t) + 0
+refuels_none {t = t} {n = n} {t2 = t2} (has_more {e = e} {es = es} there stands) had = own_more t t2 0 (more_fuel e n ∷ es) refl had refl (like_first t t2 e (more_fuel e n) es there refl refl)
 
-pub refuel_fits : (w w2 : World) (id : InstId) (n : ℕ) (answer : CallAnswer) (total : ℕ) → IsRefuel w id n answer w2 → FitsBook w total → FitsBook w2 total
-refuel_fits w w2 id n answer total (is_refueled {t = t} {t2 = t2} live has) f = fits_still w w2 total (taken_by_one w id.number 0 t t2 w.space live.0 (refuels_none has)) f
-refuel_fits w w2 id n answer total (no_one_to_refuel none) f = f
-refuel_fits w w2 id n answer total (no_call_to_refuel live none) f = f
+pub refuel_fits : (w w2 : World) (id : InstId) (n : ℕ) (answer : CallAnswer) (total : ℕ) → HasCopiedEnded w → IsRefuel w id n answer w2 → FitsBook w total → FitsBook w2 total
+refuel_fits w w2 id n answer total had (is_refueled {t = t} {t2 = t2} live has) f = fits_still w w2 total (taken_by_one w id.number 0 t t2 w.space live.0 (refuels_none has (had id.number t live.0))) f
+refuel_fits w w2 id n answer total had (no_one_to_refuel none) f = f
+refuel_fits w w2 id n answer total had (no_call_to_refuel live none) f = f
 
-cancels_none : {s s2 : Space} {t t2 : Tenant} → Cancels s t s2 t2 → charges_in (journal t2) ≡ charges_in (journal t) + 0
-cancels_none {t = t} {t2 = t2} (calls.ends {e = e} {es = es} there stands pins closes) =
+cancels_none : {s s2 : Space} {t t2 : Tenant} → Cancels s t s2 t2 → t.copied ≤ length t.ended → charges_in (own_calls t2) ≡ charges_in (own_calls t) + 0
+cancels_none {t = t} {t2 = t2} (calls.ends {e = e} {es = es} there stands pins closes) had =
     let j = closed_journal closes in
     let was : charges_in (journal t) ≡ charges_in (t.ended ++ e ∷ es) = ap (λ (xs : List Entry). charges_in (t.ended ++ xs)) there in
     let is = ap charges_in j.2 in
-    omega (arith, was, is, j.1, middle t.ended es e, middle t.ended j.0 (record e { call = record e.call { outcome = cancelled } }))
+    let all : charges_in (journal t2) ≡ charges_in (journal t) + 0 = omega (arith, was, is, j.1, middle t.ended es e, middle t.ended j.0 (record e { call = record e.call { outcome = cancelled } })) in
+    own_more t t2 0 _ (closed_copied closes) had j.2 all
 
-pub cancel_fits : (w w2 : World) (id : InstId) (answer : CallAnswer) (total : ℕ) → IsCancel w id answer w2 → FitsBook w total → FitsBook w2 total
-cancel_fits w w2 id answer total (is_cancelled {t = t} {t2 = t2} {s2 = s2} live has) f = fits_still w w2 total (taken_by_one w id.number 0 t t2 s2 live.0 (cancels_none has)) f
-cancel_fits w w2 id answer total (no_one_to_cancel none) f = f
-cancel_fits w w2 id answer total (no_call_to_cancel live none) f = f
+pub cancel_fits : (w w2 : World) (id : InstId) (answer : CallAnswer) (total : ℕ) → HasCopiedEnded w → IsCancel w id answer w2 → FitsBook w total → FitsBook w2 total
+cancel_fits w w2 id answer total had (is_cancelled {t = t} {t2 = t2} {s2 = s2} live has) f = fits_still w w2 total (taken_by_one w id.number 0 t t2 s2 live.0 (cancels_none has (had id.number t live.0))) f
+cancel_fits w w2 id answer total had (no_one_to_cancel none) f = f
+cancel_fits w w2 id answer total had (no_call_to_cancel live none) f = f
 
-retries_none : {t t2 : Tenant} → Retries t t2 → charges_in (journal t2) ≡ charges_in (journal t) + 0
+retries_none : {t t2 : Tenant} → Retries t t2 → charges_in (own_calls t2) ≡ charges_in (own_calls t) + 0
 retries_none (may_try there stands) = omega arith
 
 pub retry_fits : (w w2 : World) (id : InstId) (answer : CallAnswer) (total : ℕ) → IsRetry w id answer w2 → FitsBook w total → FitsBook w2 total
@@ -92,6 +100,20 @@ retry_fits w w2 id answer total (no_fault_to_retry live none) f = f
 pub release_fits : (w w2 : World) (id : InstId) (answer : Option (List ℕ)) (total : ℕ) → IsRelease w id answer w2 → FitsBook w total → FitsBook w2 total
 release_fits w w2 id answer total (is_released {t = t} live l) f = subst (λ z. FitsBook z total) (sym l.after) (fits_gone w id.number total t l.space live.0 f)
 release_fits w w2 id answer total (no_one_to_release none) f = f
+
+-- a copy has taken none: all its calls were copied
+fork_fits_new : (w w2 : World) (t : Tenant) (q : Quota) (place number total : ℕ) → Forks w t q place number w2 → FitsBook w total → FitsBook w2 total
+fork_fits_new w w2 t q place number total f fits =
+    subst (λ z. FitsBook z total) (sym f.after) (fits_new w _ f.space total (copy_has_none t.ended t.open_calls (none_open t.open_calls (f.no_fault call_open))) fits) where
+      none_open : (es : List Entry) → ¬ (es ≢ []) → es ≡ []
+      none_open [] some = refl
+      none_open (e ∷ es) some = absurd (some (λ bad. cc bad))
+
+pub fork_fits : (w w2 : World) (id : InstId) (q : Quota) (answer : ForkAnswer) (total : ℕ) → IsFork w id q answer w2 → FitsBook w total → FitsBook w2 total
+fork_fits w w2 id q answer total (is_forked {t = t} {new = new} live f) fits = fork_fits_new w w2 t q new.place new.number total f fits
+fork_fits w w2 id q answer total (no_one_to_fork none) fits = fits
+fork_fits w w2 id q answer total (isnt_forked live first) fits = fits
+fork_fits w w2 id q answer total (no_memory_to_fork live none) fits = fits
 
 -- ---- pages
 

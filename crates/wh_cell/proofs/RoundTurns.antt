@@ -21,14 +21,17 @@ use Rattle.wh_host.specs.Hosting.{HostState, IsHost}
 use Rattle.wh_host.specs.Paging.{IsGoing}
 use Rattle.wh_host.specs.Rounds.{AllTurn, RunnersStay, TakesTurns}
 use Rattle.wh_host.specs.Series.{HasSpent, IsWholeOrCut, SeriesOf, Spends as SpendsIn, last_turn, turn_before}
-use Rattle.wh_host.proofs.Hosts.{some_within, turn_stays}
+use Rattle.wh_host.proofs.Hosts.{at_place, some_within, turn_stays}
 use Rattle.wh_threads.specs.Working.{ReceivedTurnsState}
 use Rattle.wh_cell.specs.Charging.{HasTaken}
 use Rattle.wh_cell.specs.Going.{WorksTo}
 use Rattle.wh_cell.specs.LeftByOwner.{HasTakenOn, WorksOn}
 use Rattle.wh_cell.specs.RoundCounts.{AreFewEach, AreReceived, charges_by_turns, charges_of_round, turns_by, turns_of_round}
 use Rattle.wh_cell.proofs.Alike.{taken_each}
-use Rattle.wh_cell.proofs.Counted.{Spends, taken_by_one, taken_none, turn_spends}
+use Rattle.wh_cell.proofs.Counted.{Spends, taken_by_one, taken_none, turn_lasts, turn_spends}
+use Rattle.wh_cell.proofs.Asked.{none_copied}
+use Rattle.wh_cell.proofs.Requested.{HasCopiedEnded}
+use Rattle.wh_host_model.specs.Space.Parts.{Space}
 use Rattle.wh_cell.proofs.Going.{works_by, works_on, works_to_itself}
 
 -- ---- charges
@@ -56,13 +59,20 @@ same_spent few n t t2 s spends = by_calls t.open_calls refl where
       omega (arith, charges, first, then)
 
 record Took (w : World) (few n : ℕ) (w2 : World) : Type 0 where
-  taken : HasTaken w n w2
+  taken : HasCopiedEnded w → HasTaken w n w2
+  ended : HasCopiedEnded w → HasCopiedEnded w2
   least : n ≤ few
+
+turn_ended : (w : World) (id : InstId) (t t2 : Tenant) (s : Space) → IsLive w id t → (t.copied ≤ length t.ended → t2.copied ≤ length t2.ended) → HasCopiedEnded w → HasCopiedEnded (with_tenant w id.number (Some t2) s)
+turn_ended w id t t2 s live lasts had j u there = elim (at_place w.tenants id.number j (Some t2) t u live.0 there) [
+  | inl (same, is) ↦ (let one : t2 ≡ u = cc is in subst (λ (z : Tenant). z.copied ≤ length z.ended) one (lasts (had id.number t live.0)))
+  | inr (other, was) ↦ had j u was
+]
 
 turn_took : (w w2 : World) (id : InstId) (few n : ℕ) (end : TurnEnd) → IsTurn w id few end w2 → HasSpent w id n w2 → Took w few n w2
 turn_took w w2 id few n end (of_none none) spent =
     let is = spent.0 none in
-    record { taken = subst (λ i. HasTaken w i w) (sym is) (taken_none w); least = omega (arith, is) }
+    record { taken = λ had. subst (λ i. HasTaken w i w) (sym is) (taken_none w); ended = λ had. had; least = omega (arith, is) }
 turn_took w w2 id few n end (of_one {t = t} {t2 = t2} {s2 = s2} live happens) spent =
     let s = turn_spends few w.space s2 t t2 end happens in
     let within = some_within w.tenants id.number t live.0 in
@@ -70,7 +80,11 @@ turn_took w w2 id few n end (of_one {t = t} {t2 = t2} {s2 = s2} live happens) sp
     let live2 : IsLive (with_tenant w id.number (Some t2) s2) id t2 = (get_or-set_same w.tenants id.number (Some t2) None within, stays.place ∙ live.1) in
     let same = same_spent few n t t2 s (spent.1 t t2 live live2) in
     let f = s.few in
-    record { taken = subst (λ i. HasTaken w i (with_tenant w id.number (Some t2) s2)) same (taken_by_one w id.number s.taken t t2 s2 live.0 s.all); least = omega (arith, same, f) }
+    record {
+      taken = λ had. subst (λ i. HasTaken w i (with_tenant w id.number (Some t2) s2)) same (taken_by_one w id.number s.taken t t2 s2 live.0 (s.own (had id.number t live.0)));
+      ended = turn_ended w id t t2 s2 live (turn_lasts few w.space s2 t t2 end happens);
+      least = omega (arith, same, f);
+    }
 
 -- ---- who can go on still can behind a turn that says so
 
@@ -96,7 +110,8 @@ going_again w w2 id q answer (of_one {t = t} {t2 = t2} {s2 = s2} live happens) i
 -- ---- series
 
 record SeriesTook (q : ℕ) (w : World) (turns n : ℕ) (w2 : World) : Type 0 where
-  taken : HasTaken w n w2
+  taken : HasCopiedEnded w → HasTaken w n w2
+  ended : HasCopiedEnded w → HasCopiedEnded w2
   few : n ≤ turns * q
   works : WorksTo w [] w2
 
@@ -110,42 +125,47 @@ series_took q id w w2 turns n end goes (last_turn {few = few} whole happens spen
     let one = one-mul q in
     let least = t.least in
     let most = at_most q few n end whole in
-    record { taken = t.taken; few = omega (arith, one, least, most); works = works_by w w2 (turn id few) goes (end, happens) }
+    record { taken = t.taken; ended = t.ended; few = omega (arith, one, least, most); works = works_by w w2 (turn id few) goes (end, happens) }
 series_took q id w w2 turns n end goes (turn_before {mid = mid} {turns = rest} {more = more} happens spent series) =
     let t = turn_took w mid id q q Again happens spent in
     let r = series_took q id mid w2 rest more end (going_again w mid id q Again happens refl goes) series in
     let grows = suc-mul rest q in
     let left = r.few in
     record {
-      taken = taken_then w mid w2 q more t.taken r.taken;
+      taken = λ had. taken_then w mid w2 q more (t.taken had) (r.taken (t.ended had));
+      ended = λ had. r.ended (t.ended had);
       few = omega (arith, grows, left);
       works = works_on w mid w2 [] [] (works_by w mid (turn id q) goes (Again, happens)) r.works;
     }
 
 -- ---- rounds
 
-takes_none : (q most : ℕ) (w w2 : World) (id : InstId) → TakesTurns q most w id None w2 → HasTaken w 0 w2 × WorksTo w [] w2
-takes_none q most w w2 id same = (subst (λ z. HasTaken w 0 z) (sym same) (taken_none w), subst (λ z. WorksTo w [] z) (sym same) (works_to_itself w))
+-- so many charges were taken, and the calls that were copied have ended still
+abbrev TakesOn : World → ℕ → World → Type 0
+TakesOn w n w2 = HasCopiedEnded w → HasTaken w n w2 × HasCopiedEnded w2
 
-one_took : (q most : ℕ) (w w2 : World) (id : InstId) (answer : Option SeriesEnd) → TakesTurns q most w id answer w2 → HasTaken w (charges_by_turns answer) w2 × WorksTo w [] w2
+takes_none : (q most : ℕ) (w w2 : World) (id : InstId) → TakesTurns q most w id None w2 → TakesOn w 0 w2 × WorksTo w [] w2
+takes_none q most w w2 id same = (subst (λ z. TakesOn w 0 z) (sym same) (λ had. (taken_none w, had)), subst (λ z. WorksTo w [] z) (sym same) (works_to_itself w))
+
+one_took : (q most : ℕ) (w w2 : World) (id : InstId) (answer : Option SeriesEnd) → TakesTurns q most w id answer w2 → TakesOn w (charges_by_turns answer) w2 × WorksTo w [] w2
 one_took q most w w2 id None takes = takes_none q most w w2 id takes
 one_took q most w w2 id (Some made) takes =
     let s = series_took q id w w2 made.turns made.charges made.end takes.0 takes.2 in
-    (s.taken, s.works)
+    (λ had. (s.taken had, s.ended had), s.works)
 
-pub round_took : (q most : ℕ) (w w2 : World) (ys : List Runner) → AllTurn q most w ys w2 → HasTaken w (charges_of_round ys) w2 × WorksTo w [] w2
-round_took q most w w2 [] same = (subst (λ z. HasTaken w 0 z) (sym same) (taken_none w), subst (λ z. WorksTo w [] z) (sym same) (works_to_itself w))
+pub round_took : (q most : ℕ) (w w2 : World) (ys : List Runner) → AllTurn q most w ys w2 → TakesOn w (charges_of_round ys) w2 × WorksTo w [] w2
+round_took q most w w2 [] same = (subst (λ z. TakesOn w 0 z) (sym same) (λ had. (taken_none w, had)), subst (λ z. WorksTo w [] z) (sym same) (works_to_itself w))
 round_took q most w w2 (y ∷ ys) (mid, first, rest) =
     let a = one_took q most w mid y.id y.answer first in
     let b = round_took q most mid w2 ys rest in
     let sum : charges_by_turns y.answer + charges_of_round ys ≡ charges_of_round (y ∷ ys) = sym (sum_by-cons (λ (z : Runner). charges_by_turns z.answer) y ys) in
-    (subst (λ n. HasTaken w n w2) sum (taken_then w mid w2 (charges_by_turns y.answer) (charges_of_round ys) a.0 b.0), works_on w mid w2 [] [] a.1 b.1)
+    (λ had. (let x = a.0 had in let z = b.0 x.1 in (subst (λ n. HasTaken w n w2) sum (taken_then w mid w2 (charges_by_turns y.answer) (charges_of_round ys) x.0 z.0), z.1)), works_on w mid w2 [] [] a.1 b.1)
 
 -- it leads on from whatever host
 pub round_taken : (h h2 : HostState) (q most : ℕ) (ys : List Runner) → (w : World) × IsHost h w → ((w : World) → IsHost h w → (w2 : World) × AllTurn q most w ys w2 × IsHost h2 w2) → HasTakenOn h (charges_of_round ys) h2
 round_taken h h2 q most ys some turns =
     let x = turns some.0 some.1 in
-    taken_each h h2 some.0 x.0 (charges_of_round ys) some.1 x.2 (round_took q most some.0 x.0 ys x.1).0
+    taken_each h h2 some.0 x.0 (charges_of_round ys) some.1 x.2 ((round_took q most some.0 x.0 ys x.1).0 (none_copied h some.0 some.1)).0
 
 pub works_by_round : (h h2 : HostState) (q most : ℕ) (ys : List Runner) → ((w : World) → IsHost h w → (w2 : World) × AllTurn q most w ys w2 × IsHost h2 w2) → WorksOn h [] h2
 works_by_round h h2 q most ys turns w st = let x = turns w st in (x.0, (round_took q most w x.0 ys x.1).1, x.2)

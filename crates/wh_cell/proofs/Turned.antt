@@ -1,10 +1,10 @@
 -- What the code tells of a turn's charges is what the turn took.
-use Rattle.std.proofs.Common.{◌≡◌, ℕ, ◌+◌, ◌-◌, ◌<◌, ◌^◌, List, [], ◌∷◌, ◌++◌, length, slice_get, Option, Some, None, refl, sym, ap, subst, ◌∙◌, arith, append-nil}
+use Rattle.std.proofs.Common.{◌≡◌, ℕ, ◌+◌, ◌-◌, ◌<◌, ◌≤◌, ◌^◌, List, [], ◌∷◌, ◌++◌, length, slice_get, Option, Some, None, refl, sym, ap, subst, ◌∙◌, arith, append-nil}
 use Rattle.std.proofs.lemmas.List.{get_or-set_same}
 use Rattle.wh_host_model.specs.declared.plain.InstId.{InstId}
 use Rattle.wh_host_model.specs.declared.plain.TurnEnd.{TurnEnd}
 use Rattle.wh_host_model.specs.Space.Parts.{Space}
-use Rattle.wh_host_model.specs.Host.Worlds.{Tenant, World, journal, tenant, with_tenant}
+use Rattle.wh_host_model.specs.Host.Worlds.{Tenant, World, journal, own_calls, tenant, with_tenant}
 use Rattle.wh_host_model.specs.Owners.{Entry}
 use Rattle.wh_host_model.specs.Host.Happens.{IsLive, IsTurn, of_none, of_one}
 use Rattle.wh_host.specs.Telling.{AreChargesTold}
@@ -53,14 +53,14 @@ two_charges : (b a n : ℕ) → a ≡ b + n → n < 2 ^ 32 → charges_between (
 two_charges b a n more few = let is : a - b ≡ n = omega (arith, more) in omega (arith, is, few)
 
 told_before : (w w2 : World) (id : InstId) (q call : ℕ) (t t2 : Tenant) (s : Space) (before after : Option ℕ)
-    → IsLive w id t → t2.place ≡ t.place → w2 ≡ with_tenant w id.number (Some t2) s → length t.ended ≡ call → q < 2 ^ 32 → Spends q t t2
+    → IsLive w id t → t2.place ≡ t.place → w2 ≡ with_tenant w id.number (Some t2) s → length t.ended ≡ call → t.copied ≤ length t.ended → q < 2 ^ 32 → Spends q t t2
     → AreChargesTold w id call before → AreChargesTold w2 id call after → HasTaken w (charges_between before after) w2
-told_before w w2 id q call t t2 s None after live place is at few spends told told2 =
+told_before w w2 id q call t t2 s None after live place is at had few spends told told2 =
     let none : slice_get (journal t) (length t.ended) ≡ None = ap (slice_get (journal t)) at ∙ told t live in
     let idle = spends.idle (none_is_open t none) in
-    let all : charges_in (journal t2) ≡ charges_in (journal t) + 0 = spends.all ∙ ap (λ n. charges_in (journal t) + n) idle in
+    let all : charges_in (own_calls t2) ≡ charges_in (own_calls t) + 0 = spends.own had ∙ ap (λ n. charges_in (own_calls t) + n) idle in
     subst (λ z. HasTaken w 0 z) (sym is) (taken_by_one w id.number 0 t t2 s live.0 all)
-told_before w w2 id q call t t2 s (Some b) after live place is at few spends told told2 =
+told_before w w2 id q call t t2 s (Some b) after live place is at had few spends told told2 =
     let t3 = told.0 in
     let e = told.1 in
     let same : t3 ≡ t = same_tenant w id t3 t told.2 live in
@@ -70,7 +70,7 @@ told_before w w2 id q call t t2 s (Some b) after live place is at few spends tol
     let within = some_within w.tenants id.number t live.0 in
     let live2 : IsLive w2 id t2 = (ap (λ (z : World). tenant z id.number) is ∙ get_or-set_same w.tenants id.number (Some t2) None within, place ∙ live.1) in
     let here : slice_get (journal t2) call ≡ Some p.0 = ap (slice_get (journal t2)) (sym at) ∙ p.1 in
-    let taken = taken_by_one w id.number spends.taken t t2 s live.0 spends.all in
+    let taken = taken_by_one w id.number spends.taken t t2 s live.0 (spends.own had) in
     by_after after told2 live2 here taken p.2 where
       by_after : (after : Option ℕ) → AreChargesTold w2 id call after → (live2 : IsLive w2 id t2) → {e2 : Entry} → slice_get (journal t2) call ≡ Some e2 → HasTaken w spends.taken (with_tenant w id.number (Some t2) s) → e2.call.charges ≡ told.1.call.charges + spends.taken → HasTaken w (charges_between (Some b) after) w2
       by_after None told2 live2 {e2 = e2} here taken more = absurd (let bad : None ≡ Some e2 = sym (told2 t2 live2) ∙ here in cc bad)
@@ -83,9 +83,9 @@ told_before w w2 id q call t t2 s (Some b) after live place is at few spends tol
           subst (λ k. HasTaken w k w2) (sym n) (subst (λ z. HasTaken w spends.taken z) (sym is) taken)
 
 pub turn_taken : (w w2 : World) (id : InstId) (q call : ℕ) (answer : TurnEnd) (before after : Option ℕ) → IsTurn w id q answer w2
-    → ((t : Tenant) → IsLive w id t → length t.ended ≡ call) → q < 2 ^ 32
+    → ((t : Tenant) → IsLive w id t → length t.ended ≡ call) → ((t : Tenant) → IsLive w id t → t.copied ≤ length t.ended) → q < 2 ^ 32
     → AreChargesTold w id call before → AreChargesTold w2 id call after → HasTaken w (charges_between before after) w2
-turn_taken w w2 id q call answer None after (of_none none) present few told told2 = taken_none w
-turn_taken w w2 id q call answer (Some b) after (of_none none) present few told told2 = absurd (none told.0 told.2)
-turn_taken w w2 id q call answer before after (of_one {t = t} {t2 = t2} {s2 = s2} live turn) present few told told2 =
-    told_before w w2 id q call t t2 s2 before after live (turn_stays q w.space s2 t t2 answer turn).place refl (present t live) few (turn_spends q w.space s2 t t2 answer turn) told told2
+turn_taken w w2 id q call answer None after (of_none none) present had few told told2 = taken_none w
+turn_taken w w2 id q call answer (Some b) after (of_none none) present had few told told2 = absurd (none told.0 told.2)
+turn_taken w w2 id q call answer before after (of_one {t = t} {t2 = t2} {s2 = s2} live turn) present had few told told2 =
+    told_before w w2 id q call t t2 s2 before after live (turn_stays q w.space s2 t t2 answer turn).place refl (present t live) (had t live) few (turn_spends q w.space s2 t t2 answer turn) told told2

@@ -1,6 +1,6 @@
 -- The charges that the calls of a host took, and the book in which they are counted.
 use Rattle.std.specs.Prelude.{◌≡◌, ◌+◌, ◌≤◌, ℕ, List, length, sum_by, Option, Some, None}
-use Rattle.wh_host_model.specs.Host.Worlds.{Tenant, World, journal}
+use Rattle.wh_host_model.specs.Host.Worlds.{Tenant, World, own_calls}
 use Rattle.wh_host_model.specs.Owners.{Entry}
 use Rattle.wh_host_model.specs.Host.Admission.{live_count}
 
@@ -8,10 +8,10 @@ use Rattle.wh_host_model.specs.Host.Admission.{live_count}
 abbrev pub charges_in : List Entry → ℕ
 charges_in es = sum_by (λ e. e.call.charges) es
 
--- of an instance, if it is live
+-- of an instance, if it is live: no worker took those of the calls that were copied with it
 abbrev pub charges_by : Option Tenant → ℕ
 charges_by None = 0
-charges_by (Some t) = charges_in (journal t)
+charges_by (Some t) = charges_in (own_calls t)
 
 -- of all live ones
 abbrev pub charged : World → ℕ
