@@ -136,6 +136,7 @@ tenant_of {k = k} {p = p} {place = place} l = record {
   rest = rest_of l.s;
   doing = l.doing;
   ended = l.ended;
+  copied = 0;
   open_calls = l.open_calls;
   waiting_for = None;
   dead = false;

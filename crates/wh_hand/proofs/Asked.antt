@@ -134,6 +134,7 @@ comer w k p id w2 lets = record {
   rest = rest_of lets.s;
   doing = lets.doing;
   ended = lets.ended;
+  copied = 0;
   open_calls = lets.open_calls;
   waiting_for = None;
   dead = false;

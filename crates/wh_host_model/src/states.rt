@@ -75,9 +75,9 @@ pub enum Offer {
     Skipped,
     /// The page was zero, and has no frame any more.
     Zeroed,
-    /// The page is the hint of its hash.
+    /// The page is the hint of its hash; or the shared frame on which it is, and which had no entry, has one under it.
     Hinted,
-    /// It took the place of a hint whose page had changed.
+    /// It took the place of a hint whose page had changed, or that frame did.
     Stale,
     /// It shares a frame with a page of equal bytes.
     Merged,

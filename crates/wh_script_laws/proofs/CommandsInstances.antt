@@ -133,6 +133,7 @@ comer {k = k} {p = p} {place = place} lets = record {
   rest = rest_of lets.s;
   doing = lets.doing;
   ended = lets.ended;
+  copied = 0;
   open_calls = lets.open_calls;
   waiting_for = None;
   dead = false;
