@@ -110,8 +110,8 @@ fn paired(memory: &mut Memory, place: u32, page: u32, hash: u64) -> bool {
     true
 }
 
-// The instance of this number goes, if it is at this place.
-fn gone(memory: &mut Memory, place: u32, number: u64) -> bool {
+/// The instance of this number goes, if it is at this place.
+pub fn gone(memory: &mut Memory, place: u32, number: u64) -> bool {
     if !memory.is_at(place, number) {
         return false;
     }

@@ -6,6 +6,9 @@
 //! for each page. Every 250 steps all bytes are compared, and the sums of frames; and every 1000, where all hashes were right, all
 //! pages are offered, and the frames in use counted.
 //!
+//! Instances are copied at random too, beside flat copies: copies and those that they are copies of are written, offered and
+//! released, and after each pass no frame is shared without an entry.
+//!
 //! Then it goes through tables that were worked out by hand: what is done, row by row, and what has to come of it.
 //!
 //! It prints a line for each list and each table. The status is 1 where anything differs, or an answer of an offer that a list
@@ -15,6 +18,7 @@
 mod access;
 mod arrivals;
 mod beside;
+mod copies;
 mod ground;
 mod leaving;
 mod offers;
@@ -108,6 +112,8 @@ fn main(rt: HostRuntime) -> Result<()> {
     ensure!(counts.hinted > 0 && counts.merged > 10, "{counts:?}");
     ensure!(counts.stale > 0 && counts.false_match > 100, "{counts:?}");
     println!(rt; "one hash for all, others too: {STEPS} steps agree")?;
+
+    copies::run(&rt)?;
 
     tables::run(&rt)?;
     paging::run(&rt)

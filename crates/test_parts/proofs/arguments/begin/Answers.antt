@@ -24,6 +24,7 @@ begun_tenant l p begun fuel x i begins =
       rest = rest_of (first_store (view_module l.valid.decoded) p i.globals i.elements);
       doing = made.0;
       ended = made.1;
+      copied = 0;
       open_calls = made.2;
       waiting_for = None;
       dead = false;
