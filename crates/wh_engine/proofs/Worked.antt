@@ -7,7 +7,7 @@ use Rattle.wh_host_model.specs.declared.plain.SwapError.{SwapError}
 use Rattle.wh_host_model.specs.Space.Parts.{claim}
 use Rattle.wh_host_model.specs.Host.Events.{Event, turn, load, admit, invoke, refuel, cancel, retry, release, fork, offer, evict_begin, evict_commit, fetch_begin, fetch_commit, provide, epoch}
 use Rattle.wh_host_model.specs.Host.Happens.{AwaitsFrame, AwaitsFrameFor, Happens, MovesPages, OnlyMoves, has_failed, moved}
-use Rattle.wh_host_model.specs.Host.Worlds.{Tenant, World, for_device, journal, journal_calls, with_tenant}
+use Rattle.wh_host_model.specs.Host.Worlds.{Tenant, World, for_device, with_tenant}
 use Rattle.wh_script_model.specs.ScriptState.{ScriptState, NamedInstance}
 use Rattle.wh_script_model.specs.Settings.{Settings}
 use Rattle.wh_host_model.proofs.Host.Holding.{memory_is_sound}
