@@ -1,5 +1,7 @@
 #!/usr/bin/env python3
-"""Says which relative links and anchors of the pages lead nowhere, and whether the pages have more words than they may."""
+"""Says which relative links and anchors of the pages lead nowhere, where they miscount the edits that the prover refuses, and whether
+they have more words than they may."""
+import collections
 import pathlib
 import re
 import subprocess
@@ -68,6 +70,24 @@ def faults_of(page, known):
                 yield f"{page}: {link} leads to no heading"
 
 
+def miscounts(files):
+    """Where the pages say another number of edits than there are."""
+    edits = [file.parts[1:3] for file in files if file.match("crates/*/*/*.edit")]
+    kinds = collections.Counter(kind for _, kind in edits)
+    of = collections.Counter(crate for crate, kind in edits if kind != "edits-of-definitions")
+    gate, bodies = kinds["must-fail"], sum(of.values())
+    said = {
+        "README.md": [f" {gate} edits"],
+        "docs/proved.md": [f" {bodies} in all, {gate} of them tried by the gate"],
+        "docs/testing.md": [f"{bodies} wrong bodies"] + [f" {kinds[kind]} in `crates/*/{kind}`" for kind in ("must-fail", "edits-by-hand")]
+        + [f" {kinds['edits-of-definitions']} more, in `crates/*/edits-of-definitions`"],
+    }
+    yield from (f"{page} lacks {words!r}" for page in said for words in said[page] if words not in (root / page).read_text())
+    for cell in re.findall(r"\| ([^|]*) \|$", (root / "docs/proved.md").read_text(), re.M):
+        of.subtract({crate: int(count) for crate, count in re.findall(r"`(\w+)` (\d+)", cell)})
+    yield from (f"docs/proved.md: {-left:+} edits of {crate}" for crate, left in of.items() if left)
+
+
 def is_counted(page):
     """Whether the page is one of docs, or that of a crate."""
     return page.parts[0] == "docs" or page.match("crates/*/README.md") and len(page.parts) == 3
@@ -76,7 +96,7 @@ def is_counted(page):
 def main():
     files, known = tracked()
     pages = sorted(file for file in files if file.suffix == ".md")
-    faults = [fault for page in pages for fault in faults_of(page, known)]
+    faults = [fault for page in pages for fault in faults_of(page, known)] + list(miscounts(files))
     words = sum(len((root / page).read_text().split()) for page in pages if is_counted(page))
     if words > MOST_WORDS:
         faults.append(f"the pages have {words} words, more than {MOST_WORDS}")
