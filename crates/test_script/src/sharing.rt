@@ -353,3 +353,22 @@ fn the_report_shows_shares_by_pages(rt: HostRuntime) -> Result<(), Fail> {
     }
     Ok(())
 }
+
+/// Memories of 1025 pages of 65536 bytes. `st` stores a word; `run` counts to a number, reads a word halfway, and returns it.
+const HIGH: &str =
+    "module m 0061736d01000000010c0260027f7e0060027f7f017f0303020001050401008108070c0202737400000372756e00010a33020900200020013700000b2701027f034020022000410176460440200128000021030b200241016a22022000490d000b20030b\n";
+
+/// What two instances of this module do at 2^26, where page 16384 begins, the second time for long enough to be run side by
+/// side.
+const HIGH_CALLS: &str =
+    "admit a m 100 2 16400 0 0 0\nadmit b m 100 2 16400 0 0 0\ninvoke a st 10 67108864 5\ninvoke b st 10 67108864 6\ndrain\ninvoke a run 100000000 200000 67108864\ninvoke b run 100000000 200000 67108864\nreport\n";
+
+/// What they get. The pages were read, and so are touched.
+const HIGH_REPLIES: &str =
+    "module m ok\nadmit a ok 0\nadmit b ok 1\ncall 1 done charges 3\ncall 2 done charges 3\ncall 3 done 5 charges 2200005\ncall 4 done 6 charges 2200005\n# frames 1024 used 2 free 1022\n# slots 65536 used 0 free 65536\n# shared frames 0 sharers 0\n#     0     100     2 16400     1     1     0 100/1\n#     1     100     2 16400     1     1     0 100/1\n";
+
+#[test]
+fn pages_above_64_mb_are_touched_where_they_are_read(rt: HostRuntime) -> Result<(), Fail> {
+    let script = format!(in rt.alloc(); "{HIGH}{HIGH_CALLS}")?;
+    expect(&rt, "slots = 65536\n", &script, HIGH_REPLIES)
+}
