@@ -365,7 +365,7 @@ const HIGH_CALLS: &str =
 
 /// What they get. The pages were read, and so are touched.
 const HIGH_REPLIES: &str =
-    "module m ok\nadmit a ok 0\nadmit b ok 1\ncall 1 done charges 3\ncall 2 done charges 3\ncall 3 done 5 charges 2200005\ncall 4 done 6 charges 2200005\n# frames 1024 used 2 free 1022\n# slots 65536 used 0 free 65536\n# shared frames 0 sharers 0\n#     0     100     2 16400     1     1     0 100/1\n#     1     100     2 16400     1     1     0 100/1\n";
+    "module m ok\nadmit a ok 0\nadmit b ok 1\ncall 1 done charges 3\ncall 2 done charges 3\ncall 3 done 5 charges 2400004\ncall 4 done 6 charges 2400004\n# frames 1024 used 2 free 1022\n# slots 65536 used 0 free 65536\n# shared frames 0 sharers 0\n#     0     100     2 16400     1     1     0 100/1\n#     1     100     2 16400     1     1     0 100/1\n";
 
 #[test]
 fn pages_above_64_mb_are_touched_where_they_are_read(rt: HostRuntime) -> Result<(), Fail> {
