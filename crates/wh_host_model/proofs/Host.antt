@@ -8,6 +8,7 @@ pub mod Keeping
 pub mod Running
 pub mod Empty
 pub mod Copied
+pub mod Numbered
 pub mod Lasting
 pub mod Holding
 pub mod StuckLemmas

@@ -1,10 +1,10 @@
 //! The law over every run.
 
-ghost use Rattle.wh_host_model.specs.Host.Laws.{MemoryIsSound, PlacesAreRight, PromisesAreKept, InstancesReplay, ChargesAreWithin, CopiedCallsHaveEnded, JournalsAreInOrder, SuspensionsAreRight, FrameIsLacking, AgainIsReady, OneTurn};
+ghost use Rattle.wh_host_model.specs.Host.Laws.{MemoryIsSound, PlacesAreRight, PromisesAreKept, ModulesAreKept, InstancesReplay, ChargesAreWithin, CopiedCallsHaveEnded, JournalsAreInOrder, SuspensionsAreRight, FrameIsLacking, AgainIsReady, OneTurn};
 ghost use Rattle.wh_host_model.specs.Host.Stuck.{NoCallIsStuck};
 ghost use Rattle.wh_host_model.specs.Host.TakenSteps.{ReadyStepsAreTaken};
 ghost use Rattle.wh_host_model.specs.Host.Apart.{NoBytesReachAnother};
-ghost use Rattle.wh_host_model.specs.Host.Progress.{EventsHappen, LoadsAreTaken, AdmissionsAreTaken, CallsAreTaken, ForksAreTaken, IdleTurnsHappen, FuelTurnsHappen, ReadyTurnsHappen};
+ghost use Rattle.wh_host_model.specs.Host.Progress.{EventsHappen, LoadsAreTaken, AdmissionsAreTaken, CallsAreTaken, ForksAreTaken, UnloadsAreTaken, IdleTurnsHappen, FuelTurnsHappen, ReadyTurnsHappen};
 ghost use Rattle.wh_host_model.specs.Host.Misreading.{MemoryStaysSound, PlacesStayRight, ModulesStayAccepted, JournalsStayInOrder, InputsStay, FramesAreAwaited};
 
 /// What holds of a host after every list of events from an empty one, and of what a turn answers. The function does
@@ -13,6 +13,7 @@ pub fn every_run()
     ensures memory_is_sound { MemoryIsSound }
     ensures places_are_right { PlacesAreRight }
     ensures promises_are_kept { PromisesAreKept }
+    ensures modules_are_kept { ModulesAreKept }
     ensures instances_replay { InstancesReplay }
     ensures no_call_is_stuck { NoCallIsStuck }
     ensures charges_are_within { ChargesAreWithin }
@@ -29,6 +30,7 @@ pub fn every_run()
     ensures admissions_are_taken { AdmissionsAreTaken }
     ensures calls_are_taken { CallsAreTaken }
     ensures forks_are_taken { ForksAreTaken }
+    ensures unloads_are_taken { UnloadsAreTaken }
     ensures idle_turns_happen { IdleTurnsHappen }
     ensures fuel_turns_happen { FuelTurnsHappen }
     ensures ready_turns_happen { ReadyTurnsHappen }

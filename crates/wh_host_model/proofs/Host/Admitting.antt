@@ -1,5 +1,5 @@
 -- An admission that meets no fault can be accepted.
-use Rattle.std.proofs.Common.{◌≡◌, ℕ, zero, suc, ◌+◌, ◌*◌, ◌/◌, ◌<◌, ◌≤◌, inl, inr, false, replicate, List, [], ◌∷◌, reverse, Option, Some, None, length, slice_get, refl, sym, ap, subst, ◌∙◌, arith}
+use Rattle.std.proofs.Common.{◌≡◌, ℕ, ◌+◌, ◌*◌, ◌/◌, ◌<◌, ◌≤◌, inl, inr, false, replicate, List, [], ◌∷◌, reverse, Option, Some, None, length, refl, sym, ap, subst, ◌∙◌, arith}
 use Rattle.std.proofs.lemmas.List.{length-replicate}
 use Rattle.wh_model.specs.Format.Syntax.{Body, FuncType, Module, nothing}
 use Rattle.wh_model.specs.Validity.Typing.{Context}
@@ -20,7 +20,7 @@ use Rattle.wh_host_model.specs.declared.states.Page.TheVariants.{Untouched}
 use Rattle.wh_host_model.specs.Space.Parts.{Space, minima}
 use Rattle.wh_host_model.specs.Space.Places.{newcomer, with_row}
 use Rattle.wh_host_model.specs.Host.Spaces.{Arrives}
-use Rattle.wh_host_model.specs.Host.Worlds.{Doing, Loaded, World, computing, empty_world, has_left, promised, resting}
+use Rattle.wh_host_model.specs.Host.Worlds.{Doing, Loaded, World, computing, empty_world, has_left, loaded_of, promised, resting}
 use Rattle.wh_host_model.specs.Owners.{Entry, start_entry}
 use Rattle.wh_host_model.specs.Owners.{Params, given_of, AdmitFault, frames, memory, min_max, no_module, segments, shares, swap, most_fuel}
 use Rattle.wh_host_model.specs.Host.CallAnswers.{Faces}
@@ -28,6 +28,7 @@ use Rattle.wh_host_model.specs.Host.Admission.{MeetsFault, StartsAs}
 use Rattle.wh_host_model.specs.Host.Admission as admission
 use Rattle.wh_host_model.specs.Host.Happens.{IsAdmit, admit_ok, is_admitted}
 use Rattle.wh_host_model.specs.Host.Progress.{AdmissionsAreTaken}
+use Rattle.wh_host_model.proofs.Host.Deciding.{loaded_or_not}
 use Rattle.wh_host_model.proofs.Host.Empty.{good_empty}
 use Rattle.wh_host_model.proofs.Host.Leaving.{enters_alone}
 use Rattle.wh_host_model.proofs.Host.Numbering.{AreAdmitted, next_is_fresh, none_admitted, run_below}
@@ -35,13 +36,8 @@ use Rattle.wh_host_model.proofs.Host.Running.{IsGood, good_run}
 
 -- ---- the module
 
-loaded_there : (xs : List Loaded) (k : ℕ) → k < length xs → (l : Loaded) × (slice_get xs k ≡ Some l)
-loaded_there [] k low = absurd (omega (arith, low))
-loaded_there (x ∷ xs) zero low = (x, refl)
-loaded_there (x ∷ xs) (suc k) low = loaded_there xs k (omega (arith, low))
-
-below_length : (n k : ℕ) → ¬ (n ≤ k) → k < n
-below_length n k none = omega (arith, none)
+loaded_there : (w : World) (k : ℕ) → ¬ (loaded_of w k ≡ None) → (l : Loaded) × (loaded_of w k ≡ Some l)
+loaded_there w k none = elim (loaded_or_not (loaded_of w k)) [ inl gone ↦ absurd (none gone) | inr found ↦ found ]
 
 pub at_least : (a b : ℕ) → ¬ (a < b) → b ≤ a
 at_least a b none = omega (arith, none)
@@ -175,7 +171,7 @@ some_place w k p size good below none fits =
 admits_one : (w : World) (k : ℕ) (p : Params) → IsGood w → AreAdmitted w → AreGiven (given_of p) → p.fuel ≤ most_fuel → ((fault : AdmitFault) → ¬ (MeetsFault w k p fault))
     → (id : InstId) × (w2 : World) × IsAdmit w k p (admit_ok id) w2
 admits_one w k p good below given count none =
-    let found = loaded_there w.modules k (below_length (length w.modules) k (none no_module)) in
+    let found = loaded_there w k (none no_module) in
     let l : Loaded = found.0 in
     let can = good.modules k l found.1 in
     let b = some_beginning l.m (given_of p) can.valid can.links in

@@ -12,11 +12,11 @@ use Rattle.wh_model.specs.Execution.Store.{FuncInst, Instance, Value, host, own,
 use Rattle.wh_model.specs.Format.Syntax.{Body, Export, FuncType, Module}
 use Rattle.wh_model.proofs.Instance.{one_beginning}
 use Rattle.wh_host_model.specs.Space.Parts.{Space, minima, spreads}
-use Rattle.wh_host_model.specs.Host.Worlds.{Loaded, Tenant, World, journal, loaded_of}
+use Rattle.wh_host_model.specs.Host.Worlds.{Loaded, Tenant, World, journal, loaded_of, tenant}
 use Rattle.wh_host_model.specs.Owners.{Params, given_of, AdmitFault, admit_rank, frames, instances, memory, min_max, most_instances, no_module, segments, shares, swap, AreArguments, ExportsOwn, InvokeFault, IsArgument, arguments, instance_dead, journal_full, most_calls, most_open, no_export, queue_full, rank}
 use Rattle.wh_host_model.specs.Host.OwnerCalls.{IsFirst, Meets, open_count}
 use Rattle.wh_model.specs.Linking.Accepting.{IsAccepted}
-use Rattle.wh_host_model.specs.Host.Admission.{IsFirstMet, MeetsFault, live_count}
+use Rattle.wh_host_model.specs.Host.Admission.{IsFirstMet, IsUnused, MeetsFault, live_count}
 use Rattle.wh_host_model.specs.Host.Forking.{IsAway, IsFirstForkFault, MeetsForkFault}
 use Rattle.wh_host_model.specs.declared.states.Page.{Page}
 use Rattle.wh_host_model.specs.Space.Claims.{stays}
@@ -115,7 +115,10 @@ of_loaded w k P decide = elim (loaded_or_not (loaded_of w k)) [
 ]
 
 admit_fault : (w : World) (k : ℕ) (p : Params) → ((i : ℕ) (l : Loaded) → loaded_of w i ≡ Some l → IsAccepted l.bytes l.m) → (f : AdmitFault) → Decided (MeetsFault w k p f)
-admit_fault w k p loads no_module = at_most (length w.modules) k
+admit_fault w k p loads no_module = elim (loaded_or_not (loaded_of w k)) [
+  | inl none ↦ inl none
+  | inr (l, is) ↦ inr (λ none. (let bad : None ≡ Some l = sym none ∙ is in cc bad))
+]
 admit_fault w k p loads shares = either (below p.shares 1) (below 1000000 p.shares)
 admit_fault w k p loads min_max = either (below p.min 2) (either (below p.max p.min) (below 65536 p.max))
 admit_fault w k p loads frames = below (length w.space.pool.frames) (minima w.space + p.min)
@@ -219,6 +222,25 @@ first_to_fork w t q loads = elim (first_of fork_rank fork_at fork_is (MeetsForkF
 ]
 
 -- ---- a module that is in use
+
+pub used_or_not : (w : World) (k : ℕ) → ((i : ℕ) × (t : Tenant) × (tenant w i ≡ Some t) × (t.of ≡ k)) ⊎ IsUnused w k
+used_or_not w k = elim (go w.tenants) [ inl (i, t, is, of) ↦ inl (i, t, is, of) | inr none ↦ inr (λ i t is. none i t is) ] where
+  go : (ts : List (Option Tenant)) → ((i : ℕ) × (t : Tenant) × (get_or ts i None ≡ Some t) × (t.of ≡ k)) ⊎ ((i : ℕ) (t : Tenant) → get_or ts i None ≡ Some t → t.of ≢ k)
+  go [] = inr (λ i t is. absurd (cc is))
+  go (o ∷ ts) = elim (go ts) [
+    | inl (i, t, is, of) ↦ inl (suc i, t, is, of)
+    | inr none ↦ first o ts none
+  ] where
+    later : (o : Option Tenant) (ts : List (Option Tenant)) → ((i : ℕ) (t : Tenant) → get_or ts i None ≡ Some t → t.of ≢ k) → ((t : Tenant) → o ≡ Some t → t.of ≢ k) → (i : ℕ) (t : Tenant) → get_or (o ∷ ts) i None ≡ Some t → t.of ≢ k
+    later o ts none here zero t is = here t is
+    later o ts none here (suc i) t is = none i t is
+
+    first : (o : Option Tenant) (ts : List (Option Tenant)) → ((i : ℕ) (t : Tenant) → get_or ts i None ≡ Some t → t.of ≢ k) → ((i : ℕ) × (t : Tenant) × (get_or (o ∷ ts) i None ≡ Some t) × (t.of ≡ k)) ⊎ ((i : ℕ) (t : Tenant) → get_or (o ∷ ts) i None ≡ Some t → t.of ≢ k)
+    first None ts none = inr (later None ts none (λ t e. absurd (cc e)))
+    first (Some t) ts none = elim (here_or k t.of) [
+      | inl same ↦ inl (0, t, refl, same)
+      | inr other ↦ inr (later (Some t) ts none (λ u e. (let one : t ≡ u = cc e in λ of. other (ap (λ (z : Tenant). z.of) one ∙ of))))
+    ]
 
 -- ---- a new call
 

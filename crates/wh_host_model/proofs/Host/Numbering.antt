@@ -12,7 +12,7 @@ use Rattle.wh_host_model.specs.Host.OwnerCalls.{Cancels}
 use Rattle.wh_host_model.specs.Host.OwnerCalls as requests
 use Rattle.wh_host_model.specs.Host.Admission.{LetsGo, LetsIn}
 use Rattle.wh_host_model.specs.Space.Sound.{IsSound}
-use Rattle.wh_host_model.specs.Host.Events.{Event, turn, load, admit, invoke, refuel, cancel, retry, release, fork, offer, evict_begin, evict_commit, fetch_begin, fetch_commit, provide, epoch}
+use Rattle.wh_host_model.specs.Host.Events.{Event, turn, load, admit, invoke, refuel, cancel, retry, release, fork, unload, offer, evict_begin, evict_commit, fetch_begin, fetch_commit, provide, epoch}
 use Rattle.wh_host_model.specs.Host.Happens as happens
 use Rattle.wh_host_model.specs.Host.Happens.{AllHappen, AwaitsFrame, AwaitsFrameFor, Happens, IsLive, IsTurn, MovesPages, OnlyMoves, has_failed, moved, of_none, of_one}
 use Rattle.wh_host_model.proofs.Host.Opening.{Apart, apart_steps}
@@ -150,6 +150,11 @@ fork_below w w2 id q answer sound below (happens.no_one_to_fork x) = below
 fork_below w w2 id q answer sound below (happens.isnt_forked x y) = below
 fork_below w w2 id q answer sound below (happens.no_memory_to_fork x y) = below
 
+unload_below : (w w2 : World) (k : ℕ) (answer : happens.UnloadAnswer) → AreAdmitted w → happens.IsUnload w k answer w2 → AreAdmitted w2
+unload_below w w2 k answer below (happens.is_unloaded l) = subst AreAdmitted (sym l.after) below
+unload_below w w2 k answer below (happens.no_module_to_unload none) = below
+unload_below w w2 k answer below (happens.is_in_use i l x y) = below
+
 moves_below : (w w2 : World) (id : InstId) (awaits : Tenant → Type 0) (fault : Option SwapError) → AreAdmitted w → MovesPages w id awaits fault w2 → AreAdmitted w2
 moves_below w w2 id awaits fault below (moved {s2 = s2} same which) = below_all (length w.tenants) w.space s2 below same
 moves_below w w2 id awaits fault below (has_failed {s2 = s2} same is live waits) = same_count w id.number _ s2 (below_all (length w.tenants) w.space s2 below same)
@@ -167,6 +172,7 @@ event_below w w2 (cancel id) good below h = cancel_below w w2 id h.0 good below 
 event_below w w2 (retry id) good below h = retry_below w w2 id h.0 below h.1
 event_below w w2 (release id) good below h = release_below w w2 id h.0 below h.1
 event_below w w2 (fork id q) good below h = fork_below w w2 id q h.0 good.sound below h.1
+event_below w w2 (unload k) good below h = unload_below w w2 k h.0 below h.1
 event_below w w2 (offer page hash) good below h = only_below w w2 below h
 event_below w w2 (evict_begin id) good below h = only_below w w2 below h
 event_below w w2 (evict_commit id call fault) good below h = moves_below w w2 id (AwaitsFrameFor call) fault below h

@@ -1,5 +1,5 @@
 -- Which events can happen to any host that is reached.
-use Rattle.std.proofs.Common.{mod-lt, suc, zero, ◌≡◌, ◌≢◌, ℕ, ℤ, pos, negsuc, ◌^◌, ◌<◌, ◌≤◌, ◌⊎◌, inl, inr, Bool, true, false, Option, Some, None, List, [], ◌∷◌, ◌++◌, length, map, reverse, slice_get, get_or, refl, sym, ap, subst, ◌∙◌, arith}
+use Rattle.std.proofs.Common.{Bool, List, None, Option, Some, [], ap, arith, false, get_or, inl, inr, length, map, mod-lt, negsuc, pos, refl, reverse, slice_get, slice_set, subst, suc, sym, true, zero, ℕ, ℤ, ◌++◌, ◌<◌, ◌^◌, ◌∙◌, ◌∷◌, ◌≡◌, ◌≢◌, ◌≤◌, ◌⊎◌}
 use Rattle.std.proofs.lemmas.Bool.{cases_lt}
 use Rattle.std.specs.List.{AllByRecursion}
 use Rattle.wh_model.specs.declared.ValType.{ValType}
@@ -18,20 +18,20 @@ use Rattle.wh_host_model.specs.Space.Parts.{Claimed, Occupant, Space, claim, cla
 use Rattle.wh_host_model.specs.Space.Sound.{IsSound}
 use Rattle.wh_host_model.specs.Space.Stores.{ended}
 use Rattle.wh_host_model.specs.Host.Spaces.{WaitsAlone}
-use Rattle.wh_host_model.specs.Host.Worlds.{Doing, Rest, Suspension, Tenant, World, computing, journal, empty_world, for_device, for_frame, for_fuel, resting, store_in, store_with, tenant, with_tenant}
-use Rattle.wh_host_model.specs.Owners.{Entry, new_entry}
-use Rattle.wh_host_model.specs.Owners.{Params, Quota, AreArguments, ExportsOwn, IsArgument, arguments, instance_dead, journal_full, most_calls, most_open, queue_full}
+use Rattle.wh_host_model.specs.Host.Worlds.{Doing, Rest, Suspension, Tenant, World, computing, empty_world, for_device, for_frame, for_fuel, journal, loaded_of, resting, store_in, store_with, tenant, with_tenant}
+use Rattle.wh_host_model.specs.Owners.{AreArguments, Entry, ExportsOwn, IsArgument, Params, Quota, arguments, instance_dead, journal_full, most_calls, most_open, new_entry, queue_full}
+use Rattle.wh_host_model.specs.Owners.{AreArguments, Entry, ExportsOwn, IsArgument, Params, Quota, arguments, instance_dead, journal_full, most_calls, most_open, new_entry, queue_full}
 use Rattle.wh_host_model.specs.Host.Turns.{as_it_was, uses_fuel}
 use Rattle.wh_host_model.specs.Host.CallAnswers.{Closes, Faces, dies, ended_by, faces_next, has_no_fuel, is_dead, is_idle}
 use Rattle.wh_host_model.specs.Host.OwnerCalls.{Meets, Retries, WaitsAfter, has_more, may_try, more_fuel, open_count}
 use Rattle.wh_host_model.specs.Host.OwnerCalls as requests
 use Rattle.wh_host_model.specs.Host.Admission.{decoder_out_of_memory}
-use Rattle.wh_host_model.specs.Host.Events.{Event, turn, load, admit, invoke, refuel, cancel, retry, release, fork, offer, evict_begin, evict_commit, fetch_begin, fetch_commit, provide, epoch}
-use Rattle.wh_host_model.specs.Host.Happens.{fork_no_instance, fork_out_of_memory, fork_refused, isnt_forked, no_memory_to_fork, no_one_to_fork, AwaitsFrame, AwaitsFrameFor, Happens, IsLive, IsTurn, MovesPages, NoInstance, OnlyMoves, admit_refused, admit_out_of_memory, has_no_instance, invoke_no_instance, invoke_refused, invoke_out_of_memory, isnt_admitted, isnt_invoked, no_memory_to_admit, no_memory_to_invoke, call_no_call, call_no_instance, call_ok, has_failed, is_cancelled, is_invoked, is_loaded, is_refueled, is_released, is_retried, load_out_of_memory, moved, no_call_to_cancel, no_call_to_refuel, no_fault_to_retry, no_memory_to_load, no_one_to_cancel, no_one_to_refuel, no_one_to_release, no_one_to_retry, of_none, of_one}
+use Rattle.wh_host_model.specs.Host.Events.{Event, turn, load, admit, invoke, refuel, cancel, retry, release, fork, unload, offer, evict_begin, evict_commit, fetch_begin, fetch_commit, provide, epoch}
+use Rattle.wh_host_model.specs.Host.Happens.{AwaitsFrame, AwaitsFrameFor, Happens, IsLive, IsTurn, MovesPages, NoInstance, OnlyMoves, admit_out_of_memory, admit_refused, call_no_call, call_no_instance, call_ok, fork_no_instance, fork_out_of_memory, fork_refused, has_failed, has_no_instance, invoke_no_instance, invoke_out_of_memory, invoke_refused, is_cancelled, is_in_use, is_invoked, is_loaded, is_refueled, is_released, is_retried, is_unloaded, isnt_admitted, isnt_forked, isnt_invoked, load_out_of_memory, moved, no_call_to_cancel, no_call_to_refuel, no_fault_to_retry, no_memory_to_admit, no_memory_to_fork, no_memory_to_invoke, no_memory_to_load, no_module_to_unload, no_one_to_cancel, no_one_to_fork, no_one_to_refuel, no_one_to_release, no_one_to_retry, of_none, of_one, unload_in_use, unload_no_module, unload_ok}
 use Rattle.wh_host_model.specs.Host.Journals.{InOrder, IsAsked, IsOpenCall, is_starting, has_started}
-use Rattle.wh_host_model.specs.Host.Progress.{CallsAreTaken, FuelTurnsHappen, IdleTurnsHappen, LoadsAreTaken}
+use Rattle.wh_host_model.specs.Host.Progress.{CallsAreTaken, FuelTurnsHappen, IdleTurnsHappen, LoadsAreTaken, UnloadsAreTaken}
 use Rattle.wh_host_model.specs.Host.Suspensions.{FirstWaitsDuly}
-use Rattle.wh_host_model.proofs.Host.Deciding.{arguments_or_not, exported_or_not, first_to_admit, first_to_fork, first_to_invoke}
+use Rattle.wh_host_model.proofs.Host.Deciding.{arguments_or_not, exported_or_not, first_to_admit, first_to_fork, first_to_invoke, loaded_or_not, used_or_not}
 use Rattle.wh_host_model.proofs.Host.Empty.{good_empty}
 use Rattle.wh_host_model.proofs.Host.Leaving.{alone_self, ended_alone, exits_alone}
 use Rattle.wh_host_model.proofs.Host.Running.{IsGood, good_run}
@@ -194,14 +194,26 @@ forks w id q good = elim (live_or_not w id) [
   ]
 ]
 
+unloads : (w : World) (k : ℕ) → (w2 : World) × Happens w (unload k) w2
+unloads w k = elim (loaded_or_not (loaded_of w k)) [
+  | inl none ↦ (w, (unload_no_module, no_module_to_unload none))
+  | inr (l, is) ↦ elim (used_or_not w k) [
+    | inl (i, t, there, of) ↦ (w, (unload_in_use, is_in_use i is there of))
+    | inr unused ↦ (record w { modules = slice_set w.modules k None }, (unload_ok, is_unloaded (record { loaded = l; is_loaded = is; unused = unused; after = refl })))
+  ]
+]
+
 -- ---- what is accepted
 
 pub loads_are_taken : LoadsAreTaken
 loads_are_taken frames slots tax events w r bytes m can few = (
   length w.modules,
-  record w { modules = w.modules ++ record { bytes = bytes; m = m } ∷ [] },
+  record w { modules = w.modules ++ Some (record { bytes = bytes; m = m }) ∷ [] },
   is_loaded (record { m = m; accepted = can; few = few; next = refl; after = refl }),
 )
+
+pub unloads_are_taken : UnloadsAreTaken
+unloads_are_taken frames slots tax events w r k l is unused = (record w { modules = slice_set w.modules k None }, is_unloaded (record { loaded = l; is_loaded = is; unused = unused; after = refl }))
 
 lives : (b : Bool) → ¬ (b ≡ true) → b ≡ false
 lives true gone = absurd (gone refl)
@@ -319,6 +331,7 @@ happens w (cancel id) good some = cancels w id good
 happens w (retry id) good some = retries w id
 happens w (release id) good some = releases w id good
 happens w (fork id q) good some = forks w id q good
+happens w (unload k) good some = unloads w k
 happens w (offer page hash) good some = (w, only_moves_self w good)
 happens w (evict_begin id) good some = (w, only_moves_self w good)
 happens w (evict_commit id call fault) good some = moves_happen w id (AwaitsFrameFor call) (awaits_for call) fault good

@@ -9,7 +9,7 @@ use Rattle.wh_host_model.specs.Host.Worlds.{Tenant, World, empty_world, promised
 use Rattle.wh_host_model.specs.Owners.{Params, Quota, with_quota}
 use Rattle.wh_host_model.specs.Host.Admission.{LetsGo, LetsIn}
 use Rattle.wh_host_model.specs.Host.OwnerCalls as requests
-use Rattle.wh_host_model.specs.Host.Events.{Event, turn, load, admit, invoke, refuel, cancel, retry, release, fork, offer, evict_begin, evict_commit, fetch_begin, fetch_commit, provide, epoch}
+use Rattle.wh_host_model.specs.Host.Events.{Event, turn, load, admit, invoke, refuel, cancel, retry, release, fork, unload, offer, evict_begin, evict_commit, fetch_begin, fetch_commit, provide, epoch}
 use Rattle.wh_host_model.specs.Host.Happens as happens
 use Rattle.wh_host_model.specs.Host.Happens.{AwaitsFrame, AwaitsFrameFor, Happens, IsTurn, MovesPages, OnlyMoves, has_failed, moved, of_none, of_one}
 use Rattle.wh_host_model.specs.Space.Sound.{IsSound}
@@ -88,6 +88,11 @@ fork_kept w w2 id q answer sound (happens.no_one_to_fork x) = kept_self w.space 
 fork_kept w w2 id q answer sound (happens.isnt_forked x y) = kept_self w.space w.space refl
 fork_kept w w2 id q answer sound (happens.no_memory_to_fork x y) = kept_self w.space w.space refl
 
+unload_kept : (w w2 : World) (k : ℕ) (answer : happens.UnloadAnswer) → happens.IsUnload w k answer w2 → KeepsPromises w.space w2.space
+unload_kept w w2 k answer (happens.is_unloaded l) = kept_self w.space w2.space (ap (λ (z : World). z.space) l.after)
+unload_kept w w2 k answer (happens.no_module_to_unload none) = kept_self w.space w.space refl
+unload_kept w w2 k answer (happens.is_in_use i l x y) = kept_self w.space w.space refl
+
 admit_kept : (w w2 : World) (k : ℕ) (p : Params) (answer : happens.AdmitAnswer) → happens.IsAdmit w k p answer w2 → KeepsPromises w.space w2.space
 admit_kept w w2 k p answer (happens.is_admitted {id = id} a) = lets_in_kept w w2 k p id.place id.number a
 admit_kept w w2 k p answer (happens.isnt_admitted r) = kept_self w.space w.space refl
@@ -148,6 +153,7 @@ event_kept w w2 (cancel id) good h = cancel_kept w w2 id h.0 good h.1
 event_kept w w2 (retry id) good h = retry_kept w w2 id h.0 h.1
 event_kept w w2 (release id) good h = release_kept w w2 id h.0 h.1
 event_kept w w2 (fork id q) good h = fork_kept w w2 id q h.0 good.sound h.1
+event_kept w w2 (unload k) good h = unload_kept w w2 k h.0 h.1
 event_kept w w2 (offer page hash) good h = only_kept w w2 h
 event_kept w w2 (evict_begin id) good h = only_kept w w2 h
 event_kept w w2 (evict_commit id call fault) good h = moves_kept w w2 id (AwaitsFrameFor call) fault h

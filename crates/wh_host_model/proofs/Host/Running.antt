@@ -19,9 +19,9 @@ use Rattle.wh_host_model.specs.Host.CallAnswers.{Closes, faces_next, is_dead, Tu
 use Rattle.wh_host_model.specs.Host.OwnerCalls.{TakesCall, Refuels, has_more, Cancels, Retries, may_try}
 use Rattle.wh_host_model.specs.Host.OwnerCalls as requests
 use Rattle.wh_model.specs.Linking.Accepting.{IsAccepted}
-use Rattle.wh_host_model.specs.Host.Admission.{LoadsModule, LetsIn, LetsGo, StartsAs}
+use Rattle.wh_host_model.specs.Host.Admission.{LoadsModule, LetsIn, LetsGo, LetsModuleGo, StartsAs}
 use Rattle.wh_host_model.specs.Host.Forking.{Forks, MeetsForkFault}
-use Rattle.wh_host_model.specs.Host.Events.{Event, turn, load, admit, invoke, refuel, cancel, retry, release, fork, offer, evict_begin, evict_commit, fetch_begin, fetch_commit, provide, epoch}
+use Rattle.wh_host_model.specs.Host.Events.{Event, turn, load, admit, invoke, refuel, cancel, retry, release, fork, unload, offer, evict_begin, evict_commit, fetch_begin, fetch_commit, provide, epoch}
 use Rattle.wh_host_model.specs.Host.Happens as happens
 use Rattle.wh_host_model.specs.Host.Happens.{IsLive, IsTurn, of_none, of_one, AwaitsFrame, AwaitsFrameFor, MovesPages, moved, has_failed, OnlyMoves, Happens, AllHappen}
 use Rattle.wh_host_model.proofs.Host.Opening.{Apart, apart_none, apart_then, apart_steps, proceeds_apart}
@@ -49,9 +49,9 @@ pub record IsKeptUp (K : Keeping) : Type 0 where
 -- ---- what is kept of a host
 
 -- one instance: its module is there, it has what was promised to it, and it is what its journal comes to
-pub record IsFineBy (K : Keeping) (modules : List Loaded) (s : Space) (i : ℕ) (t : Tenant) : Type 0 where
+pub record IsFineBy (K : Keeping) (modules : List (Option Loaded)) (s : Space) (i : ℕ) (t : Tenant) : Type 0 where
   pub loaded : Loaded
-  pub is_loaded : slice_get modules t.of ≡ Some loaded
+  pub is_loaded : get_or modules t.of None ≡ Some loaded
   pub claimed : claim s t.place ≡ Some (promised i t.params)
   pub kept : K loaded.m (given_of t.params) t (view s t.place) (wants s t.place)
 
@@ -130,7 +130,7 @@ turn_apart {t = t} sound (can_go_on {e = e} a g l p f) = let steps = l.steps in 
 turn_apart {s = s} {t = t} sound (keeps_its_fault a b c d e f g) = (apart_none t.place s, sound)
 
 module _ (K : Keeping) (up : IsKeptUp K) where
-  fine_elsewhere : {modules : List Loaded} {s s2 : Space} {i : ℕ} {t : Tenant} → IsFineBy K modules s i t → LeftAlone t.place s s2 → IsFineBy K modules s2 i t
+  fine_elsewhere : {modules : List (Option Loaded)} {s s2 : Space} {i : ℕ} {t : Tenant} → IsFineBy K modules s i t → LeftAlone t.place s s2 → IsFineBy K modules s2 i t
   fine_elsewhere {s = s} {s2 = s2} {t = t} f alike = record {
     loaded = f.loaded;
     is_loaded = f.is_loaded;
@@ -145,14 +145,14 @@ module _ (K : Keeping) (up : IsKeptUp K) where
   abbrev KeptAt : Module → Params → Tenant → Space → ℕ → Type 0
   KeptAt m p t s place = K m (given_of p) t (view s place) (wants s place)
 
-  fine_changed : (modules : List Loaded) (s s2 : Space) (i : ℕ) (t t2 : Tenant) → IsFineBy K modules s i t → SameOwner t t2 → Apart t.place s s2
+  fine_changed : (modules : List (Option Loaded)) (s s2 : Space) (i : ℕ) (t t2 : Tenant) → IsFineBy K modules s i t → SameOwner t t2 → Apart t.place s s2
       → ((m : Module) → KeptAt m t.params t s t.place → KeptAt m t.params t2 s2 t.place) → IsFineBy K modules s2 i t2
   fine_changed modules s s2 i t t2 fine owner apart keeps =
       let kept = keeps fine.loaded.m fine.kept in
       let kept2 : KeptAt fine.loaded.m t2.params t2 s2 t.place = subst (λ p. KeptAt fine.loaded.m p t2 s2 t.place) (sym owner.params) kept in
       record {
         loaded = fine.loaded;
-        is_loaded = ap (slice_get modules) owner.of ∙ fine.is_loaded;
+        is_loaded = ap (λ n. get_or modules n None) owner.of ∙ fine.is_loaded;
         claimed = ap (claim s2) owner.place ∙ apart.claim ∙ fine.claimed ∙ ap (λ (p : Params). Some (promised i p)) (sym owner.params);
         kept = subst (λ n. KeptAt fine.loaded.m t2.params t2 s2 n) (sym owner.place) kept2;
       }
@@ -241,17 +241,6 @@ module _ (K : Keeping) (up : IsKeptUp K) where
   has_come [] o = refl
   has_come (x ∷ xs) o = has_come xs o
 
-  still_loaded : {A : Type 0} (xs : List A) (y x : A) (i : ℕ) → slice_get xs i ≡ Some x → slice_get (xs ++ y ∷ []) i ≡ Some x
-  still_loaded [] y x i e = absurd (cc e)
-  still_loaded (z ∷ xs) y x zero e = e
-  still_loaded (z ∷ xs) y x (suc i) e = still_loaded xs y x i e
-
-  was_loaded : {A : Type 0} (xs : List A) (y x : A) (i : ℕ) → slice_get (xs ++ y ∷ []) i ≡ Some x → (slice_get xs i ≡ Some x) ⊎ (y ≡ x)
-  was_loaded [] y x zero e = inr (cc e)
-  was_loaded [] y x (suc i) e = absurd (cc e)
-  was_loaded (z ∷ xs) y x zero e = inl e
-  was_loaded (z ∷ xs) y x (suc i) e = was_loaded xs y x i e
-
   loads_good : (w w2 : World) (bytes : List ℕ) (number : ℕ) → IsGoodBy K w → LoadsModule w bytes number w2 → IsGoodBy K w2
   loads_good w w2 bytes number good l =
       let new : Loaded = record { bytes = bytes; m = l.m } in
@@ -259,12 +248,26 @@ module _ (K : Keeping) (up : IsKeptUp K) where
         sound = good.sound;
         modules = λ k x e.
             ⊎_elim
-            (λ (h : slice_get w.modules k ≡ Some x). good.modules k x h)
-            (λ (h : new ≡ x). subst (λ (z : Loaded). IsAccepted z.bytes z.m) h l.accepted)
-            (was_loaded w.modules new x k e);
+            (λ (h : get_or w.modules k None ≡ Some x). good.modules k x h)
+            (λ (h : (k ≡ length w.modules) × (Some new ≡ Some x)). subst (λ (z : Loaded). IsAccepted z.bytes z.m) (one_value new x h.1) l.accepted)
+            (at_end w.modules (Some new) k x e);
         apart = good.apart;
         owned = good.owned;
-        each = λ i t x. let f = good.each i t x in record { loaded = f.loaded; is_loaded = still_loaded w.modules new f.loaded t.of f.is_loaded; claimed = f.claimed; kept = f.kept };
+        each = λ i t x. let f = good.each i t x in record { loaded = f.loaded; is_loaded = still_there w.modules (Some new) t.of f.loaded f.is_loaded; claimed = f.claimed; kept = f.kept };
+      })
+
+  unloads_good : (w w2 : World) (k : ℕ) → IsGoodBy K w → LetsModuleGo w k w2 → IsGoodBy K w2
+  unloads_good w w2 k good l =
+      subst (IsGoodBy K) (sym l.after) (record {
+        sound = good.sound;
+        modules = λ j x e.
+            ⊎_elim
+            (λ (h : (j ≡ k) × (None ≡ Some x)). absurd (cc h.1))
+            (λ (h : (j ≢ k) × (get_or w.modules j None ≡ Some x)). good.modules j x h.1)
+            (at_place w.modules k j None l.loaded x l.is_loaded e);
+        apart = good.apart;
+        owned = good.owned;
+        each = λ i t x. let f = good.each i t x in record { loaded = f.loaded; is_loaded = get_or-set_other w.modules k t.of None None (l.unused i t x) ∙ f.is_loaded; claimed = f.claimed; kept = f.kept };
       })
 
   -- ---- instances come and go
@@ -483,6 +486,11 @@ module _ (K : Keeping) (up : IsKeptUp K) where
   fork_good w w2 id q answer good (happens.isnt_forked x y) = good
   fork_good w w2 id q answer good (happens.no_memory_to_fork x y) = good
 
+  unload_good : (w w2 : World) (k : ℕ) (answer : happens.UnloadAnswer) → IsGoodBy K w → happens.IsUnload w k answer w2 → IsGoodBy K w2
+  unload_good w w2 k answer good (happens.is_unloaded l) = unloads_good w w2 k good l
+  unload_good w w2 k answer good (happens.no_module_to_unload none) = good
+  unload_good w w2 k answer good (happens.is_in_use i l x y) = good
+
   -- ---- every event, and every run
 
   pub events_keep : (w w2 : World) (e : Event) → IsGoodBy K w → Happens w e w2 → IsGoodBy K w2
@@ -495,6 +503,7 @@ module _ (K : Keeping) (up : IsKeptUp K) where
   events_keep w w2 (retry id) good h = retry_good w w2 id h.0 good h.1
   events_keep w w2 (release id) good h = release_good w w2 id h.0 good h.1
   events_keep w w2 (fork id q) good h = fork_good w w2 id q h.0 good h.1
+  events_keep w w2 (unload k) good h = unload_good w w2 k h.0 good h.1
   events_keep w w2 (offer page hash) good h = only_moves w w2 good h
   events_keep w w2 (evict_begin id) good h = only_moves w w2 good h
   events_keep w w2 (evict_commit id call fault) good h = moves_good w w2 id (AwaitsFrameFor call) fault (λ t x. x.0) good h

@@ -1,5 +1,5 @@
 -- How modules and instances come to a host, and how instances go.
-use Rattle.std.specs.Prelude.{◌≡◌, ◌≢◌, ℕ, ◌+◌, ◌-◌, ◌<◌, ◌≤◌, ◌⊎◌, false, List, [], ◌∷◌, ◌++◌, length, Option, Some, None}
+use Rattle.std.specs.Prelude.{◌≡◌, ◌≢◌, ℕ, ◌+◌, ◌-◌, ◌<◌, ◌≤◌, ◌⊎◌, false, List, [], ◌∷◌, ◌++◌, length, slice_set, Option, Some, None}
 use Rattle.wh_model.specs.declared.faults.FaultKind.{FaultKind}
 use Rattle.wh_model.specs.Format.Syntax.{Module}
 use Rattle.wh_model.specs.Format.Spelling.{IsBroken}
@@ -13,7 +13,7 @@ use Rattle.wh_model.specs.Linking.Imports.{IsFirstFault}
 use Rattle.wh_model.specs.Linking.Accepting.{IsModule, IsAccepted}
 use Rattle.wh_host_model.specs.Space.Parts.{Space, minima, spreads}
 use Rattle.wh_host_model.specs.Host.Spaces.{Arrives, Departs}
-use Rattle.wh_host_model.specs.Host.Worlds.{Rest, Doing, resting, has_left, Tenant, Loaded, World, promised, with_tenant, loaded_of}
+use Rattle.wh_host_model.specs.Host.Worlds.{Rest, Doing, resting, has_left, Tenant, Loaded, World, promised, tenant, with_tenant, loaded_of}
 use Rattle.wh_host_model.specs.Owners.{Entry}
 use Rattle.wh_host_model.specs.Owners.{Params, given_of, most_fuel}
 use Rattle.wh_host_model.specs.Host.CallAnswers.{Faces}
@@ -29,12 +29,18 @@ pub data LoadFault : Type 0 where
   unlinked : (fault : ImportFault) (place : ℕ) → LoadFault
   modules_full : LoadFault
 
+-- how many modules are there
+abbrev pub module_count : List (Option Loaded) → ℕ
+module_count [] = 0
+module_count (None ∷ ls) = module_count ls
+module_count (Some l ∷ ls) = 1 + module_count ls
+
 abbrev pub RefusesLoad : World → List ℕ → LoadFault → Type 0
 RefusesLoad w bytes (broken kind offset) = IsBroken bytes kind offset
 RefusesLoad w bytes invalid = (m : Module) × IsModule bytes m × ¬ (Valid m × Fits m)
 RefusesLoad w bytes (unlinked fault place) =
     (m : Module) × IsModule bytes m × Valid m × Fits m × IsFirstFault m fault place
-RefusesLoad w bytes modules_full = (m : Module) × IsAccepted bytes m × (most_modules ≤ length w.modules)
+RefusesLoad w bytes modules_full = (m : Module) × IsAccepted bytes m × (most_modules ≤ module_count w.modules)
 
 -- who may want memory, each where those before it are done: the decoder, the validator, the linker, and the host
 pub data LoadOutOfMemory : Type 0 where
@@ -47,15 +53,26 @@ abbrev pub MayRunOut : World → List ℕ → LoadOutOfMemory → Type 0
 MayRunOut w bytes decoder_out_of_memory = Unit {0}
 MayRunOut w bytes validator_out_of_memory = (m : Module) × IsModule bytes m
 MayRunOut w bytes linker_out_of_memory = (m : Module) × IsModule bytes m × Valid m × Fits m
-MayRunOut w bytes host_out_of_memory = (m : Module) × IsAccepted bytes m × (length w.modules < most_modules)
+MayRunOut w bytes host_out_of_memory = (m : Module) × IsAccepted bytes m × (module_count w.modules < most_modules)
 
 -- it is loaded under the next number
 pub record LoadsModule (w : World) (bytes : List ℕ) (number : ℕ) (w2 : World) : Type 0 where
   pub m : Module
   pub accepted : IsAccepted bytes m
-  pub few : length w.modules < most_modules
+  pub few : module_count w.modules < most_modules
   pub next : number ≡ length w.modules
-  pub after : w2 ≡ record w { modules = w.modules ++ record { bytes = bytes; m = m } ∷ [] }
+  pub after : w2 ≡ record w { modules = w.modules ++ Some (record { bytes = bytes; m = m }) ∷ [] }
+
+-- no live instance is of it
+abbrev pub IsUnused : World → ℕ → Type 0
+IsUnused w k = (i : ℕ) (t : Tenant) → tenant w i ≡ Some t → t.of ≢ k
+
+-- it is let go, and its number isn't used again
+pub record LetsModuleGo (w : World) (k : ℕ) (w2 : World) : Type 0 where
+  pub loaded : Loaded
+  pub is_loaded : loaded_of w k ≡ Some loaded
+  pub unused : IsUnused w k
+  pub after : w2 ≡ record w { modules = slice_set w.modules k None }
 
 -- ---- admission
 
@@ -67,7 +84,7 @@ live_count (Some t ∷ ts) = 1 + live_count ts
 
 -- the fault is met, whatever of the other ones is
 abbrev pub MeetsFault : World → ℕ → Params → AdmitFault → Type 0
-MeetsFault w k p no_module = length w.modules ≤ k
+MeetsFault w k p no_module = loaded_of w k ≡ None
 MeetsFault w k p shares = (p.shares < 1) ⊎ (1000000 < p.shares)
 MeetsFault w k p min_max = (p.min < 2) ⊎ (p.max < p.min) ⊎ (65536 < p.max)
 MeetsFault w k p frames = length w.space.pool.frames < minima w.space + p.min

@@ -21,6 +21,7 @@ pub data Event : Type 0 where
   retry : (id : InstId) → Event
   release : (id : InstId) → Event
   fork : (id : InstId) (q : Quota) → Event
+  unload : (of : ℕ) → Event
   -- a page is offered for sharing, under any hash value
   offer : (page : PageId) (hash : ℕ) → Event
   -- a page is to leave, or to come, for an instance that waits for a frame; and that is committed, by the ticket of

@@ -10,9 +10,9 @@ use Rattle.wh_host_model.specs.Host.Worlds.{for_frame, for_device, Tenant, Loade
 use Rattle.wh_host_model.specs.Owners.{Params, AdmitFault, ForkFault, InvokeFault, Quota}
 use Rattle.wh_host_model.specs.Host.CallAnswers.{Turn}
 use Rattle.wh_host_model.specs.Host.OwnerCalls.{Meets, IsFirst, TakesCall, Refuels, Cancels, Retries}
-use Rattle.wh_host_model.specs.Host.Admission.{LoadFault, RefusesLoad, LoadOutOfMemory, MayRunOut, LoadsModule, MeetsFault, IsFirstMet, LetsIn, LetsGo}
+use Rattle.wh_host_model.specs.Host.Admission.{LoadFault, RefusesLoad, LoadOutOfMemory, MayRunOut, LoadsModule, MeetsFault, IsFirstMet, LetsIn, LetsGo, LetsModuleGo}
 use Rattle.wh_host_model.specs.Host.Forking.{Forks, IsFirstForkFault, MeetsForkFault}
-use Rattle.wh_host_model.specs.Host.Events.{Event, turn, load, admit, invoke, refuel, cancel, retry, release, fork, offer, evict_begin, evict_commit, fetch_begin, fetch_commit, provide, epoch}
+use Rattle.wh_host_model.specs.Host.Events.{Event, turn, load, admit, invoke, refuel, cancel, retry, release, fork, unload, offer, evict_begin, evict_commit, fetch_begin, fetch_commit, provide, epoch}
 
 -- the number is that of a live instance, and it lies there
 abbrev pub IsLive : World → InstId → Tenant → Type 0
@@ -113,6 +113,18 @@ pub data IsFork (w : World) (id : InstId) (q : Quota) : ForkAnswer → World →
   no_memory_to_fork : {t : Tenant}
       → IsLive w id t → ((fault : ForkFault) → ¬ (MeetsForkFault w t q fault)) → IsFork w id q fork_out_of_memory w
 
+-- the answers to unload
+pub data UnloadAnswer : Type 0 where
+  unload_ok : UnloadAnswer
+  unload_no_module : UnloadAnswer
+  unload_in_use : UnloadAnswer
+
+pub data IsUnload (w : World) (k : ℕ) : UnloadAnswer → World → Type 0 where
+  is_unloaded : {w2 : World} → LetsModuleGo w k w2 → IsUnload w k unload_ok w2
+  no_module_to_unload : loaded_of w k ≡ None → IsUnload w k unload_no_module w
+  is_in_use : {l : Loaded} {t : Tenant} (i : ℕ)
+      → loaded_of w k ≡ Some l → tenant w i ≡ Some t → t.of ≡ k → IsUnload w k unload_in_use w
+
 -- ---- pages that move
 
 -- its present call waits for a frame, and for no device fault
@@ -150,6 +162,7 @@ Happens w (cancel id) w2 = (answer : CallAnswer) × IsCancel w id answer w2
 Happens w (retry id) w2 = (answer : CallAnswer) × IsRetry w id answer w2
 Happens w (release id) w2 = (answer : Option (List ℕ)) × IsRelease w id answer w2
 Happens w (fork id q) w2 = (answer : ForkAnswer) × IsFork w id q answer w2
+Happens w (unload k) w2 = (answer : UnloadAnswer) × IsUnload w k answer w2
 Happens w (offer page hash) w2 = OnlyMoves w w2
 Happens w (evict_begin id) w2 = OnlyMoves w w2
 Happens w (evict_commit id call fault) w2 = MovesPages w id (AwaitsFrameFor call) fault w2

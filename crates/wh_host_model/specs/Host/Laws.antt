@@ -1,5 +1,5 @@
 -- What holds of a host after every list of events, and of the answers of a turn.
-use Rattle.std.specs.Prelude.{◌≡◌, ◌≢◌, ◌⊎◌, ℕ, ◌≤◌, List, [], length, Some, None}
+use Rattle.std.specs.Prelude.{◌≡◌, ◌≢◌, ◌⊎◌, ℕ, ◌<◌, ◌≤◌, List, [], length, Some, None}
 use Rattle.std.specs.List.{AllByRecursion}
 use Rattle.wh_model.specs.declared.memory.Need.{Need}
 use Rattle.wh_model.specs.Execution.Store.{Store}
@@ -52,6 +52,16 @@ KeepsPromises s s2 = (place : ℕ) (x : Promised) → promise_at s place ≡ Som
 -- whatever happens
 abbrev pub PromisesAreKept : Type 0
 PromisesAreKept = AfterEvents (λ w. (e : Event) (w2 : World) → Happens w e w2 → KeepsPromises w.space w2.space)
+
+-- ---- modules
+
+-- A number that was given means the same module, or none any more. It is never given again.
+pub record KeepsModules (w w2 : World) : Type 0 where
+  pub grows : length w.modules ≤ length w2.modules
+  pub same : (k : ℕ) → k < length w.modules → (loaded_of w2 k ≡ loaded_of w k) ⊎ (loaded_of w2 k ≡ None)
+
+abbrev pub ModulesAreKept : Type 0
+ModulesAreKept = AfterEvents (λ w. (e : Event) (w2 : World) → Happens w e w2 → KeepsModules w w2)
 
 -- ---- instances
 

@@ -1,5 +1,5 @@
 -- Which events can happen to any host that is reached.
-use Rattle.std.specs.Prelude.{◌≡◌, ℕ, ◌<◌, ◌≤◌, List, [], ◌∷◌, length, Some, ℤ}
+use Rattle.std.specs.Prelude.{◌≡◌, ℕ, ◌<◌, ◌≤◌, List, [], ◌∷◌, Some, ℤ}
 use Rattle.wh_model.specs.Format.Syntax.{Module}
 use Rattle.wh_host_model.specs.declared.plain.InstId.{InstId}
 use Rattle.wh_host_model.specs.declared.plain.TurnEnd.{TurnEnd}
@@ -11,9 +11,9 @@ use Rattle.wh_host_model.specs.Host.OwnerCalls.{Meets}
 use Rattle.wh_model.specs.Execution.Instance.{AreGiven}
 use Rattle.wh_host_model.specs.Space.Parts.{Space}
 use Rattle.wh_model.specs.Linking.Accepting.{IsAccepted}
-use Rattle.wh_host_model.specs.Host.Admission.{MeetsFault}
+use Rattle.wh_host_model.specs.Host.Admission.{IsUnused, MeetsFault, module_count}
 use Rattle.wh_host_model.specs.Host.Events.{Event}
-use Rattle.wh_host_model.specs.Host.Happens.{Happens, IsLive, IsTurn, IsLoad, load_ok, IsAdmit, admit_ok, IsInvoke, invoke_ok, IsFork, fork_ok}
+use Rattle.wh_host_model.specs.Host.Happens.{Happens, IsLive, IsTurn, IsLoad, load_ok, IsAdmit, admit_ok, IsInvoke, invoke_ok, IsFork, fork_ok, IsUnload, unload_ok}
 use Rattle.wh_host_model.specs.Host.Forking.{MeetsForkFault}
 use Rattle.wh_host_model.specs.Host.Laws.{AfterEvents}
 use Rattle.wh_host_model.specs.Host.TakenSteps.{IsStepReady, HasGoneOn}
@@ -25,7 +25,7 @@ EventsHappen = AfterEvents (λ w. (e : Event) → (w2 : World) × Happens w e w2
 -- a module that is right can be loaded, while there is room for one more
 abbrev pub LoadsAreTaken : Type 0
 LoadsAreTaken =
-    AfterEvents (λ w. (bytes : List ℕ) (m : Module) → IsAccepted bytes m → length w.modules < most_modules
+    AfterEvents (λ w. (bytes : List ℕ) (m : Module) → IsAccepted bytes m → module_count w.modules < most_modules
     → (number : ℕ) × (w2 : World) × IsLoad w bytes (load_ok number) w2)
 
 -- an instance of a module that was loaded can be admitted where no fault is met, with any parameters that are in range
@@ -49,6 +49,12 @@ ForksAreTaken =
     AfterEvents (λ w. (id : InstId) (q : Quota) (t : Tenant) → IsLive w id t
     → ((fault : ForkFault) → ¬ (MeetsForkFault w t q fault))
     → (new : InstId) × (w2 : World) × IsFork w id q (fork_ok new) w2 × (w2.space.pool ≡ w.space.pool))
+
+-- and a module that no instance is of can go
+abbrev pub UnloadsAreTaken : Type 0
+UnloadsAreTaken =
+    AfterEvents (λ w. (k : ℕ) (l : Loaded) → loaded_of w k ≡ Some l → IsUnused w k
+    → (w2 : World) × IsUnload w k unload_ok w2)
 
 -- a turn of an instance that is gone or has no open call is answered Idle
 abbrev pub IdleTurnsHappen : Type 0

@@ -1,5 +1,5 @@
 -- A host as its definitions see it: modules, instances and their calls, over one memory.
-use Rattle.std.specs.Prelude.{ℕ, Bool, List, [], ◌++◌, drop, map, get_or, slice_get, slice_set, Option, None}
+use Rattle.std.specs.Prelude.{ℕ, Bool, List, [], ◌++◌, drop, map, get_or, slice_set, Option, None}
 use Rattle.wh_model.specs.Format.Syntax.{Module}
 use Rattle.wh_model.specs.Execution.Store.{Value, Instance, Store}
 use Rattle.wh_model.specs.Execution.Configuration.{Term, config}
@@ -56,10 +56,10 @@ pub record Loaded : Type 0 where
   pub bytes : List ℕ
   pub m : Module
 
--- A host: the modules that were loaded, by their numbers; the instances that were admitted, by their numbers, each of
--- them gone or live; and the memory on which theirs lie. No number is used twice, since the lists only grow.
+-- A host: the modules that were loaded and the instances that were admitted, by their numbers, each of them gone or
+-- there; and the memory on which the instances' memories lie. No number is used twice, since the lists only grow.
 pub record World : Type 0 where
-  pub modules : List Loaded
+  pub modules : List (Option Loaded)
   pub tenants : List (Option Tenant)
   pub space : Space
 
@@ -99,7 +99,7 @@ standing_in s t = standing_with (view s t.place) t.rest t.doing
 
 -- the module of a number, if it is there
 abbrev pub loaded_of : World → ℕ → Option Loaded
-loaded_of w k = slice_get w.modules k
+loaded_of w k = get_or w.modules k None
 
 -- the live instance of a number, if it is
 abbrev pub tenant : World → ℕ → Option Tenant

@@ -1,3 +1,5 @@
+use Rattle.wh_host_model.proofs.Host.Numbered.{modules_are_kept}
+use Rattle.wh_host_model.proofs.Host.Progress.{unloads_are_taken}
 use Rattle.wh_host_model.proofs.Host.Copied.{copied_calls_have_ended}
 use Rattle.wh_host_model.proofs.Host.Copying.{forks_are_taken}
 use Rattle.wh_host_model.proofs.Host.StuckLemmas.{no_call_is_stuck}
@@ -76,3 +78,9 @@ returns-clause-forks_are_taken c = forks_are_taken
 
 pub returns-clause-copied_calls_have_ended : goal.returns-clause-copied_calls_have_ended
 returns-clause-copied_calls_have_ended c = copied_calls_have_ended
+
+pub returns-clause-unloads_are_taken : goal.returns-clause-unloads_are_taken
+returns-clause-unloads_are_taken c = unloads_are_taken
+
+pub returns-clause-modules_are_kept : goal.returns-clause-modules_are_kept
+returns-clause-modules_are_kept c = modules_are_kept
