@@ -57,7 +57,7 @@ fn is_endless(enrolled: &Enrolled, id: InstId, of: ModuleId) -> bool {
     enrolled.id == id
         && enrolled.of == of
         && (params.min, params.max) == (3, 16)
-        && (enrolled.calls, enrolled.open_calls) == (2, 1)
+        && (enrolled.calls, enrolled.copied, enrolled.open_calls) == (2, 0, 1)
         && !enrolled.dead
         && enrolled.waiting_for == Some(Suspension::Fuel)
 }
@@ -68,7 +68,8 @@ fn lists_all(roll: &Roll, id: InstId, of: ModuleId) -> bool {
     let instances = roll.instances();
     (roll.next(), roll.tickets()) == (2, 0)
         && modules.len() == 1
-        && modules[0].as_slice() == ENDLESS.as_slice()
+        && modules[0].id == of
+        && modules[0].bytes.as_slice() == ENDLESS.as_slice()
         && instances.len() == 1
         && is_endless(&instances[0], id, of)
 }

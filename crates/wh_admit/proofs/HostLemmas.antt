@@ -1,10 +1,9 @@
 -- From what an admission is given to any host for which it stands.
-use Rattle.std.proofs.Common.{◌≡◌, ◌∙◌, ℕ, ◌≤◌, length, slice_get, Option, Some, None, Result, Ok, Err, OnOk, IfOk, IfErr, refl, sym, ap, subst, arith}
-use Rattle.std.proofs.lemmas.Option.{slice_get_within}
+use Rattle.std.proofs.Common.{◌≡◌, ◌∙◌, ℕ, Option, Some, None, Result, Ok, Err, OnOk, IfOk, IfErr, refl, sym, ap, subst, arith}
 use Rattle.std.specs.Result.{IsErrAnd}
 use Rattle.wh_model.specs.Format.Syntax.{Module}
 use Rattle.wh_model.specs.Execution.Instance.{Beginning, IsInitial, memory_min, segment_bounds, begins, fragments}
-use Rattle.wh_host_model.specs.Host.Worlds.{Loaded, World}
+use Rattle.wh_host_model.specs.Host.Worlds.{Loaded, World, loaded_of}
 use Rattle.wh_host_model.specs.Owners.{Params, given_of, AdmitFault, no_module, shares, min_max, frames, swap, instances, memory, segments}
 use Rattle.wh_host_model.specs.Host.Admission.{MeetsFault}
 use Rattle.wh_initial.specs.Begins.{first_store}
@@ -21,10 +20,10 @@ use Rattle.wh_admit.proofs.FaultLemmas.{ComesTo, MeetsHere, NoneBelow, RefusesHe
 module _ (w : World) (k : ℕ) (p : Params) (room : Room) where
   -- an instance of the module of this number comes to this
   abbrev ComesToAt : Beginning → Type 0
-  ComesToAt b = (l : Loaded) × (slice_get w.modules k ≡ Some l) × IsInitial l.m (given_of p) b
+  ComesToAt b = (l : Loaded) × (loaded_of w k ≡ Some l) × IsInitial l.m (given_of p) b
 
   from_module : (o : Option Module) (b : Beginning) → IsModuleAt w k o → ComesToAt b → ComesTo o p b
-  from_module None b far (l, at, is) = let near = slice_get_within w.modules k l at in absurd (omega (arith, near, far))
+  from_module None b gone (l, at, is) = let both : None ≡ Some l = sym gone ∙ at in absurd (cc both)
   from_module (Some m) b (l, at, same) (l2, at2, is) =
       let both : Some l2 ≡ Some l = sym at2 ∙ at in
       let e : l2 ≡ l = cc both in
@@ -36,13 +35,12 @@ module _ (w : World) (k : ℕ) (p : Params) (room : Room) where
       let e : m2 ≡ m = cc is in
       (l, at, subst (λ z. IsInitial z (given_of p) b) (sym e ∙ same) initial)
 
-  from_number : (o : Option Module) → IsModuleAt w k o → length w.modules ≤ k → o ≡ None
-  from_number None far past = refl
-  from_number (Some m) (l, at, same) past = let near = slice_get_within w.modules k l at in absurd
-      (omega (arith, near, past))
+  from_number : (o : Option Module) → IsModuleAt w k o → loaded_of w k ≡ None → o ≡ None
+  from_number None gone none = refl
+  from_number (Some m) (l, at, same) none = let both : None ≡ Some l = sym none ∙ at in absurd (cc both)
 
-  to_number : (o : Option Module) → IsModuleAt w k o → o ≡ None → length w.modules ≤ k
-  to_number None far none = far
+  to_number : (o : Option Module) → IsModuleAt w k o → o ≡ None → loaded_of w k ≡ None
+  to_number None gone none = gone
   to_number (Some m) is none = absurd (cc none)
 
   pub from_host : (o : Option Module) → RepresentsHost w k o room → (f : AdmitFault) → MeetsFault w k p f

@@ -40,7 +40,7 @@ counted zero = refl
 counted (suc n) = let h = counted n in omega (arith, h)
 
 -- with these modules
-host_with : List Loaded → Room → World
+host_with : List (Option Loaded) → Room → World
 host_with modules room = record {
   modules = modules;
   tenants = crowd room.live;
@@ -51,7 +51,7 @@ host_with modules room = record {
 all_left : (n : ℕ) {A : Type 0} (x : A) → n + 0 ≡ length (replicate n x)
 all_left n x = let h = length-replicate n x in omega (arith, h)
 
-room_left : (modules : List Loaded) (room : Room) → IsRoomLeft (host_with modules room) room
+room_left : (modules : List (Option Loaded)) (room : Room) → IsRoomLeft (host_with modules room) room
 unfolding host_with
 room_left modules room = record {
   frames = all_left room.frames zero_page;
@@ -61,7 +61,7 @@ room_left modules room = record {
 
 pub stands_for_some : RepresentsSome
 unfolding host_with
-stands_for_some None room = (host_with [] room, 0, record { is_module = omega arith; room_left = room_left [] room })
+stands_for_some None room = (host_with [] room, 0, record { is_module = refl; room_left = room_left [] room })
 stands_for_some (Some m) room =
     let l : Loaded = record { bytes = []; m = m } in
-    (host_with (l ∷ []) room, 0, record { is_module = (l, refl, refl); room_left = room_left (l ∷ []) room })
+    (host_with (Some l ∷ []) room, 0, record { is_module = (l, refl, refl); room_left = room_left (Some l ∷ []) room })

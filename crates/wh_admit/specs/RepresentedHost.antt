@@ -1,15 +1,15 @@
 -- For which host, and for which of its modules, what an admission is given stands.
-use Rattle.std.specs.Prelude.{◌≡◌, ℕ, ◌+◌, ◌≤◌, length, slice_get, Option, Some, None}
+use Rattle.std.specs.Prelude.{◌≡◌, ℕ, ◌+◌, length, Option, Some, None}
 use Rattle.wh_model.specs.Format.Syntax.{Module}
 use Rattle.wh_host_model.specs.Space.Parts.{minima, spreads}
-use Rattle.wh_host_model.specs.Host.Worlds.{Loaded, World}
+use Rattle.wh_host_model.specs.Host.Worlds.{Loaded, World, loaded_of}
 use Rattle.wh_host_model.specs.Host.Admission.{live_count}
 use Rattle.wh_admit.specs.declared.room.Room.{Room}
 
 -- the module has this number, or there is none, and no module has it
 abbrev pub IsModuleAt : World → ℕ → Option Module → Type 0
-IsModuleAt w k None = length w.modules ≤ k
-IsModuleAt w k (Some m) = (l : Loaded) × (slice_get w.modules k ≡ Some l) × (m ≡ l.m)
+IsModuleAt w k None = loaded_of w k ≡ None
+IsModuleAt w k (Some m) = (l : Loaded) × (loaded_of w k ≡ Some l) × (m ≡ l.m)
 
 -- the room is what the host has left: frames beside all minima, slots beside all spreads, and how many are live
 pub record IsRoomLeft (w : World) (room : Room) : Type 0 where

@@ -3,7 +3,7 @@ use Rattle.std.proofs.Common.{ℕ, ◌+◌, ◌<◌, ◌^◌, Option, arith}
 use Rattle.wh_host_model.specs.declared.plain.InstId.{InstId}
 use Rattle.wh_host_model.specs.declared.plain.TurnEnd.{TurnEnd}
 use Rattle.wh_host_model.specs.Host.Worlds.{World}
-use Rattle.wh_host_model.specs.Host.Events.{Event, load, admit, invoke, refuel, cancel, retry, release, fork, epoch}
+use Rattle.wh_host_model.specs.Host.Events.{Event, load, admit, invoke, refuel, cancel, retry, release, fork, unload, epoch}
 use Rattle.wh_host_model.specs.Host.Happens.{Happens, IsTurn}
 use Rattle.wh_host.specs.TicketsOut.{IsPresentCall}
 use Rattle.wh_host.specs.Hosting.{HostState, IsHost}
@@ -14,12 +14,13 @@ use Rattle.wh_cell.specs.Counted.{charges_between}
 use Rattle.wh_cell.specs.LeftByOwner.{FitsHost, HasNoCharge, HasTakenOn}
 use Rattle.wh_cell.proofs.Alike.{fits_each, fits_on, taken_each}
 use Rattle.wh_cell.proofs.Counted.{fits_taken}
-use Rattle.wh_cell.proofs.Requested.{HasCopiedEnded, admit_fits, cancel_fits, fork_fits, invoke_fits, load_fits, moves_fit, refuel_fits, release_fits, retry_fits}
+use Rattle.wh_cell.proofs.Requested.{HasCopiedEnded, admit_fits, cancel_fits, fork_fits, invoke_fits, load_fits, moves_fit, refuel_fits, release_fits, retry_fits, unload_fits}
 use Rattle.wh_cell.proofs.Turned.{turn_taken}
+use Rattle.wh_host_model.proofs.Host.Copied.{copied_stay_ended}
 
--- no call of an instance that the code has was copied
-pub none_copied : (h : HostState) (w : World) → IsHost h w → HasCopiedEnded w
-none_copied h w st i t live = (let f = st.there i t live in omega (arith, f.2.own))
+-- the calls that were copied have ended
+pub copied_ended : (h : HostState) (w : World) → IsHost h w → HasCopiedEnded w
+copied_ended h w st = copied_stay_ended w st.comes
 
 -- ---- a turn
 
@@ -29,7 +30,7 @@ pub turned_taken : (h h2 : HostState) (id : InstId) (q call : ℕ) (answer : Tur
 turned_taken h h2 id q call answer before after some turns few present told told2 =
     let w = some.0 in
     let x = turns w some.1 in
-    let taken = turn_taken w x.0 id q call answer before after x.1 (λ t live. present w some.1 t live) (λ t live. none_copied h w some.1 id.number t live.0) few (told w some.1) (told2 x.0 x.2) in
+    let taken = turn_taken w x.0 id q call answer before after x.1 (λ t live. present w some.1 t live) (λ t live. copied_ended h w some.1 id.number t live.0) few (told w some.1) (told2 x.0 x.2) in
     taken_each h h2 w x.0 (charges_between before after) some.1 x.2 taken
 
 pub fits_turned : (h h2 : HostState) (total n : ℕ) → (w : World) × IsHost h w → (w : World) × IsHost h2 w → FitsHost h total → HasTakenOn h n h2 → FitsHost h2 (total + n)
@@ -50,10 +51,11 @@ request_fits w w2 (cancel id) total had is happens f = cancel_fits w w2 id happe
 request_fits w w2 (retry id) total had is happens f = retry_fits w w2 id happens.0 total happens.1 f
 request_fits w w2 (release id) total had is happens f = release_fits w w2 id happens.0 total happens.1 f
 request_fits w w2 (fork id q) total had is happens f = fork_fits w w2 id q happens.0 total happens.1 f
+request_fits w w2 (unload k) total had is happens f = unload_fits w w2 k happens.0 total happens.1 f
 request_fits w w2 epoch total had is happens f = moves_fit w w2 total happens f
 request_fits w w2 other total had is happens f = absurd is
 
 pub fits_requested : (h h2 : HostState) (total : ℕ) → (w : World) × IsHost h w → FitsHost h total → LeadsByRequest h h2 → FitsHost h2 total
 fits_requested h h2 total some f leads =
     let x = leads some.0 some.1 in
-    fits_on h h2 some.0 total total some.1 f (x.1, x.4, request_fits some.0 x.1 x.0 total (none_copied h some.0 some.1) x.2 x.3)
+    fits_on h h2 some.0 total total some.1 f (x.1, x.4, request_fits some.0 x.1 x.0 total (copied_ended h some.0 some.1) x.2 x.3)

@@ -15,7 +15,7 @@ use Rattle.wh_host_model.specs.Host.Forking.{Forks}
 use Rattle.wh_host_model.specs.Host.OwnerCalls.{TakesCall, more_fuel, Refuels, has_more, Cancels, Retries, may_try}
 use Rattle.wh_host_model.specs.Host.OwnerCalls as calls
 use Rattle.wh_host_model.specs.Host.Admission.{StartsAs, writes, runs, ends}
-use Rattle.wh_host_model.specs.Host.Happens.{IsFork, ForkAnswer, is_forked, isnt_forked, no_memory_to_fork, no_one_to_fork, IsLoad, is_loaded, isnt_loaded, no_memory_to_load, LoadAnswer, IsAdmit, is_admitted, isnt_admitted, no_memory_to_admit, AdmitAnswer, IsInvoke, is_invoked, has_no_instance, isnt_invoked, no_memory_to_invoke, InvokeAnswer, CallAnswer, IsRefuel, is_refueled, no_one_to_refuel, no_call_to_refuel, IsCancel, is_cancelled, no_one_to_cancel, no_call_to_cancel, IsRetry, is_retried, no_one_to_retry, no_fault_to_retry, IsRelease, is_released, no_one_to_release, MovesPages, moved, has_failed, OnlyMoves}
+use Rattle.wh_host_model.specs.Host.Happens.{IsFork, ForkAnswer, is_forked, isnt_forked, no_memory_to_fork, no_one_to_fork, IsLoad, is_loaded, isnt_loaded, no_memory_to_load, LoadAnswer, IsAdmit, is_admitted, isnt_admitted, no_memory_to_admit, AdmitAnswer, IsInvoke, is_invoked, has_no_instance, isnt_invoked, no_memory_to_invoke, InvokeAnswer, CallAnswer, IsRefuel, is_refueled, no_one_to_refuel, no_call_to_refuel, IsCancel, is_cancelled, no_one_to_cancel, no_call_to_cancel, IsRetry, is_retried, no_one_to_retry, no_fault_to_retry, IsRelease, is_released, no_one_to_release, MovesPages, moved, has_failed, OnlyMoves, UnloadAnswer, IsUnload, is_unloaded, no_module_to_unload, is_in_use}
 use Rattle.wh_host_model.specs.Host.Misreading.{IsMisread}
 use Rattle.wh_cell.specs.Charging.{charges_in, FitsBook, HasTaken}
 use Rattle.wh_cell.proofs.Counted.{charges_at, middle, closed_copied, closed_journal, copy_has_none, own_more, taken_by_one, fits_taken, fits_new, fits_gone}
@@ -32,6 +32,11 @@ pub load_fits : (w w2 : World) (bytes : List ℕ) (answer : LoadAnswer) (total :
 load_fits w w2 bytes answer total (is_loaded l) f = subst (λ z. FitsBook z total) (sym l.after) (record { least = f.least; whole = f.whole })
 load_fits w w2 bytes answer total (isnt_loaded r) f = f
 load_fits w w2 bytes answer total (no_memory_to_load m) f = f
+
+pub unload_fits : (w w2 : World) (k : ℕ) (answer : UnloadAnswer) (total : ℕ) → IsUnload w k answer w2 → FitsBook w total → FitsBook w2 total
+unload_fits w w2 k answer total (is_unloaded l) f = subst (λ z. FitsBook z total) (sym l.after) (record { least = f.least; whole = f.whole })
+unload_fits w w2 k answer total (no_module_to_unload none) f = f
+unload_fits w w2 k answer total (is_in_use i there live of) f = f
 
 -- the start of an instance has taken none
 starts_none : {inst : Instance} {s : Store} {ps : List Piece} {start : Option ℕ} {fuel : ℕ} {d : Doing} {ended open_calls : List Entry}

@@ -29,7 +29,7 @@ use Rattle.wh_cell.specs.LeftByOwner.{HasTakenOn, WorksOn}
 use Rattle.wh_cell.specs.RoundCounts.{AreFewEach, AreReceived, charges_by_turns, charges_of_round, turns_by, turns_of_round}
 use Rattle.wh_cell.proofs.Alike.{taken_each}
 use Rattle.wh_cell.proofs.Counted.{Spends, taken_by_one, taken_none, turn_lasts, turn_spends}
-use Rattle.wh_cell.proofs.Asked.{none_copied}
+use Rattle.wh_cell.proofs.Asked.{copied_ended}
 use Rattle.wh_cell.proofs.Requested.{HasCopiedEnded}
 use Rattle.wh_host_model.specs.Space.Parts.{Space}
 use Rattle.wh_cell.proofs.Going.{works_by, works_on, works_to_itself}
@@ -165,7 +165,7 @@ round_took q most w w2 (y ∷ ys) (mid, first, rest) =
 pub round_taken : (h h2 : HostState) (q most : ℕ) (ys : List Runner) → (w : World) × IsHost h w → ((w : World) → IsHost h w → (w2 : World) × AllTurn q most w ys w2 × IsHost h2 w2) → HasTakenOn h (charges_of_round ys) h2
 round_taken h h2 q most ys some turns =
     let x = turns some.0 some.1 in
-    taken_each h h2 some.0 x.0 (charges_of_round ys) some.1 x.2 ((round_took q most some.0 x.0 ys x.1).0 (none_copied h some.0 some.1)).0
+    taken_each h h2 some.0 x.0 (charges_of_round ys) some.1 x.2 ((round_took q most some.0 x.0 ys x.1).0 (copied_ended h some.0 some.1)).0
 
 pub works_by_round : (h h2 : HostState) (q most : ℕ) (ys : List Runner) → ((w : World) → IsHost h w → (w2 : World) × AllTurn q most w ys w2 × IsHost h2 w2) → WorksOn h [] h2
 works_by_round h h2 q most ys turns w st = let x = turns w st in (x.0, (round_took q most w x.0 ys x.1).1, x.2)

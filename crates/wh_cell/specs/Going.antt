@@ -5,7 +5,7 @@ use Rattle.wh_host_model.specs.declared.plain.SwapError.{SwapError}
 use Rattle.wh_host_model.specs.declared.plain.TurnEnd.{TurnEnd}
 use Rattle.wh_host_model.specs.declared.plain.TurnEnd.TheVariants.{Idle}
 use Rattle.wh_host_model.specs.Host.Worlds.{World}
-use Rattle.wh_host_model.specs.Host.Events.{Event, turn, load, admit, invoke, refuel, cancel, retry, release, fork, offer, evict_begin, evict_commit, fetch_begin, fetch_commit, provide, epoch}
+use Rattle.wh_host_model.specs.Host.Events.{Event, turn, load, admit, invoke, refuel, cancel, retry, release, fork, unload, offer, evict_begin, evict_commit, fetch_begin, fetch_commit, provide, epoch}
 use Rattle.wh_host_model.specs.Host.Happens.{Happens, IsTurn}
 use Rattle.wh_host_model.specs.Host.Misreading.{Step, by_event, by_misreading, Befalls}
 use Rattle.wh_host.specs.Paging.{IsGoing}
@@ -21,6 +21,7 @@ IsWork w (cancel id) = ⊥
 IsWork w (retry id) = ⊥
 IsWork w (release id) = ⊥
 IsWork w (fork id q) = ⊥
+IsWork w (unload k) = ⊥
 IsWork w epoch = ⊥
 IsWork w (turn id q) = IsGoing w id
 IsWork w (offer page hash) = Unit {0}

@@ -12,7 +12,7 @@ use Rattle.std.proofs.Math.Seq.{get_or-append_seam}
 use Rattle.std.proofs.lemmas.List.{length-map}
 use Rattle.std.proofs.lemmas.Option.{same_Some}
 use Rattle.wh_model.specs.Execution.Store.{Instance, Store}
-use Rattle.wh_host_model.specs.Host.Worlds.{Doing, Loaded, Tenant, World, tenant, journal, journal_calls}
+use Rattle.wh_host_model.specs.Host.Worlds.{Doing, Loaded, Tenant, World, tenant, journal, journal_calls, loaded_of}
 use Rattle.wh_host_model.specs.Owners.{Entry, start_entry}
 use Rattle.wh_host_model.specs.Owners.{Params, AdmitFault}
 use Rattle.wh_host_model.specs.Host.Admission.{StartsAs, writes, runs, ends, rest_of, LetsIn}
@@ -154,7 +154,7 @@ calls_known (is_there of_one same none) = same
 
 start_known : {w w2 : World} {k number place : ℕ} {p : Params} (l : LetsIn w k p place number w2) {g : script.NamedInstance} → IsFollowed AreSame StandsSame w2 g (Some (tenant_of l)) → g.m.start ≡ l.loaded.m.start
 start_known {w = w} {w2 = w2} {k = k} l {g} (is_there of_one same none) =
-    let here : slice_get w2.modules k ≡ Some l.loaded = ap (λ (z : World). slice_get z.modules k) l.after ∙ l.is_loaded in
+    let here : loaded_of w2 k ≡ Some l.loaded = ap (λ (z : World). loaded_of z k) l.after ∙ l.is_loaded in
     let one : of_one.loaded ≡ l.loaded = same_Some of_one.loaded l.loaded (sym of_one.is_loaded ∙ here) in
     ap (λ (z : Module). z.start) of_one.of_one ∙ ap (λ (z : Loaded). z.m.start) one
 

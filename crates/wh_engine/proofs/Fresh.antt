@@ -6,13 +6,13 @@ use Rattle.wh_host_model.specs.Frames.{tally}
 use Rattle.wh_host_model.specs.Pages.{zero_page}
 use Rattle.wh_host_model.specs.Space.Errands.{is_ticket, tickets}
 use Rattle.wh_host_model.specs.Space.Parts.{Space, minima, spreads}
-use Rattle.wh_script_model.specs.ScriptState.{NamedModule, empty_script}
+use Rattle.wh_script_model.specs.ScriptState.{empty_script}
 use Rattle.wh_script_model.specs.Settings.{Settings}
 use Rattle.wh_host.specs.Hosting.{IsNewHost}
 use Rattle.wh_space.specs.Arrivals.{IsNew}
 use Rattle.std.specs.List.{AllZip}
-use Rattle.wh_host_model.specs.Host.Worlds.{Loaded, World}
-use Rattle.wh_script_laws.specs.Following.{AreSame, IsFollowed, IsPlaced, Knows, StandsSame}
+use Rattle.wh_host_model.specs.Host.Worlds.{World}
+use Rattle.wh_script_laws.specs.Following.{AreSame, IsFollowed, IsModuleKept, IsPlaced, Knows, StandsSame}
 use Rattle.wh_names.specs.NamePlaces.{AreNamedOnce}
 use Rattle.wh_engine.specs.declared.parts.NamedInstance.{NamedInstance}
 use Rattle.wh_engine.specs.RepresentedScript.{ScriptHostState, RepresentsScript, AreNamedInstances, RepresentsWhole, WholeState, whole_on, LeavesOut, is_over, is_settled, none_there, AreInvoked}
@@ -37,7 +37,7 @@ knows_none settings w tax num den modules tenants new = record {
   none_out = ap (λ (s : Space). tickets s) new.is ∙ none_vacant settings.slots;
   minima = ap (λ (s : Space). minima s) new.is;
   spreads = ap (λ (s : Space). spreads s) new.is;
-  modules = subst (λ ls. AllZip (λ (n : NamedModule) (l : Loaded). n.m ≡ l.m) [] ls) (sym modules) tt;
+  modules = subst (λ ls. AllZip IsModuleKept [] ls) (sym modules) tt;
   instances = subst (λ ts. AllZip (IsFollowed AreSame StandsSame w) [] ts) (sym tenants) tt;
   placed = subst (λ ts. AllZip IsPlaced [] ts) (sym tenants) tt;
 }

@@ -5,7 +5,7 @@ use Rattle.wh_host_model.specs.declared.Tax.{Tax}
 use Rattle.wh_host_model.specs.declared.plain.InstId.{InstId}
 use Rattle.wh_host_model.specs.declared.plain.SwapError.{SwapError}
 use Rattle.wh_host_model.specs.Space.Parts.{claim}
-use Rattle.wh_host_model.specs.Host.Events.{Event, turn, load, admit, invoke, refuel, cancel, retry, release, fork, offer, evict_begin, evict_commit, fetch_begin, fetch_commit, provide, epoch}
+use Rattle.wh_host_model.specs.Host.Events.{Event, turn, load, admit, invoke, refuel, cancel, retry, release, fork, unload, offer, evict_begin, evict_commit, fetch_begin, fetch_commit, provide, epoch}
 use Rattle.wh_host_model.specs.Host.Happens.{AwaitsFrame, AwaitsFrameFor, Happens, MovesPages, OnlyMoves, has_failed, moved}
 use Rattle.wh_host_model.specs.Host.Worlds.{Tenant, World, for_device, with_tenant}
 use Rattle.wh_script_model.specs.ScriptState.{ScriptState, NamedInstance}
@@ -150,6 +150,7 @@ event_followed met w w2 m places (cancel id) r work happens h = absurd work
 event_followed met w w2 m places (retry id) r work happens h = absurd work
 event_followed met w w2 m places (release id) r work happens h = absurd work
 event_followed met w w2 m places (fork id q) r work happens h = absurd work
+event_followed met w w2 m places (unload k) r work happens h = absurd work
 event_followed met w w2 m places (offer page hash) r work happens h = moves_followed met w w2 m places happens h
 event_followed met w w2 m places (evict_begin id) r work happens h = moves_followed met w w2 m places happens h
 event_followed met w w2 m places (evict_commit id call fault) r work happens h = pages_followed met w w2 m places id (AwaitsFrameFor call) fault (λ t awaits. awaits.0) happens h

@@ -33,7 +33,7 @@ use Rattle.wh_host.specs.declared.parts.InstanceEntry.{InstanceEntry}
 use Rattle.wh_host.specs.Admitting.{BeginsEntry, EntersNext, fault_answer}
 use Rattle.wh_host.specs.Hosting.{AreGivenAs, HostState, IsHost, IsEntryOf, loaded_as, entry_at}
 use Rattle.wh_host.proofs.Hosts.{moved_on, one_more, one_value, comes_on, same_or_not}
-use Rattle.wh_host.proofs.Requests.{as_many_modules, module_there, sound_here}
+use Rattle.wh_host.proofs.Requests.{module_there, no_module_there, sound_here}
 
 -- ---- before it
 
@@ -47,11 +47,6 @@ stands h w k m room st is some_frames some_slots live = record {
   };
 }
 
-none_behind : {A : Type 0} (xs : List A) (k : ℕ) → slice_get xs k ≡ None → length xs ≤ k
-none_behind [] k e = omega arith
-none_behind (x ∷ xs) zero e = absurd (cc e)
-none_behind (x ∷ xs) (suc k) e = let h = none_behind xs k e in omega (arith, h)
-
 first_is_first : (other : AdmitFault) → admit_rank other < 1 → ⊥
 first_is_first no_module lt = omega (arith, lt)
 first_is_first shares lt = omega (arith, lt)
@@ -64,9 +59,7 @@ first_is_first segments lt = omega (arith, lt)
 
 pub no_module_is_there : (h : HostState) (w : World) (k : ℕ) (p : Params) → IsHost h w → slice_get h.modules k ≡ None → IsAdmit w k p (admit_refused no_module) w
 no_module_is_there h w k p st none =
-    let count = as_many_modules h w st in
-    let behind = none_behind h.modules k none in
-    isnt_admitted (omega (arith, count, behind), λ other lt. absurd (first_is_first other lt))
+    isnt_admitted (no_module_there h w k st none, λ other lt. absurd (first_is_first other lt))
 
 pub refused_as : (w : World) (k : ℕ) (p : Params) (m : Module) (room : Room) → RepresentsHost w k (Some m) room → (o : Option AdmitFault) → RefusesFor (Some m) room p o → IsAdmit w k p (fault_answer o) w
 refused_as w k p m room is (Some fault) first = isnt_admitted (first w k is)
@@ -200,7 +193,7 @@ admitted_here h w k p m a x place rs rs1 rs2 s2 st is none b begins are enters u
       is_loaded = ap (slice_get h.modules) begins.of ∙ is;
       given = subst (λ g. AreGivenAs g p) (sym begins.given) (record { shares = b.shares; min = b.min; max = b.max; fuel = b.fuel; base = refl; salt = refl });
       limit = omega (arith, limits, most);
-      own = refl;
+      copied = begins.copied;
       is = over;
     } in
     let vacant : entry_at h.entries place ≡ None = ap (λ (zs : List (Option InstanceEntry)). entry_at zs place) (sym are) ∙ enters.vacant in

@@ -2,7 +2,7 @@
 use Rattle.std.proofs.Common.{◌≡◌, ℕ, zero, suc, ◌+◌, ◌++◌, Bool, Option, Some, None, List, [], ◌∷◌, length, map, take, get_or, slice_get, refl, sym, ap, subst, ◌∙◌, arith}
 use Rattle.std.proofs.lemmas.List.{append-nil, append_assoc, length-append, map-append}
 use Rattle.wh_host_model.specs.Space.Errands.{tickets}
-use Rattle.wh_host_model.specs.Host.Worlds.{Loaded, Suspension, Tenant, World, journal, tenant}
+use Rattle.wh_host_model.specs.Host.Worlds.{Suspension, Tenant, World, journal, tenant}
 use Rattle.wh_host_model.specs.Owners.{Entry}
 use Rattle.wh_host_model.specs.Owners.{Params}
 use Rattle.wh_host_model.proofs.Host.Lasting.{inputs_stay}
@@ -12,17 +12,40 @@ use Rattle.wh_host.specs.declared.parts.LoadedModule.{LoadedModule}
 use Rattle.wh_host.specs.declared.parts.InstanceEntry.{InstanceEntry}
 use Rattle.wh_host.specs.declared.parts.InstanceRef.{InstanceRef}
 use Rattle.wh_host.specs.declared.rolling.Enrolled.{Enrolled}
-use Rattle.wh_host.specs.Hosting.{HostState, IsHost, IsEntryOf, loaded_as, entry_at}
-use Rattle.wh_host.specs.Rolls.{IsRollOf, Listed, RollState, all_listed, listed_as, listed_by, listed_in, listed_refs, spelled_by, view_listed}
+use Rattle.wh_host.specs.declared.rolling.EnrolledModule.{EnrolledModule}
+use Rattle.wh_host.specs.Hosting.{HostState, IsHost, IsEntryOf, kept_as, entry_at}
+use Rattle.wh_host.specs.Rolls.{IsRollOf, Listed, ListedModule, RollState, all_listed, all_modules, listed_as, listed_by, listed_in, listed_refs, module_by, modules_from, view_listed, view_module}
 use Rattle.wh_host.specs.InstanceRefs.{AreInstanceRefs, refs_by}
 use Rattle.wh_host.specs.Showing.{given_with}
 use Rattle.wh_host.proofs.Showings.{inputs_are, params_by}
 
 -- ---- modules
 
-spelled_as : (ms : List LoadedModule) → map spelled_by ms ≡ map (λ (l : Loaded). l.bytes) (map loaded_as ms)
-spelled_as [] = refl
-spelled_as (m ∷ ms) = ap (λ more. spelled_by m ∷ more) (spelled_as ms)
+modules_as : (n : ℕ) (ms : List LoadedModule) → modules_from n ms ≡ all_modules n (map kept_as ms)
+modules_as n [] = refl
+modules_as n (m ∷ ms) = ap (λ more. module_by n m ∷ more) (modules_as (n + 1) ms)
+
+-- one more of them
+one_more_module : (n : ℕ) (ms : List LoadedModule) (k : ℕ) (m : LoadedModule) → slice_get ms k ≡ Some m → modules_from n (take (suc k) ms) ≡ modules_from n (take k ms) ++ module_by (n + k) m ∷ []
+one_more_module n [] k m is = absurd (cc is)
+one_more_module n (z ∷ zs) zero m is =
+    let same : z ≡ m = cc is in
+    let here : n + 0 ≡ n = omega arith in
+    ap (λ (u : LoadedModule). module_by n u ∷ []) same ∙ ap (λ i. module_by i m ∷ []) (sym here)
+one_more_module n (z ∷ zs) (suc k) m is =
+    let here : (n + 1) + k ≡ n + suc k = omega arith in
+    ap (λ more. module_by n z ∷ more) (one_more_module (n + 1) zs k m is ∙ ap (λ i. modules_from (n + 1) (take k zs) ++ module_by i m ∷ []) here)
+
+pub module_step : (ms : List LoadedModule) (k : ℕ) (m : LoadedModule) (a b : List EnrolledModule) (e : EnrolledModule) → slice_get ms k ≡ Some m → map view_module a ≡ modules_from 0 (take k ms) → b ≡ a ++ e ∷ [] → view_module e ≡ module_by k m → map view_module b ≡ modules_from 0 (take (k + 1) ms)
+module_step ms k m a b e at before is same =
+    let next : k + 1 ≡ suc k = omega arith in
+    let here : 0 + k ≡ k = omega arith in
+    ap (map view_module) is
+    ∙ map-append view_module a (e ∷ [])
+    ∙ ap (λ q. q ++ view_module e ∷ []) before
+    ∙ ap (λ (l : ListedModule). modules_from 0 (take k ms) ++ l ∷ []) (same ∙ ap (λ i. module_by i m) (sym here))
+    ∙ sym (one_more_module 0 ms k m at)
+    ∙ ap (λ n. modules_from 0 (take n ms)) (sym next)
 
 -- ---- one instance
 
@@ -43,15 +66,16 @@ same_listed h w i t x st live is =
     let dead = over.dead in
     let stands = sym over.waiting_for in
     let of = is.of in
-    ap (λ n. put n (given_with x.given x.tenant.store.inputs.items) (length x.tenant.journal.ended + length x.tenant.journal.open_calls) (length x.tenant.journal.open_calls) x.tenant.dead (suspension_of x.tenant.waiting_for)) of
-    ∙ ap (λ p. put t.of p (length x.tenant.journal.ended + length x.tenant.journal.open_calls) (length x.tenant.journal.open_calls) x.tenant.dead (suspension_of x.tenant.waiting_for)) params
-    ∙ ap (λ n. put t.of t.params n (length x.tenant.journal.open_calls) x.tenant.dead (suspension_of x.tenant.waiting_for)) calls
-    ∙ ap (λ n. put t.of t.params (length (journal t)) n x.tenant.dead (suspension_of x.tenant.waiting_for)) opens
-    ∙ ap (λ b. put t.of t.params (length (journal t)) (length t.open_calls) b (suspension_of x.tenant.waiting_for)) dead
-    ∙ ap (put t.of t.params (length (journal t)) (length t.open_calls) t.dead) stands
+    ap (λ n. put n (given_with x.given x.tenant.store.inputs.items) (length x.tenant.journal.ended + length x.tenant.journal.open_calls) x.copied (length x.tenant.journal.open_calls) x.tenant.dead (suspension_of x.tenant.waiting_for)) of
+    ∙ ap (λ p. put t.of p (length x.tenant.journal.ended + length x.tenant.journal.open_calls) x.copied (length x.tenant.journal.open_calls) x.tenant.dead (suspension_of x.tenant.waiting_for)) params
+    ∙ ap (λ n. put t.of t.params n x.copied (length x.tenant.journal.open_calls) x.tenant.dead (suspension_of x.tenant.waiting_for)) calls
+    ∙ ap (λ n. put t.of t.params (length (journal t)) n (length x.tenant.journal.open_calls) x.tenant.dead (suspension_of x.tenant.waiting_for)) is.copied
+    ∙ ap (λ n. put t.of t.params (length (journal t)) t.copied n x.tenant.dead (suspension_of x.tenant.waiting_for)) opens
+    ∙ ap (λ b. put t.of t.params (length (journal t)) t.copied (length t.open_calls) b (suspension_of x.tenant.waiting_for)) dead
+    ∙ ap (put t.of t.params (length (journal t)) t.copied (length t.open_calls) t.dead) stands
   where
-    put : ℕ → Params → ℕ → ℕ → Bool → Option Suspension → Listed
-    put of params calls opens dead stands = record { number = i; place = t.place; of = of; params = params; calls = calls; open_calls = opens; dead = dead; waiting_for = stands }
+    put : ℕ → Params → ℕ → ℕ → ℕ → Bool → Option Suspension → Listed
+    put of params calls copied opens dead stands = record { number = i; place = t.place; of = of; params = params; calls = calls; copied = copied; open_calls = opens; dead = dead; waiting_for = stands }
 
 -- ---- all of them
 
@@ -91,16 +115,16 @@ all_same rs i (Some t ∷ ts) has =
 
 -- ---- the whole
 
-pub roll_is : (h : HostState) (instance_refs : List InstanceRef) (modules : List (List ℕ)) (next out : ℕ) (instances : List Listed) → AreInstanceRefs h instance_refs → modules ≡ map spelled_by h.modules → next ≡ h.next → out ≡ tickets h.space → instances ≡ listed_refs h.entries instance_refs
+pub roll_is : (h : HostState) (instance_refs : List InstanceRef) (modules : List ListedModule) (next out : ℕ) (instances : List Listed) → AreInstanceRefs h instance_refs → modules ≡ modules_from 0 h.modules → next ≡ h.next → out ≡ tickets h.space → instances ≡ listed_refs h.entries instance_refs
     → IsRollOf h (record { modules = modules; next = next; tickets_out = out; instances = instances })
 roll_is h instance_refs modules next out instances are e1 e2 e3 e4 w st =
-    let bytes : modules ≡ map (λ (l : Loaded). l.bytes) w.modules = e1 ∙ spelled_as h.modules ∙ ap (map (λ (l : Loaded). l.bytes)) st.modules in
+    let numbered : modules ≡ all_modules 0 w.modules = e1 ∙ modules_as 0 h.modules ∙ ap (all_modules 0) st.modules in
     let many = e2 ∙ st.next in
     let tickets_out = e3 ∙ ap tickets st.space in
     let zeroth : (k : ℕ) → 0 + k ≡ k = λ k. omega arith in
     let listed : instances ≡ all_listed 0 w.tenants = e4 ∙ ap (listed_refs h.entries) (are w st) ∙ all_same h.entries 0 w.tenants (λ k t live. (let f = st.there k t live in
     subst (λ n. IsListedAt h.entries n t) (sym (zeroth k)) (f.0, f.1, same_listed h w k t f.0 st live f.2))) in
-    ap (λ (b : List (List ℕ)). let r : RollState = record { modules = b; next = next; tickets_out = out; instances = instances } in r) bytes
-    ∙ ap (λ (n : ℕ). let r : RollState = record { modules = map (λ (l : Loaded). l.bytes) w.modules; next = n; tickets_out = out; instances = instances } in r) many
-    ∙ ap (λ (n : ℕ). let r : RollState = record { modules = map (λ (l : Loaded). l.bytes) w.modules; next = length w.tenants; tickets_out = n; instances = instances } in r) tickets_out
-    ∙ ap (λ (ls : List Listed). let r : RollState = record { modules = map (λ (l : Loaded). l.bytes) w.modules; next = length w.tenants; tickets_out = tickets w.space; instances = ls } in r) listed
+    ap (λ (b : List ListedModule). let r : RollState = record { modules = b; next = next; tickets_out = out; instances = instances } in r) numbered
+    ∙ ap (λ (n : ℕ). let r : RollState = record { modules = all_modules 0 w.modules; next = n; tickets_out = out; instances = instances } in r) many
+    ∙ ap (λ (n : ℕ). let r : RollState = record { modules = all_modules 0 w.modules; next = length w.tenants; tickets_out = n; instances = instances } in r) tickets_out
+    ∙ ap (λ (ls : List Listed). let r : RollState = record { modules = all_modules 0 w.modules; next = length w.tenants; tickets_out = tickets w.space; instances = ls } in r) listed

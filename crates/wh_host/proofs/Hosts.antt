@@ -180,7 +180,7 @@ moved_on modules x s s2 i t r sees = record {
   is_loaded = r.is_loaded;
   given = r.given;
   limit = r.limit;
-  own = r.own;
+  copied = r.copied;
   is = subst (λ b. IsTenant r.loaded.linked x.page_limit x.tenant b t) (sym sees) r.is;
 }
 
@@ -193,7 +193,7 @@ same_owner modules x s s2 i t t2 z r of params copied is = record {
   is_loaded = r.is_loaded;
   given = subst (AreGivenAs x.given) (sym params) r.given;
   limit = subst (λ (p : Params). x.page_limit ≤ p.max / 16) (sym params) r.limit;
-  own = copied ∙ r.own;
+  copied = r.copied ∙ sym copied;
   is = is;
 }
 

@@ -130,7 +130,7 @@ resident_on modules x s s2 i t alike r = record {
   is_loaded = r.is_loaded;
   given = r.given;
   limit = r.limit;
-  own = r.own;
+  copied = r.copied;
   is = represents_on (linked_parts r.loaded.linked) x.page_limit (view s t.place) (view s2 t.place) alike.many x.tenant t r.is;
 }
 

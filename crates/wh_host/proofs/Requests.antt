@@ -23,10 +23,10 @@ use Rattle.wh_host_model.specs.Space.Stores.{Epochs, ended}
 use Rattle.wh_host_model.specs.Space.Places.{Exits}
 use Rattle.wh_host_model.specs.Host.Spaces.{AllLeftAlone, Departs, OthersLeftAlone, WaitsAlone}
 use Rattle.wh_host_model.specs.Space.Sight.{HasNoPins}
-use Rattle.wh_host_model.specs.Host.Worlds.{Tenant, Loaded, World, tenant, with_tenant, promised}
+use Rattle.wh_host_model.specs.Host.Worlds.{Tenant, Loaded, World, tenant, with_tenant, promised, loaded_of}
 use Rattle.wh_host_model.specs.Host.OwnerCalls.{IsFirst, Meets, TakesCall, Cancels, ends}
 use Rattle.wh_host_model.specs.Owners.{InvokeFault}
-use Rattle.wh_host_model.specs.Host.Admission.{LoadsModule, LetsGo, broken, invalid, unlinked, modules_full, decoder_out_of_memory, validator_out_of_memory, linker_out_of_memory, host_out_of_memory}
+use Rattle.wh_host_model.specs.Host.Admission.{LoadsModule, LetsGo, module_count, broken, invalid, unlinked, modules_full, decoder_out_of_memory, validator_out_of_memory, linker_out_of_memory, host_out_of_memory}
 use Rattle.wh_host_model.specs.Host.Events.{epoch, invoke, cancel, load, release}
 use Rattle.wh_host_model.specs.Host.Happens.{IsLive, OnlyMoves, IsCancel, is_cancelled, IsInvoke, is_invoked, isnt_invoked, no_memory_to_invoke, invoke_ok, call_ok, LoadAnswer, load_refused, load_out_of_memory, IsLoad, is_loaded, isnt_loaded, no_memory_to_load, load_ok, IsRelease, is_released}
 use Rattle.wh_host_model.proofs.Host.Bridges.{ends_well, epochs_leave_all, exits_depart}
@@ -43,7 +43,7 @@ use Rattle.wh_host.specs.declared.parts.LoadedModule.{LoadedModule}
 use Rattle.wh_host.specs.declared.parts.InstanceEntry.{InstanceEntry}
 use Rattle.wh_host.specs.CallRequests.{refusal_answer}
 use Rattle.wh_host.specs.Entries.{PlaceIsLeft}
-use Rattle.wh_host.specs.Hosting.{HostState, IsHost, loaded_as, entry_at}
+use Rattle.wh_host.specs.Hosting.{HostState, IsHost, kept_as, loaded_as, entry_at}
 use Rattle.wh_host.proofs.Turns.{claimed_there}
 use Rattle.wh_host.proofs.Hosts.{SameTenant, asked_found, at_place, changed, closed_stays, found, length_set, module_is, moved_on, one_fewer, one_value, places, comes_on, same_or_not, same_owner, seat_set}
 
@@ -59,14 +59,23 @@ lives_there h w place i x st at number =
     let claims = (places w st.comes).claimed i f.t f.live in
     subst (λ s. (o : Occupant) × occupant_at s place o × (o.live ≡ true)) (sym st.space) (claimed_there w.space place (promised i f.t.params) (ap (claim w.space) (sym f.at) ∙ claims))
 
-pub get_mapped : {A B : Type 0} (f : A → B) (xs : List A) (i : ℕ) (x : A) → slice_get xs i ≡ Some x → slice_get (map f xs) i ≡ Some (f x)
-get_mapped f [] i x e = absurd (cc e)
-get_mapped f (y ∷ xs) zero x e = ap Some (ap f (one_value y x e))
-get_mapped f (y ∷ xs) (suc i) x e = get_mapped f xs i x e
+kept_there : (ms : List LoadedModule) (k : ℕ) (m : LoadedModule) → slice_get ms k ≡ Some m → get_or (map kept_as ms) k None ≡ Some (loaded_as m)
+kept_there [] k m e = absurd (cc e)
+kept_there (x ∷ ms) zero m e = ap kept_as (one_value x m e)
+kept_there (x ∷ ms) (suc k) m e = kept_there ms k m e
+
+none_kept : (ms : List LoadedModule) (k : ℕ) → slice_get ms k ≡ None → get_or (map kept_as ms) k None ≡ None
+none_kept [] k e = refl
+none_kept (x ∷ ms) zero e = absurd (cc e)
+none_kept (x ∷ ms) (suc k) e = none_kept ms k e
 
 -- the module of a number
-pub module_there : (h : HostState) (w : World) (k : ℕ) (m : LoadedModule) → IsHost h w → slice_get h.modules k ≡ Some m → slice_get w.modules k ≡ Some (loaded_as m)
-module_there h w k m st is = ap (λ (ls : List Loaded). slice_get ls k) (sym st.modules) ∙ get_mapped loaded_as h.modules k m is
+pub module_there : (h : HostState) (w : World) (k : ℕ) (m : LoadedModule) → IsHost h w → slice_get h.modules k ≡ Some m → loaded_of w k ≡ Some (loaded_as m)
+module_there h w k m st is = ap (λ (ls : List (Option Loaded)). get_or ls k None) (sym st.modules) ∙ kept_there h.modules k m is
+
+-- there is none of this number
+pub no_module_there : (h : HostState) (w : World) (k : ℕ) → IsHost h w → slice_get h.modules k ≡ None → loaded_of w k ≡ None
+no_module_there h w k st none = ap (λ (ls : List (Option Loaded)). get_or ls k None) (sym st.modules) ∙ none_kept h.modules k none
 
 -- ---- the present call ends
 
@@ -110,12 +119,12 @@ invoked_here h w id name given fuel at x z m st there number is asked =
     let mine : IsTenant m.linked x.page_limit x.tenant (view w.space f.t.place) f.t = subst (λ (l : LoadedModule). IsTenant l.linked x.page_limit x.tenant (view w.space f.t.place) f.t) one f.is.is in
     let made = asked x.page_limit (view w.space f.t.place) f.t w.space mine refl in
     let back : IsTenant f.is.loaded.linked x.page_limit z (view w.space f.t.place) made.0 = subst (λ (l : LoadedModule). IsTenant l.linked x.page_limit z (view w.space f.t.place) made.0) (sym one) made.2 in
-    let known : slice_get w.modules f.t.of ≡ Some (loaded_as m) = ap (slice_get w.modules) (sym f.is.of) ∙ module_there h w x.of m st is in
-    let R : Tenant → Tenant → Type 0 = λ t t2. (slice_get w.modules t.of ≡ Some (loaded_as m)) × TakesCall (view_linked m.linked) w.space t name given fuel at t2 in
+    let known : loaded_of w f.t.of ≡ Some (loaded_as m) = ap (loaded_of w) (sym f.is.of) ∙ module_there h w x.of m st is in
+    let R : Tenant → Tenant → Type 0 = λ t t2. (loaded_of w t.of ≡ Some (loaded_as m)) × TakesCall (view_linked m.linked) w.space t name given fuel at t2 in
     let go = asked_found h w id x z R st there number (λ t t2 r. takes_stays w t t2 r.1) f (made.0, (known, made.1), back) (invoke id name given fuel) (λ t t2 live r. (invoke_ok at, is_invoked live r.0 r.1)) in
     (_, is_invoked go.2 go.3.0 go.3.1, go.4)
 
-refused_as : (w : World) (id : InstId) (name : List ℕ) (given : List ℤ) (fuel : ℕ) (t : Tenant) (l : LinkedState) (loaded : Loaded) → IsLive w id t → slice_get w.modules t.of ≡ Some loaded → loaded.m ≡ view_linked l → (o : Option InvokeFault) → RefusesCallFor o l t name given → IsInvoke w id name given fuel (refusal_answer o) w
+refused_as : (w : World) (id : InstId) (name : List ℕ) (given : List ℤ) (fuel : ℕ) (t : Tenant) (l : LinkedState) (loaded : Loaded) → IsLive w id t → loaded_of w t.of ≡ Some loaded → loaded.m ≡ view_linked l → (o : Option InvokeFault) → RefusesCallFor o l t name given → IsInvoke w id name given fuel (refusal_answer o) w
 refused_as w id name given fuel t l loaded live is same (Some fault) first = isnt_invoked live is (subst (λ m. IsFirst m t name given fault) (sym same) first)
 refused_as w id name given fuel t l loaded live is same None none = no_memory_to_invoke live is (λ fault. subst (λ m. ¬ (Meets m t name given fault)) (sym same) (none fault))
 
@@ -124,7 +133,7 @@ pub refused_here : (h : HostState) (w : World) (id : InstId) (name : List ℕ) (
 refused_here h w id name given fuel x m e st there number is asked =
     let f = found h w id.place id.number x st there number in
     let mine : IsTenant m.linked x.page_limit x.tenant (view w.space f.t.place) f.t = subst (λ (l : LoadedModule). IsTenant l.linked x.page_limit x.tenant (view w.space f.t.place) f.t) (module_is h w id.place id.number x m f is) f.is.is in
-    let known : slice_get w.modules f.t.of ≡ Some (loaded_as m) = ap (slice_get w.modules) (sym f.is.of) ∙ module_there h w x.of m st is in
+    let known : loaded_of w f.t.of ≡ Some (loaded_as m) = ap (loaded_of w) (sym f.is.of) ∙ module_there h w x.of m st is in
     refused_as w id name given fuel f.t m.linked (loaded_as m) (f.live, f.at) known refl (refusal_of e) (asked x.page_limit (view w.space f.t.place) f.t w.space mine refl)
 
 -- ---- pages move
@@ -208,28 +217,37 @@ length_mapped f [] = refl
 length_mapped f (x ∷ xs) = ap suc (length_mapped f xs)
 
 pub as_many_modules : (h : HostState) (w : World) → IsHost h w → length w.modules ≡ length h.modules
-as_many_modules h w st = ap length (sym st.modules) ∙ length_mapped loaded_as h.modules
+as_many_modules h w st = ap length (sym st.modules) ∙ length_mapped kept_as h.modules
+
+all_kept : (ms : List LoadedModule) → module_count (map kept_as ms) ≡ length ms
+all_kept [] = refl
+all_kept (m ∷ ms) = ap suc (all_kept ms)
+
+-- and all of them are there
+pub all_modules_there : (h : HostState) (w : World) → IsHost h w → module_count w.modules ≡ length h.modules
+all_modules_there h w st = ap module_count (sym st.modules) ∙ all_kept h.modules
 
 pub loaded_here : (h : HostState) (w : World) (bytes : List ℕ) (m : LoadedModule) (number : ℕ) → (st : IsHost h w) → m.bytes.value.items ≡ bytes → IsAccepted bytes (view_linked m.linked) → number ≡ length h.modules → number < 1024
     → (w2 : World) × IsLoad w bytes (load_ok number) w2 × IsHost (record h { modules = h.modules ++ m ∷ [] }) w2
 loaded_here h w bytes m number st same accepted next few =
     let count = as_many_modules h w st in
+    let there = all_modules_there h w st in
     let new : Loaded = record { bytes = bytes; m = view_linked m.linked } in
-    let w2 : World = record w { modules = w.modules ++ new ∷ [] } in
-    let loads : LoadsModule w bytes number w2 = record { m = view_linked m.linked; accepted = accepted; few = omega (arith, count, next, few); next = next ∙ sym count; after = refl } in
+    let w2 : World = record w { modules = w.modules ++ Some new ∷ [] } in
+    let loads : LoadsModule w bytes number w2 = record { m = view_linked m.linked; accepted = accepted; few = omega (arith, there, next, few); next = next ∙ sym count; after = refl } in
     let happens : IsLoad w bytes (load_ok number) w2 = is_loaded loads in (
       w2,
       happens,
       record {
         comes = comes_on w w2 (load bytes) st.comes (load_ok number, happens);
-        modules = map_behind loaded_as h.modules m ∙ ap (λ (ls : List Loaded). ls ++ loaded_as m ∷ []) st.modules ∙ ap (λ (b : List ℕ). w.modules ++ record { bytes = b; m = view_linked m.linked } ∷ []) same;
+        modules = map_behind kept_as h.modules m ∙ ap (λ (ls : List (Option Loaded)). ls ++ kept_as m ∷ []) st.modules ∙ ap (λ (b : List ℕ). w.modules ++ Some (record { bytes = b; m = view_linked m.linked }) ∷ []) same;
         space = st.space;
         live = st.live;
         next = st.next;
         there = λ i t e.
             let f = st.there i t e in
             let r = f.2 in
-            (f.0, f.1, record { number = r.number; of = r.of; loaded = r.loaded; is_loaded = still_loaded h.modules m r.loaded f.0.of r.is_loaded; given = r.given; limit = r.limit; own = r.own; is = r.is });
+            (f.0, f.1, record { number = r.number; of = r.of; loaded = r.loaded; is_loaded = still_loaded h.modules m r.loaded f.0.of r.is_loaded; given = r.given; limit = r.limit; copied = r.copied; is = r.is });
         all = st.all;
       },
     )
@@ -288,7 +306,7 @@ bytes_refused w bytes (Invalid e) refuses =
 bytes_refused w bytes (Link e) refuses = link_refused w bytes refuses.0 e refuses.1 refuses.2 refuses.3 refuses.4
 
 pub modules_are_full : (h : HostState) (w : World) (bytes : List ℕ) (m : Module) → IsHost h w → IsAccepted bytes m → 1024 ≤ length h.modules → IsLoad w bytes (load_refused modules_full) w
-modules_are_full h w bytes m st accepted full = let count = as_many_modules h w st in isnt_loaded (m, accepted, omega (arith, count, full))
+modules_are_full h w bytes m st accepted full = let count = all_modules_there h w st in isnt_loaded (m, accepted, omega (arith, count, full))
 
 pub no_room_to_keep : (h : HostState) (w : World) (bytes : List ℕ) (m : Module) → IsHost h w → IsAccepted bytes m → length h.modules < 1024 → IsLoad w bytes (load_out_of_memory host_out_of_memory) w
-no_room_to_keep h w bytes m st accepted few = let count = as_many_modules h w st in no_memory_to_load (m, accepted, omega (arith, count, few))
+no_room_to_keep h w bytes m st accepted few = let count = all_modules_there h w st in no_memory_to_load (m, accepted, omega (arith, count, few))

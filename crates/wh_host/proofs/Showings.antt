@@ -1,15 +1,15 @@
 -- What the code has of an instance is its transcript.
-use Rattle.std.proofs.Common.{◌≡◌, ℕ, List, Some, slice_get, refl, sym, ap, subst, ◌∙◌}
+use Rattle.std.proofs.Common.{◌≡◌, ◌≤◌, ℕ, List, Some, length, slice_get, refl, sym, ap, subst, ◌∙◌}
 use Rattle.wh_model.specs.Linking.Accepting.{IsAccepted}
 use Rattle.wh_model.specs.Execution.Instance.{begins, IsInitial}
 use Rattle.wh_model.specs.Execution.Replay.{Replay}
 use Rattle.wh_host_model.specs.Space.Parts.{view, wants}
-use Rattle.wh_host_model.specs.Host.Worlds.{Loaded, Tenant, World, journal, journal_calls, standing_in, store_in, tenant}
+use Rattle.wh_host_model.specs.Host.Worlds.{Loaded, Tenant, World, journal, journal_calls, standing_in, store_in, tenant, loaded_of}
 use Rattle.wh_host_model.specs.Owners.{Params, given_of}
 use Rattle.wh_host_model.specs.Host.Journals.{InOrder}
 use Rattle.wh_host_model.specs.Host.Suspensions.{FirstWaitsDuly}
 use Rattle.wh_host_model.proofs.Host.Lasting.{inputs_stay}
-use Rattle.wh_host_model.proofs.Host.Holding.{instances_replay, journals_are_in_order, suspensions_are_right}
+use Rattle.wh_host_model.proofs.Host.Holding.{copied_calls_have_ended, instances_replay, journals_are_in_order, suspensions_are_right}
 use Rattle.wh_imports.specs.LinkedState.{LinkedState}
 use Rattle.wh_load.specs.Refusing.{view_linked}
 use Rattle.wh_instance.specs.Tenancy.{IsTenant, HostInstanceState}
@@ -36,7 +36,7 @@ pub record ShownThere (w : World) (place i : ℕ) (m : LoadedModule) (x : Instan
   pub t : Tenant
   pub live : tenant w i ≡ Some t
   pub at : t.place ≡ place
-  pub of : slice_get w.modules t.of ≡ Some (loaded_as m)
+  pub of : loaded_of w t.of ≡ Some (loaded_as m)
   pub over : IsTenant m.linked x.page_limit x.tenant (view w.space t.place) t
   pub given : given_with x.given x.tenant.store.inputs.items ≡ t.params
   pub shows : Shows (shown_of x m.bytes.value.items) m.bytes.value.items t
@@ -44,7 +44,7 @@ pub record ShownThere (w : World) (place i : ℕ) (m : LoadedModule) (x : Instan
 pub shown_there : (h : HostState) (w : World) (place i : ℕ) (x : InstanceEntry) (m : LoadedModule) → IsHost h w → entry_at h.entries place ≡ Some x → x.number ≡ Some i → slice_get h.modules x.of ≡ Some m → ShownThere w place i m x
 shown_there h w place i x m st at number is =
     let f = found h w place i x st at number in
-    let known : slice_get w.modules f.t.of ≡ Some (loaded_as m) = ap (slice_get w.modules) (sym f.is.of) ∙ module_there h w x.of m st is in
+    let known : loaded_of w f.t.of ≡ Some (loaded_as m) = ap (loaded_of w) (sym f.is.of) ∙ module_there h w x.of m st is in
     let given = params_by x.given x.tenant.store.inputs.items f.t.params f.is.given (inputs_are f.is.loaded.linked x.page_limit x.tenant w f.t f.is.is (inputs_stay w st.comes i f.t f.live)) in
     let over = subst (λ (z : LoadedModule). IsTenant z.linked x.page_limit x.tenant (view w.space f.t.place) f.t) (module_is h w place i x m f is) f.is.is in
     let calls = join_each x.tenant.journal.ended x.tenant.journal.open_calls f.t.ended f.t.open_calls over.ended over.open_calls in
@@ -55,7 +55,7 @@ shown_there h w place i x m st at number is =
       of = known;
       over = over;
       given = given;
-      shows = record { bytes_are = refl; params = given; calls = calls; waiting_for = over.waiting_for };
+      shows = record { bytes_are = refl; params = given; calls = calls; copied = f.is.copied; waiting_for = over.waiting_for };
     }
 
 -- and where events alone have led there, it is what its journal comes to
@@ -86,6 +86,7 @@ replays_there w place i x m run f =
       dead = f.t.dead;
       in_order = subst (λ (l : Loaded). InOrder l.m f.t.inst f.t.dead f.t.ended f.t.open_calls) theirs o.calls;
       represents = shows.calls;
+      copied = subst (λ n. n ≤ length f.t.ended) (sym shows.copied) (copied_calls_have_ended run.frames run.slots run.tax run.events w run.happen i f.t f.live);
       seen = view w.space f.t.place;
       rest = f.t.rest;
       doing = f.t.doing;

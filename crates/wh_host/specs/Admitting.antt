@@ -24,6 +24,7 @@ pub record BeginsEntry (l : LinkedState) (a : Admitted) (i k : ℕ) (words : ℕ
   pub given : x.given
       ≡ record { shares = a.shares; min = a.min; max = a.max; fuel = a.fuel; base = words.0; salt = words.1 }
   pub limit : x.page_limit ≡ a.begun.page_limit
+  pub copied : x.copied ≡ 0
   pub begins : BeginsTenant l a.begun a.fuel x.tenant
 
 -- the memory has it at the next place, where there is room for it

@@ -36,6 +36,10 @@ pub record IsReached (w : World) : Type 0 where
 abbrev pub loaded_as : LoadedModule → Loaded
 loaded_as x = record { bytes = x.bytes.value.items; m = view_linked x.linked }
 
+-- as it has its number
+abbrev pub kept_as : LoadedModule → Option Loaded
+kept_as x = Some (loaded_as x)
+
 -- who has a place
 abbrev pub entry_at : List (Option InstanceEntry) → ℕ → Option InstanceEntry
 entry_at entries place = slice_index_or entries place None
@@ -49,8 +53,8 @@ pub record AreGivenAs (g : StoredParams) (p : Params) : Type 0 where
   pub base : g.base ≡ p.base
   pub salt : g.salt ≡ p.salt
 
--- Who has a place is the instance of this number: of the same module, with as many pages at most as it was promised,
--- over what it sees in memory. No call copies an instance yet, so all its calls are its own.
+-- Who has a place is the instance of this number: of the same module, with as many pages at most as it was promised, and
+-- as many copied calls, over what it sees in memory.
 pub record IsEntryOf (modules : List LoadedModule) (x : InstanceEntry) (s : Space) (i : ℕ) (t : Tenant) : Type 0 where
   pub number : x.number ≡ Some i
   pub of : x.of ≡ t.of
@@ -58,7 +62,7 @@ pub record IsEntryOf (modules : List LoadedModule) (x : InstanceEntry) (s : Spac
   pub is_loaded : slice_get modules x.of ≡ Some loaded
   pub given : AreGivenAs x.given t.params
   pub limit : x.page_limit ≤ t.params.max / 16
-  pub own : t.copied ≡ 0
+  pub copied : x.copied ≡ t.copied
   pub is : IsTenant loaded.linked x.page_limit x.tenant (view s t.place) t
 
 -- The host represents this one, to which events lead, and reads of a swap device that gave other bytes, if there were
@@ -66,7 +70,7 @@ pub record IsEntryOf (modules : List LoadedModule) (x : InstanceEntry) (s : Spac
 -- released.
 pub record IsHost (h : HostState) (w : World) : Type 0 where
   pub comes : ComesAbout w
-  pub modules : map loaded_as h.modules ≡ w.modules
+  pub modules : map kept_as h.modules ≡ w.modules
   pub space : h.space ≡ w.space
   pub live : h.live ≡ live_count w.tenants
   pub next : h.next ≡ length w.tenants

@@ -1,6 +1,6 @@
 -- Which events owners ask for, and what they lead to.
 use Rattle.wh_host_model.specs.Host.Worlds.{World}
-use Rattle.wh_host_model.specs.Host.Events.{Event, turn, load, admit, invoke, refuel, cancel, retry, release, fork, offer, evict_begin, evict_commit, fetch_begin, fetch_commit, provide, epoch}
+use Rattle.wh_host_model.specs.Host.Events.{Event, turn, load, admit, invoke, refuel, cancel, retry, release, fork, unload, offer, evict_begin, evict_commit, fetch_begin, fetch_commit, provide, epoch}
 use Rattle.wh_host_model.specs.Host.Happens.{Happens}
 use Rattle.wh_host.specs.Hosting.{HostState, IsHost}
 
@@ -14,6 +14,7 @@ IsRequest (cancel id) = Unit {0}
 IsRequest (retry id) = Unit {0}
 IsRequest (release id) = Unit {0}
 IsRequest (fork id q) = Unit {0}
+IsRequest (unload k) = Unit {0}
 IsRequest epoch = Unit {0}
 IsRequest (turn id q) = ⊥
 IsRequest (offer page hash) = ⊥

@@ -1,7 +1,5 @@
 -- The roll of a host: what is there.
-use Rattle.std.specs.Prelude.{◌≡◌, ℕ, ◌+◌, ◌++◌, Bool, List, [], ◌∷◌, length, map, Option, Some, None}
-use Rattle.std.specs.Global.{Global, Vec}
-use Rattle.std.specs.declared.sync.Arc.{Arc}
+use Rattle.std.specs.Prelude.{◌≡◌, ℕ, ◌+◌, ◌++◌, Bool, List, [], ◌∷◌, length, Option, Some, None}
 use Rattle.wh_host_model.specs.Space.Errands.{tickets}
 use Rattle.wh_host_model.specs.Host.Worlds.{Suspension, Tenant, Loaded, World, journal}
 use Rattle.wh_host_model.specs.Owners.{Params}
@@ -11,26 +9,33 @@ use Rattle.wh_host.specs.declared.parts.LoadedModule.{LoadedModule}
 use Rattle.wh_host.specs.declared.parts.InstanceEntry.{InstanceEntry}
 use Rattle.wh_host.specs.declared.parts.InstanceRef.{InstanceRef}
 use Rattle.wh_host.specs.declared.rolling.Enrolled.{Enrolled}
+use Rattle.wh_host.specs.declared.rolling.EnrolledModule.{EnrolledModule}
 use Rattle.wh_host_model.specs.Host.Misreading.{ComesAbout}
 use Rattle.wh_host.specs.Hosting.{HostState, IsHost, entry_at}
 use Rattle.wh_host.specs.Showing.{given_with}
 
+-- a module as the roll has it: its number, and its bytes
+pub record ListedModule : Type 0 where
+  pub number : ℕ
+  pub bytes : List ℕ
+
 -- An instance as the roll has it: its number, its place, of which module it is, what it was given, how many calls there
--- are and how many of them are open, whether it is dead, and for what its first open call stands.
+-- are, how many of them were copied with it and how many are open, whether it is dead, and for what its first open call
+-- stands.
 pub record Listed : Type 0 where
   pub number : ℕ
   pub place : ℕ
   pub of : ℕ
   pub params : Params
   pub calls : ℕ
+  pub copied : ℕ
   pub open_calls : ℕ
   pub dead : Bool
   pub waiting_for : Option Suspension
 
--- the bytes of modules in the order in which they were loaded, the next number, how many tickets are out, and the
--- instances by number
+-- the modules by number, the next number of an instance, how many tickets are out, and the instances by number
 pub record RollState : Type 0 where
-  pub modules : List (List ℕ)
+  pub modules : List ListedModule
   pub next : ℕ
   pub tickets_out : ℕ
   pub instances : List Listed
@@ -44,6 +49,7 @@ listed_as number t = record {
   of = t.of;
   params = t.params;
   calls = length (journal t);
+  copied = t.copied;
   open_calls = length t.open_calls;
   dead = t.dead;
   waiting_for = t.waiting_for;
@@ -55,9 +61,15 @@ all_listed number [] = []
 all_listed number (None ∷ ts) = all_listed (number + 1) ts
 all_listed number (Some t ∷ ts) = listed_as number t ∷ all_listed (number + 1) ts
 
+-- each that is there, by number, the first of the list having this one
+abbrev pub all_modules : (number : ℕ) → List (Option Loaded) → List ListedModule
+all_modules number [] = []
+all_modules number (None ∷ ls) = all_modules (number + 1) ls
+all_modules number (Some l ∷ ls) = record { number = number; bytes = l.bytes } ∷ all_modules (number + 1) ls
+
 abbrev pub roll_of : World → RollState
 roll_of w = record {
-  modules = map (λ (l : Loaded). l.bytes) w.modules;
+  modules = all_modules 0 w.modules;
   next = length w.tenants;
   tickets_out = tickets w.space;
   instances = all_listed 0 w.tenants;
@@ -73,8 +85,8 @@ IsRollOf h roll = (w : World) → IsHost h w → roll ≡ roll_of w
 
 -- ---- what the code has of it
 
-abbrev pub bytes_in : List (Arc (Vec ℕ) Global) → List (List ℕ)
-bytes_in all = map (λ (bytes : Arc (Vec ℕ) Global). bytes.value.items) all
+abbrev pub view_module : EnrolledModule → ListedModule
+view_module e = record { number = e.id.number; bytes = e.bytes.value.items }
 
 abbrev pub view_listed : Enrolled → Listed
 view_listed e = record {
@@ -83,6 +95,7 @@ view_listed e = record {
   of = e.of.number;
   params = view_params e.params;
   calls = e.calls;
+  copied = e.copied;
   open_calls = e.open_calls;
   dead = e.dead;
   waiting_for = suspension_of e.waiting_for;
@@ -90,8 +103,13 @@ view_listed e = record {
 
 -- ---- within the crate
 
-abbrev pub spelled_by : LoadedModule → List ℕ
-spelled_by x = x.bytes.value.items
+abbrev pub module_by : ℕ → LoadedModule → ListedModule
+module_by number x = record { number = number; bytes = x.bytes.value.items }
+
+-- the modules that the code has, the first of the list under this number
+abbrev pub modules_from : (number : ℕ) → List LoadedModule → List ListedModule
+modules_from number [] = []
+modules_from number (x ∷ xs) = module_by number x ∷ modules_from (number + 1) xs
 
 -- what the code has of who has a seat
 abbrev pub listed_by : InstanceRef → InstanceEntry → Listed
@@ -101,6 +119,7 @@ listed_by instance_ref x = record {
   of = x.of;
   params = given_with x.given x.tenant.store.inputs.items;
   calls = length x.tenant.journal.ended + length x.tenant.journal.open_calls;
+  copied = x.copied;
   open_calls = length x.tenant.journal.open_calls;
   dead = x.tenant.dead;
   waiting_for = suspension_of x.tenant.waiting_for;

@@ -1,7 +1,7 @@
 -- What a host shows of one of its instances.
 use Rattle.std.specs.Prelude.{◌≡◌, ◌++◌, ℕ, List, Some, slice_get, Result, Ok, Err}
 use Rattle.wh_host_model.specs.declared.plain.InstId.{InstId}
-use Rattle.wh_host_model.specs.Host.Worlds.{Tenant, Loaded, World, journal}
+use Rattle.wh_host_model.specs.Host.Worlds.{Tenant, Loaded, World, journal, loaded_of}
 use Rattle.wh_host_model.specs.Owners.{Params}
 use Rattle.wh_host_model.specs.Host.Happens.{IsLive, NoInstance as NobodyThere}
 use Rattle.wh_instance.specs.Tenancy.{RepresentsEach, suspension_of}
@@ -30,21 +30,23 @@ shown_of x bytes = record {
   bytes = bytes;
   params = given_with x.given x.tenant.store.inputs.items;
   calls = x.tenant.journal.ended ++ x.tenant.journal.open_calls;
+  copied = x.copied;
   waiting_for = x.tenant.waiting_for;
 }
 
--- a transcript shows this instance of a module with these bytes: what it was given, its whole journal, and for what its
--- present call stands
+-- a transcript shows this instance of a module with these bytes: what it was given, its whole journal, how many calls of
+-- it were copied, and for what its present call stands
 pub record Shows (s : TranscriptState) (bytes : List ℕ) (t : Tenant) : Type 0 where
   pub bytes_are : s.bytes ≡ bytes
   pub params : s.params ≡ t.params
   pub calls : RepresentsEach s.calls (journal t)
+  pub copied : s.copied ≡ t.copied
   pub waiting_for : t.waiting_for ≡ suspension_of s.waiting_for
 
 -- it shows the instance, or there is none; or memory ran out
 abbrev pub IsTranscript : World → InstId → Result TranscriptState HostError → Type 0
 IsTranscript w id (Ok s) =
-    (t : Tenant) × (loaded : Loaded) × IsLive w id t × (slice_get w.modules t.of ≡ Some loaded)
+    (t : Tenant) × (loaded : Loaded) × IsLive w id t × (loaded_of w t.of ≡ Some loaded)
     × Shows s loaded.bytes t
 IsTranscript w id (Err NoInstance) = NobodyThere w id
 IsTranscript w id (Err Memory) = Unit {0}

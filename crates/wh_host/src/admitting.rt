@@ -54,6 +54,7 @@ fn new_entry_for(
             salt,
         },
         page_limit,
+        copied: 0,
         tenant,
     })
 }

@@ -50,6 +50,8 @@ pub struct InstanceEntry {
     pub given: StoredParams,
     /// To how many pages of 65536 bytes its memory may grow at most.
     pub page_limit: u32,
+    /// How many of its calls were copied with it.
+    pub copied: usize,
     pub tenant: HostInstance,
 }
 

@@ -1,7 +1,7 @@
 //! What is there in a host.
 
 ghost use Rattle.std.specs.Prelude.{◌≡◌, ◌<◌, Some, IfErr, IfOk, length, map, slice_get};
-ghost use Rattle.wh_host.specs.Rolls.{IsRollOf, bytes_in, listed_by, listed_refs, spelled_by, view_listed};
+ghost use Rattle.wh_host.specs.Rolls.{IsRollOf, listed_by, listed_refs, modules_from, view_listed, view_module};
 
 use crate::error::HostError;
 use crate::host::Host;
@@ -16,6 +16,15 @@ use wh_admit::Params;
 use wh_host_model::InstId;
 use wh_instance::Suspension;
 
+/// What a roll says of a module.
+#[derive(Drop)]
+pub struct EnrolledModule {
+    /// Which it is.
+    pub id: ModuleId,
+    /// Its bytes, which the host has too.
+    pub bytes: Arc<Vec<u8>>,
+}
+
 /// What a roll says of an instance.
 #[derive(Drop)]
 pub struct Enrolled {
@@ -27,6 +36,8 @@ pub struct Enrolled {
     pub params: Params,
     /// How many calls there are, its start among them.
     pub calls: usize,
+    /// How many of these were copied with it.
+    pub copied: usize,
     /// How many of these are open.
     pub open_calls: usize,
     /// Whether its start has trapped or was cancelled.
@@ -35,13 +46,13 @@ pub struct Enrolled {
     pub waiting_for: Option<Suspension>,
 }
 
-/// What is there in a host: the bytes of its modules in the order in which they were loaded, the number of the next
-/// instance, how many tickets are out, and its instances by number.
+/// What is there in a host: its modules by number, the number of the next instance, how many tickets are out, and its
+/// instances by number.
 ///
 /// Its type keeps that events lead from an empty host to one of which it is the roll.
 #[derive(Drop)]
 pub struct Roll {
-    modules: Vec<Arc<Vec<u8>>>,
+    modules: Vec<EnrolledModule>,
     next: u64,
     tickets: u32,
     instances: Vec<Enrolled>,
@@ -49,19 +60,19 @@ pub struct Roll {
 
 impl Model for Roll {
     ghost use Rattle.std.specs.Prelude.{map as each};
-    ghost use Rattle.wh_host.specs.Rolls.{IsRollOfSome, RollState, bytes_in as all_bytes, view_listed as listed};
+    ghost use Rattle.wh_host.specs.Rolls.{IsRollOfSome, RollState, view_listed as listed, view_module as listed_module};
 
     ghost Value = { RollState };
 
     ghost view = { λ r. record {
-      modules = all_bytes r.modules.items;
+      modules = each listed_module r.modules.items;
       next = r.next;
       tickets_out = r.tickets;
       instances = each listed r.instances.items;
     } };
 
     ghost invariant = { λ r. IsRollOfSome (record {
-      modules = all_bytes r.modules.items;
+      modules = each listed_module r.modules.items;
       next = r.next;
       tickets_out = r.tickets;
       instances = each listed r.instances.items;
@@ -69,9 +80,9 @@ impl Model for Roll {
 }
 
 impl Roll {
-    /// Returns the bytes of the modules, in the order of their loading.
-    pub fn modules(&self) -> &[Arc<Vec<u8>>]
-        ensures { bytes_in result.now ≡ self.now.modules }
+    /// Returns the modules by number. Numbers of those that are gone are left out.
+    pub fn modules(&self) -> &[EnrolledModule]
+        ensures { map view_module result.now ≡ self.now.modules }
     {
         &self.modules
     }
@@ -98,13 +109,20 @@ impl Roll {
     }
 }
 
-// The bytes of these modules.
-fn bytes_of(alloc: Global, modules: &[LoadedModule]) -> Result<Vec<Arc<Vec<u8>>>, AllocError>
-    ensures { IfOk result (λ list. bytes_in list.items ≡ map spelled_by modules.now) }
+// What the roll says of these modules.
+fn all_loaded(
+    alloc: Global,
+    modules: &[LoadedModule],
+) -> Result<Vec<EnrolledModule>, AllocError>
+    ensures { IfOk result (λ list. map view_module list.items ≡ modules_from 0 modules.now) }
 {
     let mut list = Vec::with_capacity(alloc, modules.len())?;
-    for module in modules {
-        list.push(Arc::try_clone(&module.bytes)?)?;
+    for number in 0..modules.len() {
+        let bytes = Arc::try_clone(&modules[number].bytes)?;
+        list.push(EnrolledModule {
+            id: ModuleId { number },
+            bytes,
+        })?;
     }
     Ok(list)
 }
@@ -128,6 +146,7 @@ fn enrolled_by(
         of: ModuleId { number: entry.of },
         params,
         calls: journal.len(),
+        copied: entry.copied,
         open_calls: journal.open_len(),
         dead: tenant.is_dead(),
         waiting_for: tenant.waiting_for(),
@@ -159,7 +178,7 @@ impl Host {
         ensures { IfOk result (λ roll. IsRollOf self.now roll) }
     {
         let instance_refs = self.instance_refs(alloc)?;
-        let modules = bytes_of(alloc, &self.modules)?;
+        let modules = all_loaded(alloc, &self.modules)?;
         let instances = all_enrolled(alloc, &self.entries, &instance_refs)?;
         Ok(Roll {
             modules,

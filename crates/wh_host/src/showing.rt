@@ -43,12 +43,18 @@ fn transcript_of(
     let params = params_of(alloc, entry.given, tenant.inputs())?;
     let calls = tenant.journal().copies(alloc)?;
     let bytes = Arc::try_clone(bytes)?;
-    Ok(Transcript::new(bytes, params, calls, tenant.waiting_for()))
+    Ok(Transcript::new(
+        bytes,
+        params,
+        calls,
+        entry.copied,
+        tenant.waiting_for(),
+    ))
 }
 
 impl Host {
-    /// Returns an instance's transcript: the bytes of its module, what its owner gave it, its calls, and what the first open
-    /// one waits for. Its calls replay where events alone have led to this host: no swap device gave other bytes than were
+    /// Returns an instance's transcript: the bytes of its module, what its owner gave it, its calls, how many of them were
+    /// copied with it, and what the first open one waits for. Its calls replay where events alone have led to this host: no swap device gave other bytes than were
     /// written to it.
     ///
     /// # Errors

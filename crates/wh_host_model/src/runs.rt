@@ -5,7 +5,7 @@ ghost use Rattle.wh_host_model.specs.Host.Stuck.{NoCallIsStuck};
 ghost use Rattle.wh_host_model.specs.Host.TakenSteps.{ReadyStepsAreTaken};
 ghost use Rattle.wh_host_model.specs.Host.Apart.{NoBytesReachAnother};
 ghost use Rattle.wh_host_model.specs.Host.Progress.{EventsHappen, LoadsAreTaken, AdmissionsAreTaken, CallsAreTaken, ForksAreTaken, UnloadsAreTaken, IdleTurnsHappen, FuelTurnsHappen, ReadyTurnsHappen};
-ghost use Rattle.wh_host_model.specs.Host.Misreading.{MemoryStaysSound, PlacesStayRight, ModulesStayAccepted, JournalsStayInOrder, InputsStay, FramesAreAwaited};
+ghost use Rattle.wh_host_model.specs.Host.Misreading.{MemoryStaysSound, PlacesStayRight, ModulesStayAccepted, JournalsStayInOrder, CopiedStayEnded, InputsStay, FramesAreAwaited};
 
 /// What holds of a host after every list of events from an empty one, and of what a turn answers. The function does
 /// nothing; what it ensures are the laws.
@@ -43,6 +43,7 @@ pub fn every_misread_run()
     ensures places_stay_right { PlacesStayRight }
     ensures modules_stay_accepted { ModulesStayAccepted }
     ensures journals_stay_in_order { JournalsStayInOrder }
+    ensures copied_stay_ended { CopiedStayEnded }
     ensures inputs_stay { InputsStay }
     ensures frames_are_awaited { FramesAreAwaited }
 {}

@@ -1,26 +1,27 @@
 -- Commands, and what a script knows of its host behind them.
-use Rattle.std.proofs.Common.{◌≡◌, ℕ, true, List, [], ◌∷◌, ◌++◌, length, refl, sym, subst, arith}
+use Rattle.std.proofs.Common.{◌≡◌, ℕ, suc, true, List, [], ◌∷◌, ◌++◌, length, Option, Some, None, refl, sym, ap, subst, arith}
+use Rattle.std.specs.List.{AllZip}
 use Rattle.wh_host_model.specs.Host.Worlds.{Loaded, World}
-use Rattle.wh_host_model.specs.Host.Admission.{LoadFault, broken, invalid, unlinked, modules_full, LoadOutOfMemory, decoder_out_of_memory, validator_out_of_memory, linker_out_of_memory, host_out_of_memory, RefusesLoad, MayRunOut, LoadsModule}
+use Rattle.wh_host_model.specs.Host.Admission.{LoadFault, broken, invalid, unlinked, modules_full, LoadOutOfMemory, decoder_out_of_memory, validator_out_of_memory, linker_out_of_memory, host_out_of_memory, RefusesLoad, MayRunOut, LoadsModule, module_count}
 use Rattle.wh_host_model.specs.Host.Happens.{is_loaded, isnt_loaded, no_memory_to_load}
 use Rattle.wh_script_model.specs.Settings.{Settings}
 use Rattle.wh_script_model.specs.Texts.{Refusal, module_ok, module_refused}
 use Rattle.wh_script_model.specs.ScriptState.{NamedModule, ScriptState}
 use Rattle.wh_script_model.specs.Receiving as receiving
 use Rattle.wh_script_model.specs.Receiving.{ReceivesModule}
-use Rattle.wh_script_laws.specs.Following.{AreSame, IsFollowed, Knows, StandsSame}
+use Rattle.wh_script_laws.specs.Following.{AreSame, IsFollowed, IsModuleKept, Knows, StandsSame}
 use Rattle.wh_script_laws.specs.Replies.{SaysWhy, SaysOutOfMemory}
 use Rattle.wh_script_laws.specs.Laws.{ModulesFollow}
-use Rattle.wh_script_laws.proofs.CommandsKnown.{zip_long, zip_map, zip_last, last_there, followed_there}
+use Rattle.wh_script_laws.proofs.CommandsKnown.{zip_map, zip_last, last_holds, followed_there}
 
 -- ---- modules
 
 -- the module of this name comes to both
 module_came : {settings : Settings} {w : World} {m : ScriptState} {places : List ℕ} (named : NamedModule) (loaded : Loaded)
     → named.m ≡ loaded.m → Knows settings w m places
-    → Knows settings (record w { modules = w.modules ++ loaded ∷ [] }) (record m { modules = m.modules ++ named ∷ [] }) places
+    → Knows settings (record w { modules = w.modules ++ Some loaded ∷ [] }) (record m { modules = m.modules ++ named ∷ [] }) places
 module_came {w = w} {m = m} named loaded same known =
-    let w2 : World = record w { modules = w.modules ++ loaded ∷ [] } in
+    let w2 : World = record w { modules = w.modules ++ Some loaded ∷ [] } in
     record {
       frames = known.frames;
       slots = known.slots;
@@ -29,15 +30,22 @@ module_came {w = w} {m = m} named loaded same known =
       none_out = known.none_out;
       minima = known.minima;
       spreads = known.spreads;
-      modules = zip_last (λ (n : NamedModule) (l : Loaded). n.m ≡ l.m) m.modules w.modules named loaded known.modules same;
+      modules = zip_last IsModuleKept m.modules w.modules named (Some loaded) known.modules same;
       instances = zip_map (IsFollowed AreSame StandsSame w) (IsFollowed AreSame StandsSame w2) m.instances w.tenants
-          (λ g o. followed_there w w2 g o (λ k l. last_there w.modules loaded k l)) known.instances;
+          (λ g o. followed_there w w2 g o (λ k l. last_holds w.modules (Some loaded) k l)) known.instances;
       placed = known.placed;
     }
 
+all_there : (names : List NamedModule) (ls : List (Option Loaded)) → AllZip IsModuleKept names ls → length names ≡ module_count ls
+all_there [] [] h = refl
+all_there [] (o ∷ ls) h = absurd h
+all_there (n ∷ names) [] h = absurd h
+all_there (n ∷ names) (None ∷ ls) h = absurd h.0
+all_there (n ∷ names) (Some l ∷ ls) h = ap suc (all_there names ls h.1)
+
 as_many : {settings : Settings} {w : World} {m : ScriptState} {places : List ℕ} → Knows settings w m places
-    → length m.modules ≡ length w.modules
-as_many {w = w} {m = m} known = zip_long (λ (n : NamedModule) (l : Loaded). n.m ≡ l.m) m.modules w.modules known.modules
+    → length m.modules ≡ module_count w.modules
+as_many {w = w} {m = m} known = all_there m.modules w.modules known.modules
 
 turned_down : {settings : Settings} {w : World} {m : ScriptState} {places : List ℕ} (name bytes : List ℕ) (fault : LoadFault)
     (why : Refusal) → Knows settings w m places → RefusesLoad w bytes fault → SaysWhy fault why

@@ -3,7 +3,7 @@ use Rattle.std.proofs.Common.{inr, ◌≡◌, ℕ, ℤ, true, List, [], ◌∷�
 use Rattle.std.proofs.lemmas.Option.{same_Some}
 use Rattle.wh_model.specs.Format.Syntax.{FuncType, Body, Module}
 use Rattle.wh_host_model.specs.Space.Parts.{Space}
-use Rattle.wh_host_model.specs.Host.Worlds.{Tenant, Loaded, World, journal, journal_calls, tenant, with_tenant}
+use Rattle.wh_host_model.specs.Host.Worlds.{Tenant, Loaded, World, journal, journal_calls, tenant, with_tenant, loaded_of}
 use Rattle.wh_host_model.specs.Owners.{Entry, new_entry}
 use Rattle.wh_host_model.specs.Host.OwnerCalls.{Meets, IsFirst, TakesCall, open_count}
 use Rattle.wh_host_model.specs.Owners.{ExportsOwn, InvokeFault, no_export, arguments, queue_full, instance_dead, journal_full, rank}
@@ -34,7 +34,7 @@ record IsAlike (m : Module) (t : Tenant) (g : NamedInstance) : Type 0 where
   long : length g.calls ≡ length (journal t)
 
 alike : (w : World) (t : Tenant) (g : NamedInstance) (l : Loaded) → HasJournal w t → IsTenantOf w t g
-    → g.calls ≡ journal_calls (journal t) → slice_get w.modules t.of ≡ Some l → IsAlike l.m t g
+    → g.calls ≡ journal_calls (journal t) → loaded_of w t.of ≡ Some l → IsAlike l.m t g
 alike w t g l j of_one same is_loaded =
     let order = ordered w t j in
     let loaded : of_one.loaded ≡ l = same_Some of_one.loaded l (sym of_one.is_loaded ∙ is_loaded) in
@@ -168,7 +168,7 @@ call_received {w = w} i place g name given fuel answer known has lies orders (fo
 call_received {w = w} i place g name given fuel answer known has lies orders (found_live t at here of_one same stands)
     (happen.is_invoked {t = u} {t2 = t2} {l = l} {at = n} live loaded takes) whole =
     let one = live_same w i place t u here live in
-    let loaded2 = ap (λ (x : Tenant). slice_get w.modules x.of) one ∙ loaded in
+    let loaded2 = ap (λ (x : Tenant). loaded_of w x.of) one ∙ loaded in
     called_so i place g t t2 l name given fuel n known has lies of_one here.1 same stands
     (alike w t g l (orders t here.0) of_one same loaded2)
     (subst (λ x. TakesCall l.m w.space x name given fuel n t2) (sym one) takes) whole
@@ -177,7 +177,7 @@ call_received {w = w} i place g name given fuel answer known has lies orders (fo
 call_received {w = w} {m = m} i place g name given fuel answer known has lies orders (found_live t at here of_one same stands)
     (happen.isnt_invoked {t = u} {l = l} {fault = fault} live loaded first) whole =
     let one = live_same w i place t u here live in
-    let loaded2 = ap (λ (x : Tenant). slice_get w.modules x.of) one ∙ loaded in
+    let loaded2 = ap (λ (x : Tenant). loaded_of w x.of) one ∙ loaded in
     let both = alike w t g l (orders t here.0) of_one same loaded2 in (
       with_invoked m (call_rejected (rank fault)),
       receiving.isnt_invoked fault of_one.is_live
@@ -188,7 +188,7 @@ call_received {w = w} {m = m} i place g name given fuel answer known has lies or
 call_received {w = w} {m = m} i place g name given fuel answer known has lies orders (found_live t at here of_one same stands)
     (happen.no_memory_to_invoke {t = u} {l = l} live loaded none) whole =
     let one = live_same w i place t u here live in
-    let loaded2 = ap (λ (x : Tenant). slice_get w.modules x.of) one ∙ loaded in
+    let loaded2 = ap (λ (x : Tenant). loaded_of w x.of) one ∙ loaded in
     let both = alike w t g l (orders t here.0) of_one same loaded2 in (
       with_invoked m (call_rejected 7),
       receiving.call_out_of_memory refl of_one.is_live

@@ -8,7 +8,7 @@ use Rattle.wh_model.specs.Execution.Instance.{Piece, IsInitial, memory_min, segm
 use Rattle.wh_model.specs.Execution.Replay.{pending}
 use Rattle.wh_host_model.specs.declared.Tax.{Tax}
 use Rattle.wh_host_model.specs.Space.Sound.{IsSound}
-use Rattle.wh_host_model.specs.Host.Worlds.{Doing, Tenant, Loaded, World, promised, journal_calls}
+use Rattle.wh_host_model.specs.Host.Worlds.{Doing, Tenant, Loaded, World, promised, journal_calls, loaded_of}
 use Rattle.wh_host_model.specs.Owners.{Entry, start_entry}
 use Rattle.wh_host_model.specs.Owners.{Params, given_of, AdmitFault, no_module, shares, min_max, frames, swap, instances, memory, segments}
 use Rattle.wh_host_model.specs.Host.Admission.{live_count, MeetsFault, IsFirstMet, StartsAs, writes, runs, ends, rest_of, LetsIn}
@@ -20,8 +20,8 @@ use Rattle.wh_script_model.specs.ScriptState.{NamedModule, NamedInstance, Script
 use Rattle.wh_script_model.specs.Receiving as receiving
 use Rattle.wh_script_model.specs.Receiving.{MeetsLimit, IsFirstLimit, first_outcome, new_instance, ReceivesInstance}
 use Rattle.wh_host_model.proofs.Host.Holding.{memory_is_sound}
-use Rattle.wh_host_model.proofs.Space.Putting.{there_of}
-use Rattle.wh_script_laws.specs.Following.{AreSame, IsFollowed, is_there, is_gone, IsPlaced, Knows, StaysWhole, StandsSame}
+use Rattle.wh_host_model.proofs.Space.Putting.{get_or_is}
+use Rattle.wh_script_laws.specs.Following.{AreSame, IsFollowed, is_there, is_gone, IsModuleKept, IsPlaced, Knows, StaysWhole, StandsSame}
 use Rattle.wh_script_laws.specs.Laws.{InstancesFollow}
 use Rattle.wh_script_laws.proofs.Fuel.{starts_may}
 use Rattle.wh_script_laws.proofs.SumsChange.{minima_more, spreads_more, claim_free}
@@ -50,20 +50,24 @@ live_many w (g ∷ gs) (Some t ∷ ts) h =
 -- the module of the host under this number
 record IsModuleOf (w : World) (k : ℕ) (named : NamedModule) : Type 0 where
   loaded : Loaded
-  at : slice_get w.modules k ≡ Some loaded
+  at : loaded_of w k ≡ Some loaded
   same : named.m ≡ loaded.m
 
 module_of : {settings : Settings} {w : World} {m : ScriptState} {places : List ℕ} (k : ℕ) (named : NamedModule)
     → Knows settings w m places → slice_get m.modules k ≡ Some named → IsModuleOf w k named
 module_of {w = w} {m = m} k named known has =
-    let f = zip_there (λ (n : NamedModule) (l : Loaded). n.m ≡ l.m) m.modules w.modules k named known.modules has in
-    record { loaded = f.0; at = f.1; same = f.2 }
+    let f = zip_there IsModuleKept m.modules w.modules k named known.modules has in
+    of_kept f.0 f.1 f.2
+  where
+    of_kept : (o : Option Loaded) → slice_get w.modules k ≡ Some o → IsModuleKept named o → IsModuleOf w k named
+    of_kept None at kept = absurd kept
+    of_kept (Some l) at kept = record { loaded = l; at = get_or_is w.modules k (Some l) None at; same = kept }
 
 limit_of_met : {settings : Settings} {w : World} {m : ScriptState} {places : List ℕ} (k : ℕ) (named : NamedModule) (p : Params)
     (fault : AdmitFault) → Knows settings w m places → IsModuleOf w k named → MeetsFault w k p fault
     → MeetsLimit settings m named.m p fault
-limit_of_met {w = w} k named p no_module known of met =
-    let there = there_of w.modules k of.loaded of.at in absurd (omega (arith, there, met))
+limit_of_met k named p no_module known of met =
+    let both : None ≡ Some of.loaded = sym met ∙ of.at in absurd (cc both)
 limit_of_met k named p shares known of met = met
 limit_of_met k named p min_max known of met = met
 limit_of_met k named p frames known of met =
@@ -140,7 +144,7 @@ comer {k = k} {p = p} {place = place} lets = record {
 }
 
 comer_followed : {w w2 : World} (w3 : World) (k : ℕ) (named : NamedModule) (name : List ℕ) (p : Params) (place number : ℕ)
-    (lets : LetsIn w k p place number w2) → IsModuleOf w k named → ((x : ℕ) (l : Loaded) → slice_get w.modules x ≡ Some l → slice_get w3.modules x ≡ Some l)
+    (lets : LetsIn w k p place number w2) → IsModuleOf w k named → ((x : ℕ) (l : Loaded) → loaded_of w x ≡ Some l → loaded_of w3 x ≡ Some l)
     → IsFollowed AreSame StandsSame w3 (new_instance name named.m p lets.inst lets.pieces) (Some (comer lets))
 comer_followed w3 k named name p place number lets of more =
     let one : of.loaded ≡ lets.loaded = same_Some of.loaded lets.loaded (sym of.at ∙ lets.is_loaded) in

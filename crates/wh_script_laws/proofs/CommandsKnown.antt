@@ -1,5 +1,5 @@
 -- What a script knows of its host, where one instance of it changes.
-use Rattle.std.proofs.Common.{◌≡◌, ℕ, ◌+◌, ◌-◌, Bool, true, false, if◌then◌else◌, List, [], ◌∷◌, ◌++◌, length, slice_get, slice_set, Option, Some, None, zero, suc, refl, sym, ap, subst, ◌∙◌, arith}
+use Rattle.std.proofs.Common.{◌≡◌, ℕ, ◌+◌, ◌-◌, Bool, true, false, if◌then◌else◌, List, [], ◌∷◌, ◌++◌, length, get_or, slice_get, slice_set, Option, Some, None, zero, suc, refl, sym, ap, subst, ◌∙◌, arith}
 use Rattle.std.specs.List.{AllZip}
 use Rattle.std.proofs.lemmas.Option.{none-some, same_Some}
 use Rattle.wh_model.specs.Execution.Replay.{Outcome, returned, stopped, cancelled, dead, pending, Call}
@@ -7,7 +7,7 @@ use Rattle.wh_host_model.specs.declared.Tax.{Tax}
 use Rattle.wh_host_model.specs.Space.Parts.{Space, minima, spreads}
 use Rattle.wh_host_model.specs.Space.Sound.{IsSound}
 use Rattle.wh_script_laws.proofs.SumsChange.{IsQuiet}
-use Rattle.wh_host_model.specs.Host.Worlds.{Tenant, Loaded, World, journal, journal_calls, with_tenant}
+use Rattle.wh_host_model.specs.Host.Worlds.{Tenant, Loaded, World, journal, journal_calls, with_tenant, loaded_of}
 use Rattle.wh_host_model.specs.Owners.{Params, is_open}
 use Rattle.wh_host_model.specs.Host.Happens.{IsLive}
 use Rattle.wh_script_model.specs.Settings.{Settings}
@@ -63,6 +63,12 @@ zip_over R [] (b ∷ ys) i x y h e r = absurd h
 zip_over R (a ∷ xs) [] i x y h e r = absurd h
 zip_over R (a ∷ xs) (b ∷ ys) zero x y h e r = (subst (λ z. R z y) (let same : x ≡ a = cc e in same) r, h.1)
 zip_over R (a ∷ xs) (b ∷ ys) (suc i) x y h e r = (h.0, zip_over R xs ys i x y h.1 e r)
+
+pub last_holds : {A : Type 0} (xs : List (Option A)) (y : Option A) (i : ℕ) (x : A) → get_or xs i None ≡ Some x
+    → get_or (xs ++ y ∷ []) i None ≡ Some x
+last_holds [] y i x e = absurd (cc e)
+last_holds (o ∷ xs) y zero x e = e
+last_holds (o ∷ xs) y (suc i) x e = last_holds xs y i x e
 
 pub last_there : {A : Type 0} (xs : List A) (y : A) (i : ℕ) (x : A) → slice_get xs i ≡ Some x
     → slice_get (xs ++ y ∷ []) i ≡ Some x
@@ -135,7 +141,7 @@ all_come cs ds e = subst (λ x. AllZip ComesTo cs x) e (go cs) where
 
 -- all modules of the first host are those of the second
 abbrev pub HasModulesOf : World → World → Type 0
-HasModulesOf w w2 = (k : ℕ) (l : Loaded) → slice_get w.modules k ≡ Some l → slice_get w2.modules k ≡ Some l
+HasModulesOf w w2 = (k : ℕ) (l : Loaded) → loaded_of w k ≡ Some l → loaded_of w2 k ≡ Some l
 
 tenant_there : (w w2 : World) (t : Tenant) (g : NamedInstance) → HasModulesOf w w2 → IsTenantOf w t g → IsTenantOf w2 t g
 tenant_there w w2 t g more of_one = record {
@@ -200,7 +206,7 @@ pub tenant_calls : (w : World) (t t2 : Tenant) (g : NamedInstance) (calls : List
     → IsTenantOf w t2 (record g { calls = calls; at_fault = stands })
 tenant_calls w t t2 g calls stands of_one of params inst same = record {
   loaded = of_one.loaded;
-  is_loaded = ap (slice_get w.modules) of ∙ of_one.is_loaded;
+  is_loaded = ap (loaded_of w) of ∙ of_one.is_loaded;
   of_one = of_one.of_one;
   params = of_one.params ∙ sym params;
   inst = of_one.inst ∙ sym inst;

@@ -11,7 +11,7 @@ use Rattle.wh_host_model.specs.declared.plain.InstId.{InstId}
 use Rattle.wh_host_model.specs.declared.plain.TurnEnd.{TurnEnd}
 use Rattle.wh_host_model.specs.Space.Parts.{Space, claim}
 use Rattle.wh_host_model.specs.Space.Sound.{IsSound}
-use Rattle.wh_host_model.specs.Host.Worlds.{Rest, Doing, Suspension, for_frame, for_device, Tenant, Loaded, World, journal, journal_calls, with_tenant}
+use Rattle.wh_host_model.specs.Host.Worlds.{Rest, Doing, Suspension, for_frame, for_device, Tenant, World, journal, journal_calls, with_tenant}
 use Rattle.wh_host_model.specs.Owners.{Entry, is_open}
 use Rattle.wh_host_model.specs.Host.Turns.{to_end, Proceeds, returns, traps, writes_all}
 use Rattle.wh_host_model.specs.Host.CallAnswers.{ended_by, gone_further, Closes, faces_next, is_dead, at_frame, Turn, is_idle, has_ended, has_no_fuel, has_no_frame, can_go_on, keeps_its_fault}
@@ -20,13 +20,13 @@ use Rattle.wh_host_model.specs.Host.Happens.{IsLive, IsTurn, of_none, of_one}
 use Rattle.wh_host_model.specs.Host.Laws.{AfterEvents}
 use Rattle.wh_host_model.specs.Host.Suspensions.{CanGoOn}
 use Rattle.wh_host_model.specs.declared.plain.SwapError.{SwapError}
-use Rattle.wh_script_model.specs.ScriptState.{NamedModule, NamedInstance, ScriptState}
+use Rattle.wh_script_model.specs.ScriptState.{NamedInstance, ScriptState}
 use Rattle.wh_script_model.specs.Drains.{ComesTo, had_ended, goes_on}
 use Rattle.wh_script_model.specs.Served.{IsTenantOf}
 use Rattle.wh_host_model.proofs.Host.Holding.{memory_is_sound, journals_are_in_order}
 use Rattle.wh_host_model.proofs.Host.Opening.{Apart, apart_then, apart_steps, proceeds_apart}
 use Rattle.wh_script_model.specs.Failing.{LosesNothing}
-use Rattle.wh_script_laws.specs.Following.{ComesFurther, ComeFurther, is_there, IsPlaced, IsRunAmid, AreRunAmid, StandsAmid, device_fault}
+use Rattle.wh_script_laws.specs.Following.{ComesFurther, ComeFurther, is_there, IsModuleKept, IsPlaced, IsRunAmid, AreRunAmid, StandsAmid, device_fault}
 use Rattle.wh_script_laws.specs.Laws.{TurnsFollow}
 use Rattle.wh_script_laws.proofs.Mixing.{zip_amid_set}
 use Rattle.wh_script_laws.proofs.Sums.{claims_decide}
@@ -247,7 +247,7 @@ turned_followed w w2 s s2 t t2 same going leaves faults g (is_there same_one fur
 
 -- each instance of a script is that of the host, and lies at its place
 pub record AreFollowed (faults : List ℕ) (w : World) (m : ScriptState) (places : List ℕ) : Type 0 where
-  pub modules : AllZip (λ (named : NamedModule) (loaded : Loaded). named.m ≡ loaded.m) m.modules w.modules
+  pub modules : AllZip IsModuleKept m.modules w.modules
   pub instances : AreRunAmid faults w m.instances w.tenants
   pub placed : AllZip IsPlaced places w.tenants
 

@@ -68,6 +68,11 @@ abbrev pub IsPlaced : ℕ → Option Tenant → Type 0
 IsPlaced place None = Unit {0}
 IsPlaced place (Some t) = t.place ≡ place
 
+-- the module of a number is there, and is that of the script
+abbrev pub IsModuleKept : NamedModule → Option Loaded → Type 0
+IsModuleKept named None = ⊥
+IsModuleKept named (Some loaded) = named.m ≡ loaded.m
+
 -- The host has the modules of the script and its instances, each by its number, at these places; it has as many frames
 -- and slots as the settings say, and their tax on idle pages, and promised what the instances were given; and no page is
 -- on its way.
@@ -80,7 +85,7 @@ pub record FollowsScript (follows : World → List NamedInstance → List (Optio
   pub none_out : tickets w.space ≡ 0
   pub minima : minima w.space ≡ live_sum (λ p. p.min) m.instances
   pub spreads : spreads w.space ≡ live_sum (λ p. (p.max - p.min) + 1) m.instances
-  pub modules : AllZip (λ (named : NamedModule) (loaded : Loaded). named.m ≡ loaded.m) m.modules w.modules
+  pub modules : AllZip IsModuleKept m.modules w.modules
   pub instances : follows w m.instances w.tenants
   pub placed : AllZip IsPlaced places w.tenants
 

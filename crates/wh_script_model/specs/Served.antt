@@ -1,7 +1,7 @@
 -- What a host has of an instance, and what a script knows of it: where no call can go on, each has been run alone.
-use Rattle.std.specs.Prelude.{◌≡◌, ℕ, ◌⊎◌, false, [], slice_get, Some}
+use Rattle.std.specs.Prelude.{◌≡◌, ℕ, ◌⊎◌, false, [], Some}
 use Rattle.std.specs.List.{AllZip}
-use Rattle.wh_host_model.specs.Host.Worlds.{for_fuel, Tenant, Loaded, World, journal, journal_calls, tenant}
+use Rattle.wh_host_model.specs.Host.Worlds.{for_fuel, Tenant, Loaded, World, journal, journal_calls, loaded_of, tenant}
 use Rattle.wh_host_model.specs.Host.Laws.{AfterEvents}
 use Rattle.wh_script_model.specs.ScriptState.{NamedInstance}
 use Rattle.wh_script_model.specs.Drains.{ComesTo, RunsAlone}
@@ -10,7 +10,7 @@ use Rattle.wh_script_model.specs.Drains.{ComesTo, RunsAlone}
 -- have come so far
 pub record IsTenantOf (w : World) (t : Tenant) (g : NamedInstance) : Type 0 where
   pub loaded : Loaded
-  pub is_loaded : slice_get w.modules t.of ≡ Some loaded
+  pub is_loaded : loaded_of w t.of ≡ Some loaded
   pub of_one : g.m ≡ loaded.m
   pub params : g.params ≡ t.params
   pub inst : g.inst ≡ t.inst

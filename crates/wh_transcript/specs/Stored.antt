@@ -26,9 +26,9 @@ stored_params =
 
 abbrev pub stored_transcript : Coded TranscriptState
 stored_transcript =
-    code_by (List ℕ × (Params × (List JournalCallState × Option Suspension)))
+    code_by (List ℕ × (Params × (List JournalCallState × (ℕ × Option Suspension))))
     (coded× (coded_list coded_ℕ) (coded× stored_params
-    (coded× (coded_list stored_call) (coded_option suspension_type.the_row.coded))))
-    (λ t. (t.bytes, (t.params, (t.calls, t.waiting_for))))
-    (λ q. record { bytes = q.0; params = q.1.0; calls = q.1.1.0; waiting_for = q.1.1.1 })
+    (coded× (coded_list stored_call) (coded× coded_ℕ (coded_option suspension_type.the_row.coded)))))
+    (λ t. (t.bytes, (t.params, (t.calls, (t.copied, t.waiting_for)))))
+    (λ q. record { bytes = q.0; params = q.1.0; calls = q.1.1.0; copied = q.1.1.1.0; waiting_for = q.1.1.1.1 })
     (λ _. refl)

@@ -1,5 +1,5 @@
 -- What contracts see of a transcript, and what it shows of an instance.
-use Rattle.std.specs.Prelude.{ℕ, ◌++◌, Bool, List, Option}
+use Rattle.std.specs.Prelude.{ℕ, ◌++◌, ◌≤◌, Bool, List, Option, length}
 use Rattle.wh_model.specs.declared.memory.Need.{Need}
 use Rattle.wh_model.specs.Format.Syntax.{Module}
 use Rattle.wh_model.specs.Linking.Accepting.{IsAccepted}
@@ -15,16 +15,17 @@ use Rattle.wh_journal.specs.Calls.{JournalCallState}
 use Rattle.wh_instance.specs.declared.stages.Suspension.{Suspension}
 use Rattle.wh_instance.specs.Tenancy.{RepresentsEach, suspension_of}
 
--- The bytes of a module, what the owner of an instance of it gave, its calls in the order of their coming, and for what
--- the first open one stands.
+-- The bytes of a module, what the owner of an instance of it gave, its calls in the order of their coming, how many of the
+-- first ones were copied with it, and for what the first open one stands.
 pub record TranscriptState : Type 0 where
   pub bytes : List ℕ
   pub params : Params
   pub calls : List JournalCallState
+  pub copied : ℕ
   pub waiting_for : Option Suspension
 
 -- The bytes spell a module that is accepted. An instance of it, which is given that, has these calls: those that have
--- ended, and then the open ones. They lead to this store, at which the first open one is there, and what it stands for
+-- ended, all that were copied among them, and then the open ones. They lead to this store, at which the first open one is there, and what it stands for
 -- is right, where bytes of memory are wanted, if they are.
 pub record IsReplayable (t : TranscriptState) : Type 0 where
   pub m : Module
@@ -38,6 +39,7 @@ pub record IsReplayable (t : TranscriptState) : Type 0 where
   pub dead : Bool
   pub in_order : InOrder m inst dead ended open_calls
   pub represents : RepresentsEach t.calls (ended ++ open_calls)
+  pub copied : t.copied ≤ length ended
   pub seen : List ℕ
   pub rest : Rest
   pub doing : Doing

@@ -10,12 +10,14 @@ use wh_instance::Suspension;
 use wh_journal::JournalCall;
 
 /// An instance of a host as it was when it was asked for: the bytes of its module, what its owner gave it, its calls in
-/// the order of their coming, the first of which is its start, and for what the first open one stands.
+/// the order of their coming, the first of which is its start, how many of the first ones were copied with it, and for
+/// what the first open one stands.
 #[derive(Drop)]
 pub struct Transcript {
     bytes: Arc<Vec<u8>>,
     params: Params,
     calls: Vec<JournalCall>,
+    copied: usize,
     waiting_for: Option<Suspension>,
 }
 
@@ -33,6 +35,7 @@ impl Model for Transcript {
       bytes = t.bytes.value.items;
       params = params_of t.params;
       calls = t.calls.items;
+      copied = t.copied;
       waiting_for = t.waiting_for;
     } };
 }
@@ -43,12 +46,14 @@ impl Transcript {
         bytes: Arc<Vec<u8>>,
         params: Params,
         calls: Vec<JournalCall>,
+        copied: usize,
         waiting_for: Option<Suspension>,
     ) -> Transcript
         ensures { result ≡ record {
           bytes = bytes.value.items;
           params = view_params params;
           calls = calls.items;
+          copied = copied;
           waiting_for = waiting_for;
         } }
     {
@@ -56,6 +61,7 @@ impl Transcript {
             bytes,
             params,
             calls,
+            copied,
             waiting_for,
         }
     }
@@ -79,6 +85,13 @@ impl Transcript {
         ensures { result.now ≡ self.now.calls }
     {
         &self.calls
+    }
+
+    /// How many of the first calls were copied with it: they were asked of the instance that it is a copy of.
+    pub fn copied(&self) -> usize
+        ensures { result ≡ self.now.copied }
+    {
+        self.copied
     }
 
     /// For what its first open call stands, if no turn of it is taken.

@@ -1,18 +1,21 @@
 -- The calls that were copied with an instance have ended, and stay so.
-use Rattle.std.proofs.Common.{ℕ, ℤ, ◌≤◌, Option, List, [], ◌∷◌, ◌++◌, length, map, sym, subst, arith, length-append}
+use Rattle.std.proofs.Common.{ℕ, ℤ, ◌≤◌, Option, List, [], ◌∷◌, ◌++◌, length, map, sym, subst, ◌∙◌, arith, length-append}
 use Rattle.wh_model.specs.declared.memory.Need.{Need}
 use Rattle.wh_model.specs.Format.Syntax.{Module}
 use Rattle.wh_model.specs.Execution.Instance.{Parameters}
 use Rattle.wh_model.specs.Execution.Replay.{dead}
+use Rattle.wh_host_model.specs.declared.Tax.{Tax}
 use Rattle.wh_host_model.specs.declared.plain.TurnEnd.{TurnEnd}
 use Rattle.wh_host_model.specs.Space.Parts.{Space}
 use Rattle.wh_host_model.specs.Owners.{Entry}
 use Rattle.wh_host_model.specs.Host.CallAnswers.{Closes, Turn, can_go_on, ended_by, faces_next, has_ended, has_no_frame, has_no_fuel, is_dead, is_idle, keeps_its_fault}
 use Rattle.wh_host_model.specs.Host.Laws.{CopiedCallsHaveEnded}
+use Rattle.wh_host_model.specs.Host.Misreading.{AllBefall, AllSeeAsMany, Befalls, CopiedStayEnded, Step, by_event, by_misreading}
 use Rattle.wh_host_model.specs.Host.OwnerCalls as requests
 use Rattle.wh_host_model.specs.Host.OwnerCalls.{Cancels, Refuels, Retries, TakesCall, has_more, may_try}
-use Rattle.wh_host_model.specs.Host.Worlds.{Rest, Tenant, empty_world}
-use Rattle.wh_host_model.proofs.Host.Running.{IsGoodBy, IsKeptUp, runs_keep}
+use Rattle.wh_host_model.specs.Host.Worlds.{Rest, Tenant, World, empty_world}
+use Rattle.wh_host_model.proofs.Host.Running.{IsGoodBy, IsKeptUp, events_keep, runs_keep}
+use Rattle.wh_host_model.proofs.Space.Chained.{empty_sound}
 
 abbrev HasCopied : Module → Parameters → Tenant → List ℕ → Option Need → Type 0
 HasCopied m p t bytes want = t.copied ≤ length t.ended
@@ -56,16 +59,45 @@ copied_up = record {
   begun = λ m place of params p inst s ps fuel given initial low starts. omega arith;
 }
 
+copied_empty : (frames slots : ℕ) (tax : Tax) → IsGoodBy HasCopied (empty_world frames slots tax)
+copied_empty frames slots tax = record {
+  sound = empty_sound frames slots tax;
+  modules = λ k l x. absurd (cc x);
+  apart = λ i j a b x y e. absurd (cc x);
+  owned = λ place c e. absurd (cc e);
+  each = λ i t x. absurd (cc x);
+}
+
 pub copied_calls_have_ended : CopiedCallsHaveEnded
 copied_calls_have_ended frames slots tax events w r i t there =
     let good = runs_keep HasCopied copied_up events (empty_world frames slots tax) w (copied_empty frames slots tax) r in
     let fine = good.each i t there in
-    fine.kept where
-      copied_empty : (frames slots : ℕ) (tax : _) → IsGoodBy HasCopied (empty_world frames slots tax)
-      copied_empty frames slots tax = record {
-        sound = Rattle.wh_host_model.proofs.Space.Chained.empty_sound frames slots tax;
-        modules = λ k l x. absurd (cc x);
-        apart = λ i j a b x y e. absurd (cc x);
-        owned = λ place c e. absurd (cc e);
-        each = λ i t x. absurd (cc x);
-      }
+    fine.kept
+
+-- ---- whatever bytes the swap device gives
+
+misread_copied : (w : World) (s2 : Space) → IsGoodBy HasCopied w → AllSeeAsMany w.space s2 → IsGoodBy HasCopied (record w { space = s2 })
+misread_copied w s2 good same = record {
+  sound = same.1;
+  modules = good.modules;
+  apart = good.apart;
+  owned = λ place c e. let alike = same.0 place in good.owned place c (sym alike.claim ∙ e);
+  each = λ i t x.
+      let f = good.each i t x in
+      let alike = same.0 t.place in
+      record { loaded = f.loaded; is_loaded = f.is_loaded; claimed = alike.claim ∙ f.claimed; kept = f.kept };
+}
+
+step_copied : (w w2 : World) (x : Step) → IsGoodBy HasCopied w → Befalls w x w2 → IsGoodBy HasCopied w2
+step_copied w w2 (by_event e) good h = events_keep HasCopied copied_up w w2 e good h
+step_copied w w2 by_misreading good h = subst (IsGoodBy HasCopied) (sym h.2) (misread_copied w h.0 good h.1)
+
+all_copied : (xs : List Step) (w w2 : World) → IsGoodBy HasCopied w → AllBefall w xs w2 → IsGoodBy HasCopied w2
+all_copied [] w w2 good r = subst (IsGoodBy HasCopied) (sym r) good
+all_copied (x ∷ xs) w w2 good r = all_copied xs r.0 w2 (step_copied w r.0 x good r.1) r.2
+
+pub copied_stay_ended : CopiedStayEnded
+copied_stay_ended w c i t x =
+    let good = all_copied c.steps (empty_world c.frames c.slots c.tax) w (copied_empty c.frames c.slots c.tax) c.befall in
+    let fine = good.each i t x in
+    fine.kept

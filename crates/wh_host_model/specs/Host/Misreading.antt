@@ -1,6 +1,6 @@
 -- What may befall a host whose swap device gives other bytes than were written to it. That it doesn't is a premise of
 -- what instances compute, and not of what keeps a host sound.
-use Rattle.std.specs.Prelude.{◌≡◌, ℕ, List, [], ◌∷◌, length, Some}
+use Rattle.std.specs.Prelude.{◌≡◌, ◌≤◌, ℕ, List, [], ◌∷◌, length, Some}
 use Rattle.wh_model.specs.declared.memory.Need.{Need}
 use Rattle.wh_model.specs.Linking.Accepting.{IsAccepted}
 use Rattle.wh_host_model.specs.declared.Tax.{Tax}
@@ -68,6 +68,10 @@ ModulesStayAccepted =
 
 abbrev pub JournalsStayInOrder : Type 0
 JournalsStayInOrder = HoldsAnyhow (EachHas HasJournal)
+
+-- the calls that were copied with an instance have ended
+abbrev pub CopiedStayEnded : Type 0
+CopiedStayEnded = HoldsAnyhow (EachHas (λ w t. t.copied ≤ length t.ended))
 
 -- the input of an instance is what its owner gave it
 abbrev pub InputsStay : Type 0
