@@ -63,6 +63,7 @@ no_host = record {
     live = 0;
     space = empty_space 0 0 (record { num = 0; den = 1; below_one = le_refl 1; den_within = leb-true 1 1000 refl });
     next = 0;
+    next_module = 0;
   };
   device = None;
 }

@@ -123,6 +123,7 @@ released_go h w rs2 st go = record {
   space = st.space;
   live = st.live;
   next = st.next;
+  next_module = st.next_module;
   there = λ i t e. let f = st.there i t e in (f.0, stays t.place i f.0 f.1 f.2.number (go t.place), f.2);
   all = λ place i x at number. st.all place i x (was place x at (go place)) number;
 } where

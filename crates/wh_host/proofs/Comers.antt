@@ -206,6 +206,7 @@ admitted_here h w k p m a x place rs rs1 rs2 s2 st is none b begins are enters u
         space = refl;
         live = let e = st.live in let more = one_more w.tenants t in omega (arith, e, more);
         next = let e = st.next in let longer = one_longer w.tenants (Some t) in omega (arith, e, longer);
+        next_module = st.next_module;
         there = λ j u e.
             ⊎_elim
             (λ (old : get_or w.tenants j None ≡ Some u).

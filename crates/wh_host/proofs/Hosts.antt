@@ -210,6 +210,7 @@ changed h w place i x y t2 s2 st at_slot number lies represents sees comes =
       space = refl;
       live = st.live ∙ sym (as_many w.tenants i mine.t t2 mine.live);
       next = st.next ∙ sym (length_set w.tenants i (Some t2));
+      next_module = st.next_module;
       there = λ k a e.
           ⊎_elim
           (λ (p : (k ≡ i) × (Some t2 ≡ Some a)).
@@ -383,8 +384,8 @@ of_who_is_there h w id x P st at number asked =
 
 -- ---- a new host
 
-pub new_host : (h : HostState) (frames slots : ℕ) (tax : Tax) → h.modules ≡ [] → h.entries ≡ [] → h.live ≡ 0 → h.next ≡ 0 → IsSound h.space → IsNew h.space frames slots tax → IsNewHost h frames slots tax
-new_host h frames slots tax modules entries live next sound is =
+pub new_host : (h : HostState) (frames slots : ℕ) (tax : Tax) → h.modules ≡ [] → h.entries ≡ [] → h.live ≡ 0 → h.next ≡ 0 → h.next_module ≡ 0 → IsSound h.space → IsNew h.space frames slots tax → IsNewHost h frames slots tax
+new_host h frames slots tax modules entries live next next_module sound is =
     let w : World = record { modules = []; tenants = []; space = h.space } in
     let same : (j : ℕ) → LeftAlone j (empty_space frames slots tax) h.space = λ j. rw is.is (record { view = refl; wants = refl; claim = refl; promise = inl refl }) in
     let reached : IsReached w = record { frames = frames; slots = slots; tax = tax; events = epoch ∷ []; happen = (w, (h.space, (same, sound), refl), refl) } in
@@ -394,6 +395,7 @@ new_host h frames slots tax modules entries live next sound is =
       space = refl;
       live = live;
       next = next;
+      next_module = next_module;
       there = λ i t e. absurd (let bad : None ≡ Some t = e in cc bad);
       all = λ place i x e n. absurd (let bad : None ≡ Some x = sym (ap (λ (xs : List (Option InstanceEntry)). entry_at xs place) entries) ∙ e in cc bad);
     } in

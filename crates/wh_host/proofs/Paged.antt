@@ -141,6 +141,7 @@ misread_host h w s2 st same = record {
   space = refl;
   live = st.live;
   next = st.next;
+  next_module = st.next_module;
   there = λ i t e. let f = st.there i t e in (f.0, f.1, resident_on h.modules f.0 w.space s2 i t (same.0 t.place) f.2);
   all = st.all;
 }

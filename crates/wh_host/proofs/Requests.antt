@@ -1,6 +1,6 @@
 -- What calls, ends of calls, epochs, modules and releases leave of the host for which the code's host stands.
 use Rattle.std.proofs.Common.{true, ◌≡◌, ◌≢◌, ℕ, zero, suc, ◌+◌, ◌<◌, ◌⊎◌, ⊎_elim, inl, inr, ◌≤◌, ℤ, Option, Some, None, List, [], ◌∷◌, ◌++◌, length, map, get_or, slice_get, slice_set, refl, sym, ap, subst, ◌∙◌, arith}
-use Rattle.std.proofs.lemmas.List.{get_or-set_other}
+use Rattle.std.proofs.lemmas.List.{get_or-set_other, length-append}
 use Rattle.wh_model.specs.Linking.Accepting.{IsAccepted, IsModule}
 use Rattle.wh_model.specs.declared.faults.FaultKind.{FaultKind}
 use Rattle.wh_model.specs.declared.faults.FaultKind.TheVariants.{Magic, Version, Truncated, SectionOrder, SectionSize, Leb, Utf8, UnknownByte, Float, Unsupported, Limit, CountMismatch, Memory as NoRoom}
@@ -145,6 +145,7 @@ moved_host h w s2 st same comes = record {
   space = refl;
   live = st.live;
   next = st.next;
+  next_module = st.next_module;
   there = λ i t e. let f = st.there i t e in (f.0, f.1, moved_on h.modules f.0 w.space s2 i t f.2 (same.0 t.place).view);
   all = st.all;
 }
@@ -179,6 +180,7 @@ gone_here h w id x z output rs2 s2 live2 st at number put exits left lives =
         space = refl;
         live = let e = st.live in omega (arith, e, counts, lives);
         next = st.next ∙ sym (length_set w.tenants id.number None);
+        next_module = st.next_module;
         there = λ k a e.
             ⊎_elim
             (λ (p : (k ≡ id.number) × (None ≡ Some a)). absurd (cc p.1))
@@ -227,14 +229,13 @@ all_kept (m ∷ ms) = ap suc (all_kept ms)
 pub all_modules_there : (h : HostState) (w : World) → IsHost h w → module_count w.modules ≡ length h.modules
 all_modules_there h w st = ap module_count (sym st.modules) ∙ all_kept h.modules
 
-pub loaded_here : (h : HostState) (w : World) (bytes : List ℕ) (m : LoadedModule) (number : ℕ) → (st : IsHost h w) → m.bytes.value.items ≡ bytes → IsAccepted bytes (view_linked m.linked) → number ≡ length h.modules → number < 1024
-    → (w2 : World) × IsLoad w bytes (load_ok number) w2 × IsHost (record h { modules = h.modules ++ m ∷ [] }) w2
+pub loaded_here : (h : HostState) (w : World) (bytes : List ℕ) (m : LoadedModule) (number : ℕ) → (st : IsHost h w) → m.bytes.value.items ≡ bytes → IsAccepted bytes (view_linked m.linked) → number ≡ h.next_module → length h.modules < 1024
+    → (w2 : World) × IsLoad w bytes (load_ok number) w2 × IsHost (record h { modules = h.modules ++ m ∷ []; next_module = h.next_module + 1 }) w2
 loaded_here h w bytes m number st same accepted next few =
-    let count = as_many_modules h w st in
     let there = all_modules_there h w st in
     let new : Loaded = record { bytes = bytes; m = view_linked m.linked } in
     let w2 : World = record w { modules = w.modules ++ Some new ∷ [] } in
-    let loads : LoadsModule w bytes number w2 = record { m = view_linked m.linked; accepted = accepted; few = omega (arith, there, next, few); next = next ∙ sym count; after = refl } in
+    let loads : LoadsModule w bytes number w2 = record { m = view_linked m.linked; accepted = accepted; few = omega (arith, there, few); next = next ∙ st.next_module; after = refl } in
     let happens : IsLoad w bytes (load_ok number) w2 = is_loaded loads in (
       w2,
       happens,
@@ -244,6 +245,7 @@ loaded_here h w bytes m number st same accepted next few =
         space = st.space;
         live = st.live;
         next = st.next;
+        next_module = let e = st.next_module in let longer = length-append w.modules (Some new ∷ []) in omega (arith, e, longer);
         there = λ i t e.
             let f = st.there i t e in
             let r = f.2 in
@@ -252,11 +254,11 @@ loaded_here h w bytes m number st same accepted next few =
       },
     )
 
-pub kept_here : (h : HostState) (w : World) (bytes : List ℕ) (linked : LinkedState) (ms2 : List LoadedModule) (number : ℕ) → (st : IsHost h w) → KeepsModule h.modules linked bytes ms2 → IsAccepted bytes (view_linked linked) → number ≡ length h.modules → number < 1024
-    → (w2 : World) × IsLoad w bytes (load_ok number) w2 × IsHost (record h { modules = ms2 }) w2
+pub kept_here : (h : HostState) (w : World) (bytes : List ℕ) (linked : LinkedState) (ms2 : List LoadedModule) (number : ℕ) → (st : IsHost h w) → KeepsModule h.modules linked bytes ms2 → IsAccepted bytes (view_linked linked) → number ≡ h.next_module → length h.modules < 1024
+    → (w2 : World) × IsLoad w bytes (load_ok number) w2 × IsHost (record h { modules = ms2; next_module = h.next_module + 1 }) w2
 kept_here h w bytes linked ms2 number st keeps accepted next few =
     let made = loaded_here h w bytes keeps.0 number st keeps.2 (subst (λ l. IsAccepted bytes (view_linked l)) (sym keeps.1) accepted) next few in
-    (made.0, made.1, subst (λ ms. IsHost (record h { modules = ms }) made.0) (sym keeps.3) made.2)
+    (made.0, made.1, subst (λ ms. IsHost (record h { modules = ms; next_module = h.next_module + 1 }) made.0) (sym keeps.3) made.2)
 
 -- ---- no module comes
 

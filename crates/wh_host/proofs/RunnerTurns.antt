@@ -317,6 +317,7 @@ host_same h E F m w same st = record {
   space = st.space;
   live = st.live;
   next = st.next;
+  next_module = st.next_module;
   there = λ i t live. (let f = st.there i t live in (f.0, same t.place ∙ f.1, f.2));
   all = λ place i x at number. st.all place i x (sym (same place) ∙ at) number;
 }

@@ -15,14 +15,15 @@ use Rattle.wh_host.specs.declared.parts.LoadedModule.{LoadedModule}
 use Rattle.wh_host.specs.declared.parts.StoredParams.{StoredParams}
 use Rattle.wh_host.specs.declared.parts.InstanceEntry.{InstanceEntry}
 
--- its modules by their numbers, who has each place, how many instances there are, the memory of all, and how many were
--- admitted
+-- its modules by their numbers, who has each place, how many instances there are, the memory of all, how many were
+-- admitted, and how many modules were loaded
 pub record HostState : Type 0 where
   pub modules : List LoadedModule
   pub entries : List (Option InstanceEntry)
   pub live : ℕ
   pub space : Space
   pub next : ℕ
+  pub next_module : ℕ
 
 -- events alone lead from an empty host to this one: no swap device gave other bytes than were written to it
 pub record IsReached (w : World) : Type 0 where
@@ -74,6 +75,7 @@ pub record IsHost (h : HostState) (w : World) : Type 0 where
   pub space : h.space ≡ w.space
   pub live : h.live ≡ live_count w.tenants
   pub next : h.next ≡ length w.tenants
+  pub next_module : h.next_module ≡ length w.modules
   pub there : (i : ℕ) (t : Tenant) → tenant w i ≡ Some t
       → (x : InstanceEntry) × (entry_at h.entries t.place ≡ Some x) × IsEntryOf h.modules x w.space i t
   pub all : (place i : ℕ) (x : InstanceEntry) → entry_at h.entries place ≡ Some x → x.number ≡ Some i

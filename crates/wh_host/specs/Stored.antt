@@ -11,10 +11,10 @@ use Rattle.wh_host.specs.Hosting.{HostState}
 
 abbrev pub stored_host : Coded HostState
 stored_host =
-    code_by (List LoadedModule × (List (Option InstanceEntry) × (ℕ × (Space × ℕ))))
+    code_by (List LoadedModule × (List (Option InstanceEntry) × (ℕ × (Space × (ℕ × ℕ)))))
     (coded× (coded_list module_type.the_row.coded)
     (coded× (coded_list (coded_option resident_type.the_row.coded))
-    (coded× coded_ℕ (coded× memory_type.the_row.coded coded_ℕ))))
-    (λ h. (h.modules, (h.entries, (h.live, (h.space, h.next)))))
-    (λ p. record { modules = p.0; entries = p.1.0; live = p.1.1.0; space = p.1.1.1.0; next = p.1.1.1.1 })
+    (coded× coded_ℕ (coded× memory_type.the_row.coded (coded× coded_ℕ coded_ℕ)))))
+    (λ h. (h.modules, (h.entries, (h.live, (h.space, (h.next, h.next_module))))))
+    (λ p. record { modules = p.0; entries = p.1.0; live = p.1.1.0; space = p.1.1.1.0; next = p.1.1.1.1.0; next_module = p.1.1.1.1.1 })
     (λ _. refl)

@@ -32,6 +32,8 @@ pub struct Host {
     pub(crate) live: usize,
     pub(crate) memory: Memory,
     pub(crate) next: u64,
+    // How many modules were loaded.
+    pub(crate) next_module: usize,
 }
 
 impl Drop for Host {
@@ -42,6 +44,7 @@ impl Drop for Host {
             live: _,
             memory: _,
             next: _,
+            next_module: _,
         } = self;
     }
 }
@@ -62,6 +65,7 @@ impl Model for Host {
       live = h.live;
       space = h.memory;
       next = h.next;
+      next_module = h.next_module;
     } };
 
     ghost invariant = { λ h. (w : OneWorld) × Represents (record {
@@ -70,6 +74,7 @@ impl Model for Host {
       live = h.live;
       space = h.memory;
       next = h.next;
+      next_module = h.next_module;
     }) w };
 }
 
@@ -94,6 +99,7 @@ impl Host {
             live: 0,
             memory,
             next: 0,
+            next_module: 0,
         })
     }
 

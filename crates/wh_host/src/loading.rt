@@ -57,14 +57,15 @@ impl Host {
             Ok(linked) => linked,
             Err(error) => return Err(ModuleError::Bytes(error)),
         };
-        let number = self.modules.len();
-        if number >= MOST_MODULES {
+        if self.modules.len() >= MOST_MODULES {
             return Err(ModuleError::ModulesFull);
         }
         match keep(&mut self.modules, alloc, linked, bytes) {
             Ok(()) => {}
             Err(_) => return Err(ModuleError::Memory),
         }
+        let number = self.next_module;
+        self.next_module += 1;
         Ok(ModuleId { number })
     }
 }

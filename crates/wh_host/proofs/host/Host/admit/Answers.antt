@@ -17,14 +17,14 @@ use Rattle.wh_host.proofs.host.Host.admit.Goals as goal
 pub returns-in_default-clause-admits : goal.returns-in_default-clause-admits
 returns-in_default-clause-admits c w st =
     let i = c.self.inside in
-    let h : HostState = record { modules = i.modules.items; entries = i.entries.slots; live = i.live; space = i.memory; next = i.next } in
+    let h : HostState = record { modules = i.modules.items; entries = i.entries.slots; live = i.live; space = i.memory; next = i.next; next_module = i.next_module } in
     let here = subst (λ z. IsHost z w) (sym c.self.view_is) st in
     (admit_refused no_module, w, refl, no_module_is_there h w c.args.of.number (view_params c.args.params) here (sym c.in_default.ensures), st)
 
 pub returns-in-Err-clause-admits : goal.returns-in-Err-clause-admits
 returns-in-Err-clause-admits c w st =
     let i = c.self.inside in
-    let h : HostState = record { modules = i.modules.items; entries = i.entries.slots; live = i.live; space = i.memory; next = i.next } in
+    let h : HostState = record { modules = i.modules.items; entries = i.entries.slots; live = i.live; space = i.memory; next = i.next; next_module = i.next_module } in
     let here = subst (λ z. IsHost z w) (sym c.self.view_is) st in
     let is : slice_get i.modules.items c.args.of.number ≡ Some c.in-Some.module.now = sym c.in-Some.ensures in
     let room : Room = record { frames = c.frames_left.result; slots = c.slots_left.result; live = i.live } in
@@ -34,7 +34,7 @@ returns-in-Err-clause-admits c w st =
 pub returns-in_default-checked_add-clause-admits : goal.returns-in_default-checked_add-clause-admits
 returns-in_default-checked_add-clause-admits c w st =
     let i = c.self.inside in
-    let h : HostState = record { modules = i.modules.items; entries = i.entries.slots; live = i.live; space = i.memory; next = i.next } in
+    let h : HostState = record { modules = i.modules.items; entries = i.entries.slots; live = i.live; space = i.memory; next = i.next; next_module = i.next_module } in
     let here = subst (λ z. IsHost z w) (sym c.self.view_is) st in
     let is : slice_get i.modules.items c.args.of.number ≡ Some c.in-Some.module.now = sym c.in-Some.ensures in
     let room : Room = record { frames = c.frames_left.result; slots = c.slots_left.result; live = i.live } in
@@ -46,14 +46,14 @@ returns-in_default-checked_add-clause-admits c w st =
 pub new_entry_for-made-requires : goal.new_entry_for-made-requires
 new_entry_for-made-requires c =
     let i = c.self.inside in
-    let h : HostState = record { modules = i.modules.items; entries = i.entries.slots; live = i.live; space = i.memory; next = i.next } in
+    let h : HostState = record { modules = i.modules.items; entries = i.entries.slots; live = i.live; space = i.memory; next = i.next; next_module = i.next_module } in
     let inv = c.self.invariant in
     record { few = module_is_small h inv.0 c.args.of.number c.in-Some.module.now inv.1 (sym c.in-Some.ensures) }
 
 pub returns-in_default-made-clause-admits : goal.returns-in_default-made-clause-admits
 returns-in_default-made-clause-admits c w st =
     let i = c.self.inside in
-    let h : HostState = record { modules = i.modules.items; entries = i.entries.slots; live = i.live; space = i.memory; next = i.next } in
+    let h : HostState = record { modules = i.modules.items; entries = i.entries.slots; live = i.live; space = i.memory; next = i.next; next_module = i.next_module } in
     let here = subst (λ z. IsHost z w) (sym c.self.view_is) st in
     let is : slice_get i.modules.items c.args.of.number ≡ Some c.in-Some.module.now = sym c.in-Some.ensures in
     let room : Room = record { frames = c.frames_left.result; slots = c.slots_left.result; live = i.live } in
@@ -65,7 +65,7 @@ returns-in_default-made-clause-admits c w st =
 pub enter_next-entered-requires-clause-room : goal.enter_next-entered-requires-clause-room
 enter_next-entered-requires-clause-room c =
     let i = c.self.inside in
-    let h : HostState = record { modules = i.modules.items; entries = i.entries.slots; live = i.live; space = i.memory; next = i.next } in
+    let h : HostState = record { modules = i.modules.items; entries = i.entries.slots; live = i.live; space = i.memory; next = i.next; next_module = i.next_module } in
     let inv = c.self.invariant in
     let is : slice_get i.modules.items c.args.of.number ≡ Some c.in-Some.module.now = sym c.in-Some.ensures in
     let room : Room = record { frames = c.frames_left.result; slots = c.slots_left.result; live = i.live } in
@@ -78,14 +78,14 @@ enter_next-entered-requires-clause-room c =
 pub invariant_of-self : goal.invariant_of-self
 invariant_of-self c =
     let i = c.self.inside in
-    let h : HostState = record { modules = i.modules.items; entries = i.entries.slots; live = i.live; space = i.memory; next = i.next } in
+    let h : HostState = record { modules = i.modules.items; entries = i.entries.slots; live = i.live; space = i.memory; next = i.next; next_module = i.next_module } in
     let inv = c.self.invariant in
     (inv.0, subst (λ s. IsHost (record h { entries = c.enter_next-entered.new.entries.slots; space = s }) inv.0) (sym c.in_default-entered.ensures.memory) (subst (λ (zs : List (Option InstanceEntry)). IsHost (record h { entries = zs }) inv.0) (sym c.in_default-entered.ensures.entries) inv.1))
 
 pub returns-in_default-entered-clause-admits : goal.returns-in_default-entered-clause-admits
 returns-in_default-entered-clause-admits c w st =
     let i = c.self.inside in
-    let h : HostState = record { modules = i.modules.items; entries = i.entries.slots; live = i.live; space = i.memory; next = i.next } in
+    let h : HostState = record { modules = i.modules.items; entries = i.entries.slots; live = i.live; space = i.memory; next = i.next; next_module = i.next_module } in
     let here = subst (λ z. IsHost z w) (sym c.self.view_is) st in
     let is : slice_get i.modules.items c.args.of.number ≡ Some c.in-Some.module.now = sym c.in-Some.ensures in
     let room : Room = record { frames = c.frames_left.result; slots = c.slots_left.result; live = i.live } in
@@ -98,7 +98,7 @@ returns-in_default-entered-clause-admits c w st =
 pub overflow_add-self : goal.overflow_add-self
 overflow_add-self c =
     let i = c.self.inside in
-    let h : HostState = record { modules = i.modules.items; entries = i.entries.slots; live = i.live; space = i.memory; next = i.next } in
+    let h : HostState = record { modules = i.modules.items; entries = i.entries.slots; live = i.live; space = i.memory; next = i.next; next_module = i.next_module } in
     let inv = c.self.invariant in
     let is : slice_get i.modules.items c.args.of.number ≡ Some c.in-Some.module.now = sym c.in-Some.ensures in
     let room : Room = record { frames = c.frames_left.result; slots = c.slots_left.result; live = i.live } in
@@ -111,7 +111,7 @@ overflow_add-self c =
 pub invariant_of-self-2 : goal.invariant_of-self-2
 invariant_of-self-2 c =
     let i = c.self.inside in
-    let h : HostState = record { modules = i.modules.items; entries = i.entries.slots; live = i.live; space = i.memory; next = i.next } in
+    let h : HostState = record { modules = i.modules.items; entries = i.entries.slots; live = i.live; space = i.memory; next = i.next; next_module = i.next_module } in
     let inv = c.self.invariant in
     let is : slice_get i.modules.items c.args.of.number ≡ Some c.in-Some.module.now = sym c.in-Some.ensures in
     let room : Room = record { frames = c.frames_left.result; slots = c.slots_left.result; live = i.live } in
@@ -125,7 +125,7 @@ invariant_of-self-2 c =
 pub returns-clause-admits : goal.returns-clause-admits
 returns-clause-admits c w st =
     let i = c.self.inside in
-    let h : HostState = record { modules = i.modules.items; entries = i.entries.slots; live = i.live; space = i.memory; next = i.next } in
+    let h : HostState = record { modules = i.modules.items; entries = i.entries.slots; live = i.live; space = i.memory; next = i.next; next_module = i.next_module } in
     let here = subst (λ z. IsHost z w) (sym c.self.view_is) st in
     let is : slice_get i.modules.items c.args.of.number ≡ Some c.in-Some.module.now = sym c.in-Some.ensures in
     let room : Room = record { frames = c.frames_left.result; slots = c.slots_left.result; live = i.live } in

@@ -6,7 +6,7 @@ use Rattle.wh_host.proofs.host.Host.epoch.Goals as goal
 pub invariant_of-self : goal.invariant_of-self
 invariant_of-self c =
     let i = c.self.inside in
-    let h : HostState = record { modules = i.modules.items; entries = i.entries.slots; live = i.live; space = i.memory; next = i.next } in
+    let h : HostState = record { modules = i.modules.items; entries = i.entries.slots; live = i.live; space = i.memory; next = i.next; next_module = i.next_module } in
     let inv = c.self.invariant in
     let made = epoch_here h inv.0 c.new_epoch.new.self inv.1 c.new_epoch.ensures in
     (made.0, made.2)
@@ -14,5 +14,5 @@ invariant_of-self c =
 pub returns-clause-moves : goal.returns-clause-moves
 returns-clause-moves c w st =
     let i = c.self.inside in
-    let h : HostState = record { modules = i.modules.items; entries = i.entries.slots; live = i.live; space = i.memory; next = i.next } in
+    let h : HostState = record { modules = i.modules.items; entries = i.entries.slots; live = i.live; space = i.memory; next = i.next; next_module = i.next_module } in
     epoch_here h w c.new_epoch.new.self (subst (λ z. IsHost z w) (sym c.self.view_is) st) c.new_epoch.ensures

@@ -16,7 +16,7 @@ returns-in_default-clause-begins c need waits =
 pub invariant_of-self : goal.invariant_of-self
 invariant_of-self c =
     let i = c.self.inside in
-    let h : HostState = record { modules = i.modules.items; entries = i.entries.slots; live = i.live; space = i.memory; next = i.next } in
+    let h : HostState = record { modules = i.modules.items; entries = i.entries.slots; live = i.live; space = i.memory; next = i.next; next_module = i.next_module } in
     let inv = c.self.invariant in
     let made = fetch_begun h inv.0 c.args.id None c.fetch_begin.new.memory inv.1 c.in-Err.ensures.begins in
     (made.0, made.2)
@@ -24,14 +24,14 @@ invariant_of-self c =
 pub returns-in-Err-clause-moves : goal.returns-in-Err-clause-moves
 returns-in-Err-clause-moves c w st =
     let i = c.self.inside in
-    let h : HostState = record { modules = i.modules.items; entries = i.entries.slots; live = i.live; space = i.memory; next = i.next } in
+    let h : HostState = record { modules = i.modules.items; entries = i.entries.slots; live = i.live; space = i.memory; next = i.next; next_module = i.next_module } in
     let here = subst (λ z. IsHost z w) (sym c.self.view_is) st in
     fetch_begun h w c.args.id None c.fetch_begin.new.memory here c.in-Err.ensures.begins
 
 pub returns-in-Err-clause-begins : goal.returns-in-Err-clause-begins
 returns-in-Err-clause-begins c need waits =
     let i = c.self.inside in
-    let h : HostState = record { modules = i.modules.items; entries = i.entries.slots; live = i.live; space = i.memory; next = i.next } in
+    let h : HostState = record { modules = i.modules.items; entries = i.entries.slots; live = i.live; space = i.memory; next = i.next; next_module = i.next_module } in
     let space : h.space ≡ c.args.self.now.space = ap (λ (z : HostState). z.space) c.self.view_is in
     subst (λ s. BeginsFetch s c.args.id.place None c.fetch_begin.new.memory) space c.in-Err.ensures.begins
 
@@ -42,7 +42,7 @@ returns-in-Err-clause-idle c none =
 pub invariant_of-self-2 : goal.invariant_of-self-2
 invariant_of-self-2 c =
     let i = c.self.inside in
-    let h : HostState = record { modules = i.modules.items; entries = i.entries.slots; live = i.live; space = i.memory; next = i.next } in
+    let h : HostState = record { modules = i.modules.items; entries = i.entries.slots; live = i.live; space = i.memory; next = i.next; next_module = i.next_module } in
     let inv = c.self.invariant in
     let made = fetch_begun h inv.0 c.args.id (Some c.in-Ok.ticket.slot) c.fetch_begin.new.memory inv.1 c.in-Ok.ensures.begins in
     (made.0, made.2)
@@ -50,14 +50,14 @@ invariant_of-self-2 c =
 pub returns-clause-moves : goal.returns-clause-moves
 returns-clause-moves c w st =
     let i = c.self.inside in
-    let h : HostState = record { modules = i.modules.items; entries = i.entries.slots; live = i.live; space = i.memory; next = i.next } in
+    let h : HostState = record { modules = i.modules.items; entries = i.entries.slots; live = i.live; space = i.memory; next = i.next; next_module = i.next_module } in
     let here = subst (λ z. IsHost z w) (sym c.self.view_is) st in
     fetch_begun h w c.args.id (Some c.in-Ok.ticket.slot) c.fetch_begin.new.memory here c.in-Ok.ensures.begins
 
 pub returns-clause-begins : goal.returns-clause-begins
 returns-clause-begins c need waits =
     let i = c.self.inside in
-    let h : HostState = record { modules = i.modules.items; entries = i.entries.slots; live = i.live; space = i.memory; next = i.next } in
+    let h : HostState = record { modules = i.modules.items; entries = i.entries.slots; live = i.live; space = i.memory; next = i.next; next_module = i.next_module } in
     let space : h.space ≡ c.args.self.now.space = ap (λ (z : HostState). z.space) c.self.view_is in
     subst (λ s. BeginsFetch s c.args.id.place (Some c.in-Ok.ticket.slot) c.fetch_begin.new.memory) space c.in-Ok.ensures.begins
 

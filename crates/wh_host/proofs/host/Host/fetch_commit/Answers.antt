@@ -10,14 +10,14 @@ use Rattle.wh_host.proofs.host.Host.fetch_commit.Goals as goal
 pub fetch_commit-end-requires : goal.fetch_commit-end-requires
 fetch_commit-end-requires c =
     let i = c.self.inside in
-    let h : HostState = record { modules = i.modules.items; entries = i.entries.slots; live = i.live; space = i.memory; next = i.next } in
+    let h : HostState = record { modules = i.modules.items; entries = i.entries.slots; live = i.live; space = i.memory; next = i.next; next_module = i.next_module } in
     let space : h.space ≡ c.args.self.now.space = ap (λ (z : HostState). z.space) c.self.view_is in
     is_fetching h.space c.args.fetched.ticket.slot (subst (λ s. IsOut s c.args.fetched.ticket.slot to_read) (sym space) c.requires.out)
 
 pub invariant_of-self : goal.invariant_of-self
 invariant_of-self c =
     let i = c.self.inside in
-    let h : HostState = record { modules = i.modules.items; entries = i.entries.slots; live = i.live; space = i.memory; next = i.next } in
+    let h : HostState = record { modules = i.modules.items; entries = i.entries.slots; live = i.live; space = i.memory; next = i.next; next_module = i.next_module } in
     let inv = c.self.invariant in
     let space : h.space ≡ c.args.self.now.space = ap (λ (z : HostState). z.space) c.self.view_is in
     let kept = subst (λ f. KeepsFault h.entries c.args.fetched.id c.args.fetched.call f c.keep_fault.new.entries.slots) c.fault_of_fetch.ensures c.keep_fault.ensures in
@@ -27,7 +27,7 @@ invariant_of-self c =
 pub returns-clause-moves : goal.returns-clause-moves
 returns-clause-moves c held w st =
     let i = c.self.inside in
-    let h : HostState = record { modules = i.modules.items; entries = i.entries.slots; live = i.live; space = i.memory; next = i.next } in
+    let h : HostState = record { modules = i.modules.items; entries = i.entries.slots; live = i.live; space = i.memory; next = i.next; next_module = i.next_module } in
     let here = subst (λ z. IsHost z w) (sym c.self.view_is) st in
     let space : h.space ≡ c.args.self.now.space = ap (λ (z : HostState). z.space) c.self.view_is in
     let read = subst (λ s. OnOk c.args.device (get_or s.slots.held c.args.fetched.ticket.slot [] ≡ c.args.fetched.ticket.bytes)) (sym space) held in
@@ -37,14 +37,14 @@ returns-clause-moves c held w st =
 pub returns-clause-ends : goal.returns-clause-ends
 returns-clause-ends c =
     let i = c.self.inside in
-    let h : HostState = record { modules = i.modules.items; entries = i.entries.slots; live = i.live; space = i.memory; next = i.next } in
+    let h : HostState = record { modules = i.modules.items; entries = i.entries.slots; live = i.live; space = i.memory; next = i.next; next_module = i.next_module } in
     let space : h.space ≡ c.args.self.now.space = ap (λ (z : HostState). z.space) c.self.view_is in
     subst (λ s. CommitsFetch s c.args.fetched.ticket.slot (is_ok c.args.device) c.args.fetched.ticket.bytes c.fetch_commit-end.result.0 c.fetch_commit-end.new.memory) space c.fetch_commit-end.ensures.commits
 
 pub returns-clause-leaves : goal.returns-clause-leaves
 returns-clause-leaves c at e free =
     let i = c.self.inside in
-    let h : HostState = record { modules = i.modules.items; entries = i.entries.slots; live = i.live; space = i.memory; next = i.next } in
+    let h : HostState = record { modules = i.modules.items; entries = i.entries.slots; live = i.live; space = i.memory; next = i.next; next_module = i.next_module } in
     let inv = c.self.invariant in
     let space : h.space ≡ c.args.self.now.space = ap (λ (z : HostState). z.space) c.self.view_is in
     let kept = subst (λ f. KeepsFault h.entries c.args.fetched.id c.args.fetched.call f c.keep_fault.new.entries.slots) c.fault_of_fetch.ensures c.keep_fault.ensures in
@@ -55,7 +55,7 @@ returns-clause-leaves c at e free =
 pub returns-clause-anyhow : goal.returns-clause-anyhow
 returns-clause-anyhow c w st =
     let i = c.self.inside in
-    let h : HostState = record { modules = i.modules.items; entries = i.entries.slots; live = i.live; space = i.memory; next = i.next } in
+    let h : HostState = record { modules = i.modules.items; entries = i.entries.slots; live = i.live; space = i.memory; next = i.next; next_module = i.next_module } in
     let here = subst (λ z. IsHost z w) (sym c.self.view_is) st in
     let kept = subst (λ f. KeepsFault h.entries c.args.fetched.id c.args.fetched.call f c.keep_fault.new.entries.slots) c.fault_of_fetch.ensures c.keep_fault.ensures in
     fetch_ended_anyhow h w c.args.fetched.id c.args.fetched.call c.args.fetched.ticket.slot c.args.device c.args.fetched.ticket.bytes c.fetch_commit-end.result.0 (fetch_fault c.fetch_commit-end.result.0 c.args.device) c.fetch_commit-end.new.memory c.keep_fault.new.entries.slots c.leave_released.new.entries.slots here c.fetch_commit-end.ensures.commits kept c.leave_released.ensures.stays

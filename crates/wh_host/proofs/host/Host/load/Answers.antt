@@ -14,21 +14,21 @@ returns-in-Err-clause-loads c w st =
 pub returns-then-number-ge-MOST_MODULES-clause-loads : goal.returns-then-number-ge-MOST_MODULES-clause-loads
 returns-then-number-ge-MOST_MODULES-clause-loads c w st =
     let i = c.self.inside in
-    let h : HostState = record { modules = i.modules.items; entries = i.entries.slots; live = i.live; space = i.memory; next = i.next } in
+    let h : HostState = record { modules = i.modules.items; entries = i.entries.slots; live = i.live; space = i.memory; next = i.next; next_module = i.next_module } in
     let here = subst (λ z. IsHost z w) (sym c.self.view_is) st in
     (load_refused modules_full, w, refl, modules_are_full h w c.args.bytes.now _ here c.in-Ok.ensures.ok (omega (arith, c.if-number-ge-MOST_MODULES.true, c.len-number.ensures)), st)
 
 pub invariant_of-self : goal.invariant_of-self
 invariant_of-self c =
     let i = c.self.inside in
-    let h : HostState = record { modules = i.modules.items; entries = i.entries.slots; live = i.live; space = i.memory; next = i.next } in
+    let h : HostState = record { modules = i.modules.items; entries = i.entries.slots; live = i.live; space = i.memory; next = i.next; next_module = i.next_module } in
     let inv = c.self.invariant in
     (inv.0, subst (λ ms. IsHost (record h { modules = ms }) inv.0) (sym c.in-Err-keep.ensures.err) inv.1)
 
 pub returns-in-Err-keep-clause-loads : goal.returns-in-Err-keep-clause-loads
 returns-in-Err-keep-clause-loads c w st =
     let i = c.self.inside in
-    let h : HostState = record { modules = i.modules.items; entries = i.entries.slots; live = i.live; space = i.memory; next = i.next } in
+    let h : HostState = record { modules = i.modules.items; entries = i.entries.slots; live = i.live; space = i.memory; next = i.next; next_module = i.next_module } in
     let here = subst (λ z. IsHost z w) (sym c.self.view_is) st in
     let few : length i.modules.items < 1024 = omega (arith, c.if-number-ge-MOST_MODULES.false, c.len-number.ensures) in
     (load_out_of_memory host_out_of_memory, w, refl, no_room_to_keep h w c.args.bytes.now _ here c.in-Ok.ensures.ok few, subst (λ ms. IsHost (record h { modules = ms }) w) (sym c.in-Err-keep.ensures.err) here)
@@ -36,13 +36,13 @@ returns-in-Err-keep-clause-loads c w st =
 pub returns-in-Err-keep-clause-err : goal.returns-in-Err-keep-clause-err
 returns-in-Err-keep-clause-err c =
     let i = c.self.inside in
-    let h : HostState = record { modules = i.modules.items; entries = i.entries.slots; live = i.live; space = i.memory; next = i.next } in
+    let h : HostState = record { modules = i.modules.items; entries = i.entries.slots; live = i.live; space = i.memory; next = i.next; next_module = i.next_module } in
     ap (λ (ms : List LoadedModule). let s : HostState = record h { modules = ms } in s) c.in-Err-keep.ensures.err ∙ c.self.view_is
 
 pub invariant_of-self-2 : goal.invariant_of-self-2
 invariant_of-self-2 c =
     let i = c.self.inside in
-    let h : HostState = record { modules = i.modules.items; entries = i.entries.slots; live = i.live; space = i.memory; next = i.next } in
+    let h : HostState = record { modules = i.modules.items; entries = i.entries.slots; live = i.live; space = i.memory; next = i.next; next_module = i.next_module } in
     let inv = c.self.invariant in
     let next : c.len-number.result ≡ length i.modules.items = omega (arith, c.len-number.ensures) in
     let made = kept_here h inv.0 c.args.bytes.now _ _ c.len-number.result inv.1 c.in-Ok-keep.ensures.ok c.in-Ok.ensures.ok next c.if-number-ge-MOST_MODULES.false in
@@ -51,7 +51,7 @@ invariant_of-self-2 c =
 pub returns-clause-loads : goal.returns-clause-loads
 returns-clause-loads c w st =
     let i = c.self.inside in
-    let h : HostState = record { modules = i.modules.items; entries = i.entries.slots; live = i.live; space = i.memory; next = i.next } in
+    let h : HostState = record { modules = i.modules.items; entries = i.entries.slots; live = i.live; space = i.memory; next = i.next; next_module = i.next_module } in
     let here = subst (λ z. IsHost z w) (sym c.self.view_is) st in
     let next : c.len-number.result ≡ length i.modules.items = omega (arith, c.len-number.ensures) in
     let made = kept_here h w c.args.bytes.now _ _ c.len-number.result here c.in-Ok-keep.ensures.ok c.in-Ok.ensures.ok next c.if-number-ge-MOST_MODULES.false in

@@ -8,7 +8,7 @@ use Rattle.wh_host.proofs.host.Host.make_report.Goals as goal
 pub all_rows-requires : goal.all_rows-requires
 all_rows-requires c =
     let i = c.self.inside in
-    let h : HostState = record { modules = i.modules.items; entries = i.entries.slots; live = i.live; space = i.memory; next = i.next } in
+    let h : HostState = record { modules = i.modules.items; entries = i.entries.slots; live = i.live; space = i.memory; next = i.next; next_module = i.next_module } in
     let inv = c.self.invariant in
     let are = subst (λ z. AreInstanceRefs z c.in_ok-instance_refs.instance_refs.items) (sym c.self.view_is) c.in_ok-instance_refs.ensures in
     all_shown h inv.0 c.deref.result.now inv.1 (subst (AreInstanceRefs h) (sym c.deref.ensures.value) are)
@@ -16,7 +16,7 @@ all_rows-requires c =
 pub returns : goal.returns
 returns c w st =
     let i = c.self.inside in
-    let h : HostState = record { modules = i.modules.items; entries = i.entries.slots; live = i.live; space = i.memory; next = i.next } in
+    let h : HostState = record { modules = i.modules.items; entries = i.entries.slots; live = i.live; space = i.memory; next = i.next; next_module = i.next_module } in
     let here = subst (λ z. IsHost z w) (sym c.self.view_is) st in
     let are = subst (λ z. AreInstanceRefs z c.in_ok-instance_refs.instance_refs.items) (sym c.self.view_is) c.in_ok-instance_refs.ensures in
     report_is h c.deref.result.now (view_report c.report_over.result) (subst (AreInstanceRefs h) (sym c.deref.ensures.value) are) (c.report_over.ensures ∙ ap (report_with h.space) c.in_ok-rows.ensures) w here

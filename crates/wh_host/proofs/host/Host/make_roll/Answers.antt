@@ -8,7 +8,7 @@ use Rattle.wh_host.proofs.host.Host.make_roll.Goals as goal
 pub invariant_of-result : goal.invariant_of-result
 invariant_of-result c =
     let i = c.self.inside in
-    let h : HostState = record { modules = i.modules.items; entries = i.entries.slots; live = i.live; space = i.memory; next = i.next } in
+    let h : HostState = record { modules = i.modules.items; entries = i.entries.slots; live = i.live; space = i.memory; next = i.next; next_module = i.next_module } in
     let inv = c.self.invariant in
     let instance_refs = c.in_ok-instance_refs.instance_refs.items in
     let are = subst (λ z. AreInstanceRefs z instance_refs) (sym c.self.view_is) c.in_ok-instance_refs.ensures in
@@ -21,7 +21,7 @@ invariant_of-result c =
 pub returns : goal.returns
 returns c w st =
     let i = c.self.inside in
-    let h : HostState = record { modules = i.modules.items; entries = i.entries.slots; live = i.live; space = i.memory; next = i.next } in
+    let h : HostState = record { modules = i.modules.items; entries = i.entries.slots; live = i.live; space = i.memory; next = i.next; next_module = i.next_module } in
     let here = subst (λ z. IsHost z w) (sym c.self.view_is) st in
     let instance_refs = c.in_ok-instance_refs.instance_refs.items in
     let are = subst (λ z. AreInstanceRefs z instance_refs) (sym c.self.view_is) c.in_ok-instance_refs.ensures in

@@ -16,7 +16,7 @@ returns-then-place-clause-moves g c w st =
 pub invariant_of-self : goal.invariant_of-self
 invariant_of-self g c =
     let i = c.self.inside in
-    let h : HostState = record { modules = i.modules.items; entries = i.entries.slots; live = i.live; space = i.memory; next = i.next } in
+    let h : HostState = record { modules = i.modules.items; entries = i.entries.slots; live = i.live; space = i.memory; next = i.next; next_module = i.next_module } in
     let inv = c.self.invariant in
     let hashes = g.H.PageHash.hashes c.args.hasher.now in
     let made = offered_here h inv.0 hashes c.args.id c.args.page c.args.hash c.offer-answer.result c.offer-answer.new.memory inv.1 c.offer-answer.ensures in
@@ -25,7 +25,7 @@ invariant_of-self g c =
 pub returns-clause-moves : goal.returns-clause-moves
 returns-clause-moves g c w st =
     let i = c.self.inside in
-    let h : HostState = record { modules = i.modules.items; entries = i.entries.slots; live = i.live; space = i.memory; next = i.next } in
+    let h : HostState = record { modules = i.modules.items; entries = i.entries.slots; live = i.live; space = i.memory; next = i.next; next_module = i.next_module } in
     let here = subst (λ z. IsHost z w) (sym c.self.view_is) st in
     let hashes = g.H.PageHash.hashes c.args.hasher.now in
     offered_here h w hashes c.args.id c.args.page c.args.hash c.offer-answer.result c.offer-answer.new.memory here c.offer-answer.ensures

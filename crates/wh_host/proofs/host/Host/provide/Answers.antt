@@ -13,56 +13,56 @@ use Rattle.wh_host.proofs.host.Host.provide.Goals as goal
 pub returns-in_default-clause-moves : goal.returns-in_default-clause-moves
 returns-in_default-clause-moves g c honest w st =
     let i = c.self.inside in
-    let h : HostState = record { modules = i.modules.items; entries = i.entries.slots; live = i.live; space = i.memory; next = i.next } in
+    let h : HostState = record { modules = i.modules.items; entries = i.entries.slots; live = i.live; space = i.memory; next = i.next; next_module = i.next_module } in
     let here = subst (λ z. IsHost z w) (sym c.self.view_is) st in
     nothing_moves h w c.args.id AwaitsFrame here
 
 pub returns-in_default-clause-provides : goal.returns-in_default-clause-provides
 returns-in_default-clause-provides g c need waits honest =
     let i = c.self.inside in
-    let h : HostState = record { modules = i.modules.items; entries = i.entries.slots; live = i.live; space = i.memory; next = i.next } in
+    let h : HostState = record { modules = i.modules.items; entries = i.entries.slots; live = i.live; space = i.memory; next = i.next; next_module = i.next_module } in
     let mine = subst (λ z. WaitsFor z c.args.id need) (sym c.self.view_is) waits in
     absurd (no_one_waits h c.args.id need (sym c.in_default.ensures.value) mine)
 
 pub returns-in_default-clause-right : goal.returns-in_default-clause-right
 returns-in_default-clause-right g c need waits =
     let i = c.self.inside in
-    let h : HostState = record { modules = i.modules.items; entries = i.entries.slots; live = i.live; space = i.memory; next = i.next } in
+    let h : HostState = record { modules = i.modules.items; entries = i.entries.slots; live = i.live; space = i.memory; next = i.next; next_module = i.next_module } in
     let mine = subst (λ z. WaitsFor z c.args.id need) (sym c.self.view_is) waits in
     absurd (no_one_waits h c.args.id need (sym c.in_default.ensures.value) mine)
 
 pub returns-then-not-has_number-clause-provides : goal.returns-then-not-has_number-clause-provides
 returns-then-not-has_number-clause-provides g c need waits honest =
     let i = c.self.inside in
-    let h : HostState = record { modules = i.modules.items; entries = i.entries.slots; live = i.live; space = i.memory; next = i.next } in
+    let h : HostState = record { modules = i.modules.items; entries = i.entries.slots; live = i.live; space = i.memory; next = i.next; next_module = i.next_module } in
     let mine = subst (λ z. WaitsFor z c.args.id need) (sym c.self.view_is) waits in
     absurd (another_waits h c.args.id need c.in-Some.entry.now (sym c.in-Some.ensures.value) c.if-not-has_number.ensures mine)
 
 pub returns-then-not-has_number-clause-right : goal.returns-then-not-has_number-clause-right
 returns-then-not-has_number-clause-right g c need waits =
     let i = c.self.inside in
-    let h : HostState = record { modules = i.modules.items; entries = i.entries.slots; live = i.live; space = i.memory; next = i.next } in
+    let h : HostState = record { modules = i.modules.items; entries = i.entries.slots; live = i.live; space = i.memory; next = i.next; next_module = i.next_module } in
     let mine = subst (λ z. WaitsFor z c.args.id need) (sym c.self.view_is) waits in
     absurd (another_waits h c.args.id need c.in-Some.entry.now (sym c.in-Some.ensures.value) c.if-not-has_number.ensures mine)
 
 pub returns-then-not-awaits_frame-clause-provides : goal.returns-then-not-awaits_frame-clause-provides
 returns-then-not-awaits_frame-clause-provides g c need waits honest =
     let i = c.self.inside in
-    let h : HostState = record { modules = i.modules.items; entries = i.entries.slots; live = i.live; space = i.memory; next = i.next } in
+    let h : HostState = record { modules = i.modules.items; entries = i.entries.slots; live = i.live; space = i.memory; next = i.next; next_module = i.next_module } in
     let mine = subst (λ z. WaitsFor z c.args.id need) (sym c.self.view_is) waits in
     absurd (nothing_waits h c.args.id need c.in-Some.entry.now (sym c.in-Some.ensures.value) c.if-not-has_number.ensures c.if-not-awaits_frame.ensures mine)
 
 pub returns-then-not-awaits_frame-clause-right : goal.returns-then-not-awaits_frame-clause-right
 returns-then-not-awaits_frame-clause-right g c need waits =
     let i = c.self.inside in
-    let h : HostState = record { modules = i.modules.items; entries = i.entries.slots; live = i.live; space = i.memory; next = i.next } in
+    let h : HostState = record { modules = i.modules.items; entries = i.entries.slots; live = i.live; space = i.memory; next = i.next; next_module = i.next_module } in
     let mine = subst (λ z. WaitsFor z c.args.id need) (sym c.self.view_is) waits in
     absurd (nothing_waits h c.args.id need c.in-Some.entry.now (sym c.in-Some.ensures.value) c.if-not-has_number.ensures c.if-not-awaits_frame.ensures mine)
 
 pub invariant_of-self-then-not-has_number : goal.invariant_of-self-then-not-has_number
 invariant_of-self-then-not-has_number g c =
     let i = c.self.inside in
-    let h : HostState = record { modules = i.modules.items; entries = i.entries.slots; live = i.live; space = i.memory; next = i.next } in
+    let h : HostState = record { modules = i.modules.items; entries = i.entries.slots; live = i.live; space = i.memory; next = i.next; next_module = i.next_module } in
     let x = c.in-Some.entry.now in
     let at : entry_at h.entries c.args.id.place ≡ Some x = sym c.in-Some.ensures.value in
     let inv = c.self.invariant in
@@ -71,7 +71,7 @@ invariant_of-self-then-not-has_number g c =
 pub returns-then-not-has_number-clause-moves : goal.returns-then-not-has_number-clause-moves
 returns-then-not-has_number-clause-moves g c honest w st =
     let i = c.self.inside in
-    let h : HostState = record { modules = i.modules.items; entries = i.entries.slots; live = i.live; space = i.memory; next = i.next } in
+    let h : HostState = record { modules = i.modules.items; entries = i.entries.slots; live = i.live; space = i.memory; next = i.next; next_module = i.next_module } in
     let here = subst (λ z. IsHost z w) (sym c.self.view_is) st in
     let x = c.in-Some.entry.now in
     let at : entry_at h.entries c.args.id.place ≡ Some x = sym c.in-Some.ensures.value in
@@ -80,7 +80,7 @@ returns-then-not-has_number-clause-moves g c honest w st =
 pub returns-then-not-has_number-clause-idle : goal.returns-then-not-has_number-clause-idle
 returns-then-not-has_number-clause-idle g c none =
     let i = c.self.inside in
-    let h : HostState = record { modules = i.modules.items; entries = i.entries.slots; live = i.live; space = i.memory; next = i.next } in
+    let h : HostState = record { modules = i.modules.items; entries = i.entries.slots; live = i.live; space = i.memory; next = i.next; next_module = i.next_module } in
     let x = c.in-Some.entry.now in
     let at : entry_at h.entries c.args.id.place ≡ Some x = sym c.in-Some.ensures.value in
     (put_back h c.args.id.place x at ∙ c.self.view_is, refl, refl)
@@ -88,7 +88,7 @@ returns-then-not-has_number-clause-idle g c none =
 pub invariant_of-self-then-not-awaits_frame : goal.invariant_of-self-then-not-awaits_frame
 invariant_of-self-then-not-awaits_frame g c =
     let i = c.self.inside in
-    let h : HostState = record { modules = i.modules.items; entries = i.entries.slots; live = i.live; space = i.memory; next = i.next } in
+    let h : HostState = record { modules = i.modules.items; entries = i.entries.slots; live = i.live; space = i.memory; next = i.next; next_module = i.next_module } in
     let x = c.in-Some.entry.now in
     let at : entry_at h.entries c.args.id.place ≡ Some x = sym c.in-Some.ensures.value in
     let inv = c.self.invariant in
@@ -97,7 +97,7 @@ invariant_of-self-then-not-awaits_frame g c =
 pub returns-then-not-awaits_frame-clause-moves : goal.returns-then-not-awaits_frame-clause-moves
 returns-then-not-awaits_frame-clause-moves g c honest w st =
     let i = c.self.inside in
-    let h : HostState = record { modules = i.modules.items; entries = i.entries.slots; live = i.live; space = i.memory; next = i.next } in
+    let h : HostState = record { modules = i.modules.items; entries = i.entries.slots; live = i.live; space = i.memory; next = i.next; next_module = i.next_module } in
     let here = subst (λ z. IsHost z w) (sym c.self.view_is) st in
     let x = c.in-Some.entry.now in
     let at : entry_at h.entries c.args.id.place ≡ Some x = sym c.in-Some.ensures.value in
@@ -106,7 +106,7 @@ returns-then-not-awaits_frame-clause-moves g c honest w st =
 pub returns-then-not-awaits_frame-clause-idle : goal.returns-then-not-awaits_frame-clause-idle
 returns-then-not-awaits_frame-clause-idle g c none =
     let i = c.self.inside in
-    let h : HostState = record { modules = i.modules.items; entries = i.entries.slots; live = i.live; space = i.memory; next = i.next } in
+    let h : HostState = record { modules = i.modules.items; entries = i.entries.slots; live = i.live; space = i.memory; next = i.next; next_module = i.next_module } in
     let x = c.in-Some.entry.now in
     let at : entry_at h.entries c.args.id.place ≡ Some x = sym c.in-Some.ensures.value in
     (put_back h c.args.id.place x at ∙ c.self.view_is, refl, refl)
@@ -114,7 +114,7 @@ returns-then-not-awaits_frame-clause-idle g c none =
 pub invariant_of-self-in-Ok : goal.invariant_of-self-in-Ok
 invariant_of-self-in-Ok g c =
     let i = c.self.inside in
-    let h : HostState = record { modules = i.modules.items; entries = i.entries.slots; live = i.live; space = i.memory; next = i.next } in
+    let h : HostState = record { modules = i.modules.items; entries = i.entries.slots; live = i.live; space = i.memory; next = i.next; next_module = i.next_module } in
     let x = c.in-Some.entry.now in
     let at : entry_at h.entries c.args.id.place ≡ Some x = sym c.in-Some.ensures.value in
     let inv = c.self.invariant in
@@ -127,7 +127,7 @@ invariant_of-self-in-Ok g c =
 pub returns-in-Ok-clause-moves : goal.returns-in-Ok-clause-moves
 returns-in-Ok-clause-moves g c honest w st =
     let i = c.self.inside in
-    let h : HostState = record { modules = i.modules.items; entries = i.entries.slots; live = i.live; space = i.memory; next = i.next } in
+    let h : HostState = record { modules = i.modules.items; entries = i.entries.slots; live = i.live; space = i.memory; next = i.next; next_module = i.next_module } in
     let here = subst (λ z. IsHost z w) (sym c.self.view_is) st in
     let x = c.in-Some.entry.now in
     let at : entry_at h.entries c.args.id.place ≡ Some x = sym c.in-Some.ensures.value in
@@ -140,7 +140,7 @@ returns-in-Ok-clause-moves g c honest w st =
 pub returns-in-Ok-clause-idle : goal.returns-in-Ok-clause-idle
 returns-in-Ok-clause-idle g c none =
     let i = c.self.inside in
-    let h : HostState = record { modules = i.modules.items; entries = i.entries.slots; live = i.live; space = i.memory; next = i.next } in
+    let h : HostState = record { modules = i.modules.items; entries = i.entries.slots; live = i.live; space = i.memory; next = i.next; next_module = i.next_module } in
     let x = c.in-Some.entry.now in
     let at : entry_at h.entries c.args.id.place ≡ Some x = sym c.in-Some.ensures.value in
     let inv = c.self.invariant in
@@ -151,7 +151,7 @@ returns-in-Ok-clause-idle g c none =
 pub returns-clause-idle : goal.returns-clause-idle
 returns-clause-idle g c none =
     let i = c.self.inside in
-    let h : HostState = record { modules = i.modules.items; entries = i.entries.slots; live = i.live; space = i.memory; next = i.next } in
+    let h : HostState = record { modules = i.modules.items; entries = i.entries.slots; live = i.live; space = i.memory; next = i.next; next_module = i.next_module } in
     let x = c.in-Some.entry.now in
     let at : entry_at h.entries c.args.id.place ≡ Some x = sym c.in-Some.ensures.value in
     let inv = c.self.invariant in
@@ -162,7 +162,7 @@ returns-clause-idle g c none =
 pub returns-in-Ok-clause-provides : goal.returns-in-Ok-clause-provides
 returns-in-Ok-clause-provides g c need waits honest =
     let i = c.self.inside in
-    let h : HostState = record { modules = i.modules.items; entries = i.entries.slots; live = i.live; space = i.memory; next = i.next } in
+    let h : HostState = record { modules = i.modules.items; entries = i.entries.slots; live = i.live; space = i.memory; next = i.next; next_module = i.next_module } in
     let space : h.space ≡ c.args.self.now.space = ap (λ (z : HostState). z.space) c.self.view_is in
     let mine = subst (λ z. WaitsFor z c.args.id need) (sym c.self.view_is) waits in
     subst (λ s. ProvidesTruly s c.args.id.place need c.in-Ok.left c.provide.new.memory) space (c.in-Ok.ensures.truly need (waits_stands h c.args.id need mine) honest)
@@ -170,7 +170,7 @@ returns-in-Ok-clause-provides g c need waits honest =
 pub returns-in-Ok-clause-right : goal.returns-in-Ok-clause-right
 returns-in-Ok-clause-right g c need waits =
     let i = c.self.inside in
-    let h : HostState = record { modules = i.modules.items; entries = i.entries.slots; live = i.live; space = i.memory; next = i.next } in
+    let h : HostState = record { modules = i.modules.items; entries = i.entries.slots; live = i.live; space = i.memory; next = i.next; next_module = i.next_module } in
     let space : h.space ≡ c.args.self.now.space = ap (λ (z : HostState). z.space) c.self.view_is in
     let mine = subst (λ z. WaitsFor z c.args.id need) (sym c.self.view_is) waits in
     subst (λ s. IsProvided s c.args.id.place need c.in-Ok.left c.provide.new.memory) space (c.in-Ok.ensures.right need (waits_stands h c.args.id need mine))
@@ -178,7 +178,7 @@ returns-in-Ok-clause-right g c need waits =
 pub returns-clause-fails : goal.returns-clause-fails
 returns-clause-fails g c need waits honest =
     let i = c.self.inside in
-    let h : HostState = record { modules = i.modules.items; entries = i.entries.slots; live = i.live; space = i.memory; next = i.next } in
+    let h : HostState = record { modules = i.modules.items; entries = i.entries.slots; live = i.live; space = i.memory; next = i.next; next_module = i.next_module } in
     let space : h.space ≡ c.args.self.now.space = ap (λ (z : HostState). z.space) c.self.view_is in
     let mine = subst (λ z. WaitsFor z c.args.id need) (sym c.self.view_is) waits in
     subst (λ s. FailsTruly s c.args.id.place need c.provide.new.memory) space (c.in-Err.ensures.fails_truly need (waits_stands h c.args.id need mine) honest)
@@ -186,7 +186,7 @@ returns-clause-fails g c need waits honest =
 pub invariant_of-self-2 : goal.invariant_of-self-2
 invariant_of-self-2 g c =
     let i = c.self.inside in
-    let h : HostState = record { modules = i.modules.items; entries = i.entries.slots; live = i.live; space = i.memory; next = i.next } in
+    let h : HostState = record { modules = i.modules.items; entries = i.entries.slots; live = i.live; space = i.memory; next = i.next; next_module = i.next_module } in
     let x = c.in-Some.entry.now in
     let at : entry_at h.entries c.args.id.place ≡ Some x = sym c.in-Some.ensures.value in
     let inv = c.self.invariant in
@@ -199,7 +199,7 @@ invariant_of-self-2 g c =
 pub returns-clause-moves : goal.returns-clause-moves
 returns-clause-moves g c honest w st =
     let i = c.self.inside in
-    let h : HostState = record { modules = i.modules.items; entries = i.entries.slots; live = i.live; space = i.memory; next = i.next } in
+    let h : HostState = record { modules = i.modules.items; entries = i.entries.slots; live = i.live; space = i.memory; next = i.next; next_module = i.next_module } in
     let here = subst (λ z. IsHost z w) (sym c.self.view_is) st in
     let x = c.in-Some.entry.now in
     let at : entry_at h.entries c.args.id.place ≡ Some x = sym c.in-Some.ensures.value in
@@ -221,14 +221,14 @@ returns-clause-whole g c =
 pub returns-in_default-clause-anyhow : goal.returns-in_default-clause-anyhow
 returns-in_default-clause-anyhow g c w st =
     let i = c.self.inside in
-    let h : HostState = record { modules = i.modules.items; entries = i.entries.slots; live = i.live; space = i.memory; next = i.next } in
+    let h : HostState = record { modules = i.modules.items; entries = i.entries.slots; live = i.live; space = i.memory; next = i.next; next_module = i.next_module } in
     let here = subst (λ z. IsHost z w) (sym c.self.view_is) st in
     nothing_anyhow h w c.args.id AwaitsFrame here
 
 pub returns-then-not-has_number-clause-anyhow : goal.returns-then-not-has_number-clause-anyhow
 returns-then-not-has_number-clause-anyhow g c w st =
     let i = c.self.inside in
-    let h : HostState = record { modules = i.modules.items; entries = i.entries.slots; live = i.live; space = i.memory; next = i.next } in
+    let h : HostState = record { modules = i.modules.items; entries = i.entries.slots; live = i.live; space = i.memory; next = i.next; next_module = i.next_module } in
     let here = subst (λ z. IsHost z w) (sym c.self.view_is) st in
     let x = c.in-Some.entry.now in
     let at : entry_at h.entries c.args.id.place ≡ Some x = sym c.in-Some.ensures.value in
@@ -237,7 +237,7 @@ returns-then-not-has_number-clause-anyhow g c w st =
 pub returns-then-not-awaits_frame-clause-anyhow : goal.returns-then-not-awaits_frame-clause-anyhow
 returns-then-not-awaits_frame-clause-anyhow g c w st =
     let i = c.self.inside in
-    let h : HostState = record { modules = i.modules.items; entries = i.entries.slots; live = i.live; space = i.memory; next = i.next } in
+    let h : HostState = record { modules = i.modules.items; entries = i.entries.slots; live = i.live; space = i.memory; next = i.next; next_module = i.next_module } in
     let here = subst (λ z. IsHost z w) (sym c.self.view_is) st in
     let x = c.in-Some.entry.now in
     let at : entry_at h.entries c.args.id.place ≡ Some x = sym c.in-Some.ensures.value in
@@ -246,7 +246,7 @@ returns-then-not-awaits_frame-clause-anyhow g c w st =
 pub returns-in-Ok-clause-anyhow : goal.returns-in-Ok-clause-anyhow
 returns-in-Ok-clause-anyhow g c w st =
     let i = c.self.inside in
-    let h : HostState = record { modules = i.modules.items; entries = i.entries.slots; live = i.live; space = i.memory; next = i.next } in
+    let h : HostState = record { modules = i.modules.items; entries = i.entries.slots; live = i.live; space = i.memory; next = i.next; next_module = i.next_module } in
     let here = subst (λ z. IsHost z w) (sym c.self.view_is) st in
     let x = c.in-Some.entry.now in
     let at : entry_at h.entries c.args.id.place ≡ Some x = sym c.in-Some.ensures.value in
@@ -258,7 +258,7 @@ returns-in-Ok-clause-anyhow g c w st =
 pub returns-clause-anyhow : goal.returns-clause-anyhow
 returns-clause-anyhow g c w st =
     let i = c.self.inside in
-    let h : HostState = record { modules = i.modules.items; entries = i.entries.slots; live = i.live; space = i.memory; next = i.next } in
+    let h : HostState = record { modules = i.modules.items; entries = i.entries.slots; live = i.live; space = i.memory; next = i.next; next_module = i.next_module } in
     let here = subst (λ z. IsHost z w) (sym c.self.view_is) st in
     let x = c.in-Some.entry.now in
     let at : entry_at h.entries c.args.id.place ≡ Some x = sym c.in-Some.ensures.value in
@@ -270,28 +270,28 @@ returns-clause-anyhow g c w st =
 pub returns-in_default-clause-provides_anyhow : goal.returns-in_default-clause-provides_anyhow
 returns-in_default-clause-provides_anyhow g c need waits =
     let i = c.self.inside in
-    let h : HostState = record { modules = i.modules.items; entries = i.entries.slots; live = i.live; space = i.memory; next = i.next } in
+    let h : HostState = record { modules = i.modules.items; entries = i.entries.slots; live = i.live; space = i.memory; next = i.next; next_module = i.next_module } in
     let mine = subst (λ z. WaitsFor z c.args.id need) (sym c.self.view_is) waits in
     absurd (no_one_waits h c.args.id need (sym c.in_default.ensures.value) mine)
 
 pub returns-then-not-has_number-clause-provides_anyhow : goal.returns-then-not-has_number-clause-provides_anyhow
 returns-then-not-has_number-clause-provides_anyhow g c need waits =
     let i = c.self.inside in
-    let h : HostState = record { modules = i.modules.items; entries = i.entries.slots; live = i.live; space = i.memory; next = i.next } in
+    let h : HostState = record { modules = i.modules.items; entries = i.entries.slots; live = i.live; space = i.memory; next = i.next; next_module = i.next_module } in
     let mine = subst (λ z. WaitsFor z c.args.id need) (sym c.self.view_is) waits in
     absurd (another_waits h c.args.id need c.in-Some.entry.now (sym c.in-Some.ensures.value) c.if-not-has_number.ensures mine)
 
 pub returns-then-not-awaits_frame-clause-provides_anyhow : goal.returns-then-not-awaits_frame-clause-provides_anyhow
 returns-then-not-awaits_frame-clause-provides_anyhow g c need waits =
     let i = c.self.inside in
-    let h : HostState = record { modules = i.modules.items; entries = i.entries.slots; live = i.live; space = i.memory; next = i.next } in
+    let h : HostState = record { modules = i.modules.items; entries = i.entries.slots; live = i.live; space = i.memory; next = i.next; next_module = i.next_module } in
     let mine = subst (λ z. WaitsFor z c.args.id need) (sym c.self.view_is) waits in
     absurd (nothing_waits h c.args.id need c.in-Some.entry.now (sym c.in-Some.ensures.value) c.if-not-has_number.ensures c.if-not-awaits_frame.ensures mine)
 
 pub returns-in-Ok-clause-provides_anyhow : goal.returns-in-Ok-clause-provides_anyhow
 returns-in-Ok-clause-provides_anyhow g c need waits =
     let i = c.self.inside in
-    let h : HostState = record { modules = i.modules.items; entries = i.entries.slots; live = i.live; space = i.memory; next = i.next } in
+    let h : HostState = record { modules = i.modules.items; entries = i.entries.slots; live = i.live; space = i.memory; next = i.next; next_module = i.next_module } in
     let space : h.space ≡ c.args.self.now.space = ap (λ (z : HostState). z.space) c.self.view_is in
     let mine = subst (λ z. WaitsFor z c.args.id need) (sym c.self.view_is) waits in
     subst (λ s. Provides s c.args.id.place need c.in-Ok.left c.provide.new.memory) space (c.in-Ok.ensures.provides need (waits_stands h c.args.id need mine))
@@ -299,7 +299,7 @@ returns-in-Ok-clause-provides_anyhow g c need waits =
 pub returns-clause-fails_anyhow : goal.returns-clause-fails_anyhow
 returns-clause-fails_anyhow g c need waits =
     let i = c.self.inside in
-    let h : HostState = record { modules = i.modules.items; entries = i.entries.slots; live = i.live; space = i.memory; next = i.next } in
+    let h : HostState = record { modules = i.modules.items; entries = i.entries.slots; live = i.live; space = i.memory; next = i.next; next_module = i.next_module } in
     let space : h.space ≡ c.args.self.now.space = ap (λ (z : HostState). z.space) c.self.view_is in
     let mine = subst (λ z. WaitsFor z c.args.id need) (sym c.self.view_is) waits in
     subst (λ s. FailsToProvide s c.args.id.place need c.provide.new.memory) space (c.in-Err.ensures.fails need (waits_stands h c.args.id need mine))

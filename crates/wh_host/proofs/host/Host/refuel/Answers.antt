@@ -9,21 +9,21 @@ use Rattle.wh_host.proofs.host.Host.refuel.Goals as goal
 pub returns-in_default-clause-asks : goal.returns-in_default-clause-asks
 returns-in_default-clause-asks c w st =
     let i = c.self.inside in
-    let h : HostState = record { modules = i.modules.items; entries = i.entries.slots; live = i.live; space = i.memory; next = i.next } in
+    let h : HostState = record { modules = i.modules.items; entries = i.entries.slots; live = i.live; space = i.memory; next = i.next; next_module = i.next_module } in
     let here = subst (λ z. IsHost z w) (sym c.self.view_is) st in
     (call_no_instance, w, refl, no_one_to_refuel (nobody h w c.args.id here (sym c.in_default.ensures.value)), here)
 
 pub invariant_of-self-then-not-has_number : goal.invariant_of-self-then-not-has_number
 invariant_of-self-then-not-has_number c =
     let i = c.self.inside in
-    let h : HostState = record { modules = i.modules.items; entries = i.entries.slots; live = i.live; space = i.memory; next = i.next } in
+    let h : HostState = record { modules = i.modules.items; entries = i.entries.slots; live = i.live; space = i.memory; next = i.next; next_module = i.next_module } in
     let inv = c.self.invariant in
     (inv.0, subst (λ z. IsHost z inv.0) (sym (put_back h c.args.id.place c.in-Some.entry.now (sym c.in-Some.ensures.value))) inv.1)
 
 pub returns-then-not-has_number-clause-asks : goal.returns-then-not-has_number-clause-asks
 returns-then-not-has_number-clause-asks c w st =
     let i = c.self.inside in
-    let h : HostState = record { modules = i.modules.items; entries = i.entries.slots; live = i.live; space = i.memory; next = i.next } in
+    let h : HostState = record { modules = i.modules.items; entries = i.entries.slots; live = i.live; space = i.memory; next = i.next; next_module = i.next_module } in
     let here = subst (λ z. IsHost z w) (sym c.self.view_is) st in
     let at : entry_at h.entries c.args.id.place ≡ Some c.in-Some.entry.now = sym c.in-Some.ensures.value in
     let back = subst (λ z. IsHost z w) (sym (put_back h c.args.id.place c.in-Some.entry.now at)) here in
@@ -32,13 +32,13 @@ returns-then-not-has_number-clause-asks c w st =
 pub returns-then-not-has_number-clause-err : goal.returns-then-not-has_number-clause-err
 returns-then-not-has_number-clause-err c =
     let i = c.self.inside in
-    let h : HostState = record { modules = i.modules.items; entries = i.entries.slots; live = i.live; space = i.memory; next = i.next } in
+    let h : HostState = record { modules = i.modules.items; entries = i.entries.slots; live = i.live; space = i.memory; next = i.next; next_module = i.next_module } in
     put_back h c.args.id.place c.in-Some.entry.now (sym c.in-Some.ensures.value) ∙ c.self.view_is
 
 pub invariant_of-self-then-not-refuel : goal.invariant_of-self-then-not-refuel
 invariant_of-self-then-not-refuel c =
     let i = c.self.inside in
-    let h : HostState = record { modules = i.modules.items; entries = i.entries.slots; live = i.live; space = i.memory; next = i.next } in
+    let h : HostState = record { modules = i.modules.items; entries = i.entries.slots; live = i.live; space = i.memory; next = i.next; next_module = i.next_module } in
     let x = c.in-Some.entry.now in
     let inv = c.self.invariant in
     let same : c.refuel.new.self ≡ x.tenant = (c.if-not-refuel.ensures.none refl).1 in
@@ -47,7 +47,7 @@ invariant_of-self-then-not-refuel c =
 pub returns-then-not-refuel-clause-asks : goal.returns-then-not-refuel-clause-asks
 returns-then-not-refuel-clause-asks c w st =
     let i = c.self.inside in
-    let h : HostState = record { modules = i.modules.items; entries = i.entries.slots; live = i.live; space = i.memory; next = i.next } in
+    let h : HostState = record { modules = i.modules.items; entries = i.entries.slots; live = i.live; space = i.memory; next = i.next; next_module = i.next_module } in
     let here = subst (λ z. IsHost z w) (sym c.self.view_is) st in
     let x = c.in-Some.entry.now in
     let at : entry_at h.entries c.args.id.place ≡ Some x = sym c.in-Some.ensures.value in
@@ -59,14 +59,14 @@ returns-then-not-refuel-clause-asks c w st =
 pub returns-then-not-refuel-clause-err : goal.returns-then-not-refuel-clause-err
 returns-then-not-refuel-clause-err c =
     let i = c.self.inside in
-    let h : HostState = record { modules = i.modules.items; entries = i.entries.slots; live = i.live; space = i.memory; next = i.next } in
+    let h : HostState = record { modules = i.modules.items; entries = i.entries.slots; live = i.live; space = i.memory; next = i.next; next_module = i.next_module } in
     let x = c.in-Some.entry.now in
     kept_back h c.args.id.place x c.refuel.new.self (c.if-not-refuel.ensures.none refl).1 (sym c.in-Some.ensures.value) ∙ c.self.view_is
 
 pub invariant_of-self-2 : goal.invariant_of-self-2
 invariant_of-self-2 c =
     let i = c.self.inside in
-    let h : HostState = record { modules = i.modules.items; entries = i.entries.slots; live = i.live; space = i.memory; next = i.next } in
+    let h : HostState = record { modules = i.modules.items; entries = i.entries.slots; live = i.live; space = i.memory; next = i.next; next_module = i.next_module } in
     let inv = c.self.invariant in
     let x = c.in-Some.entry.now in
     let made = asked_here h inv.0 c.args.id x _ (λ t t2. Refuels t c.args.fuel t2) inv.1 (sym c.in-Some.ensures.value) c.if-not-has_number.ensures (λ t t2. refuel_stays t c.args.fuel t2) (c.if-not-refuel.ensures.some refl) (refuel c.args.id c.args.fuel) (λ t t2 live is. (call_ok, is_refueled live is)) in
@@ -75,7 +75,7 @@ invariant_of-self-2 c =
 pub returns-clause-asks : goal.returns-clause-asks
 returns-clause-asks c w st =
     let i = c.self.inside in
-    let h : HostState = record { modules = i.modules.items; entries = i.entries.slots; live = i.live; space = i.memory; next = i.next } in
+    let h : HostState = record { modules = i.modules.items; entries = i.entries.slots; live = i.live; space = i.memory; next = i.next; next_module = i.next_module } in
     let here = subst (λ z. IsHost z w) (sym c.self.view_is) st in
     let x = c.in-Some.entry.now in
     let made = asked_here h w c.args.id x _ (λ t t2. Refuels t c.args.fuel t2) here (sym c.in-Some.ensures.value) c.if-not-has_number.ensures (λ t t2. refuel_stays t c.args.fuel t2) (c.if-not-refuel.ensures.some refl) (refuel c.args.id c.args.fuel) (λ t t2 live is. (call_ok, is_refueled live is)) in

@@ -10,21 +10,21 @@ use Rattle.wh_host.proofs.host.Host.release.Goals as goal
 pub returns-in_default-clause-goes : goal.returns-in_default-clause-goes
 returns-in_default-clause-goes c w st =
     let i = c.self.inside in
-    let h : HostState = record { modules = i.modules.items; entries = i.entries.slots; live = i.live; space = i.memory; next = i.next } in
+    let h : HostState = record { modules = i.modules.items; entries = i.entries.slots; live = i.live; space = i.memory; next = i.next; next_module = i.next_module } in
     let here = subst (λ z. IsHost z w) (sym c.self.view_is) st in
     (None, w, refl, no_one_to_release (nobody h w c.args.id here (sym c.in_default.ensures.value)), here)
 
 pub invariant_of-self-then-not-has_number : goal.invariant_of-self-then-not-has_number
 invariant_of-self-then-not-has_number c =
     let i = c.self.inside in
-    let h : HostState = record { modules = i.modules.items; entries = i.entries.slots; live = i.live; space = i.memory; next = i.next } in
+    let h : HostState = record { modules = i.modules.items; entries = i.entries.slots; live = i.live; space = i.memory; next = i.next; next_module = i.next_module } in
     let inv = c.self.invariant in
     (inv.0, subst (λ z. IsHost z inv.0) (sym (put_back h c.args.id.place c.in-Some.entry.now (sym c.in-Some.ensures.value))) inv.1)
 
 pub returns-then-not-has_number-clause-goes : goal.returns-then-not-has_number-clause-goes
 returns-then-not-has_number-clause-goes c w st =
     let i = c.self.inside in
-    let h : HostState = record { modules = i.modules.items; entries = i.entries.slots; live = i.live; space = i.memory; next = i.next } in
+    let h : HostState = record { modules = i.modules.items; entries = i.entries.slots; live = i.live; space = i.memory; next = i.next; next_module = i.next_module } in
     let here = subst (λ z. IsHost z w) (sym c.self.view_is) st in
     let at : entry_at h.entries c.args.id.place ≡ Some c.in-Some.entry.now = sym c.in-Some.ensures.value in
     let back = subst (λ z. IsHost z w) (sym (put_back h c.args.id.place c.in-Some.entry.now at)) here in
@@ -33,27 +33,27 @@ returns-then-not-has_number-clause-goes c w st =
 pub returns-then-not-has_number-clause-err : goal.returns-then-not-has_number-clause-err
 returns-then-not-has_number-clause-err c =
     let i = c.self.inside in
-    let h : HostState = record { modules = i.modules.items; entries = i.entries.slots; live = i.live; space = i.memory; next = i.next } in
+    let h : HostState = record { modules = i.modules.items; entries = i.entries.slots; live = i.live; space = i.memory; next = i.next; next_module = i.next_module } in
     put_back h c.args.id.place c.in-Some.entry.now (sym c.in-Some.ensures.value) ∙ c.self.view_is
 
 pub exit-requires : goal.exit-requires
 exit-requires c =
     let i = c.self.inside in
-    let h : HostState = record { modules = i.modules.items; entries = i.entries.slots; live = i.live; space = i.memory; next = i.next } in
+    let h : HostState = record { modules = i.modules.items; entries = i.entries.slots; live = i.live; space = i.memory; next = i.next; next_module = i.next_module } in
     let inv = c.self.invariant in
     lives_there h inv.0 c.args.id.place c.args.id.number c.in-Some.entry.now inv.1 (sym c.in-Some.ensures.value) c.if-not-has_number.ensures
 
 pub overflow_sub-self : goal.overflow_sub-self
 overflow_sub-self c =
     let i = c.self.inside in
-    let h : HostState = record { modules = i.modules.items; entries = i.entries.slots; live = i.live; space = i.memory; next = i.next } in
+    let h : HostState = record { modules = i.modules.items; entries = i.entries.slots; live = i.live; space = i.memory; next = i.next; next_module = i.next_module } in
     let inv = c.self.invariant in
     one_there h inv.0 c.args.id.place c.args.id.number c.in-Some.entry.now inv.1 (sym c.in-Some.ensures.value) c.if-not-has_number.ensures
 
 pub invariant_of-self-2 : goal.invariant_of-self-2
 invariant_of-self-2 c =
     let i = c.self.inside in
-    let h : HostState = record { modules = i.modules.items; entries = i.entries.slots; live = i.live; space = i.memory; next = i.next } in
+    let h : HostState = record { modules = i.modules.items; entries = i.entries.slots; live = i.live; space = i.memory; next = i.next; next_module = i.next_module } in
     let inv = c.self.invariant in
     let x = c.in-Some.entry.now in
     let some = one_there h inv.0 c.args.id.place c.args.id.number x inv.1 (sym c.in-Some.ensures.value) c.if-not-has_number.ensures in
@@ -64,7 +64,7 @@ invariant_of-self-2 c =
 pub returns-clause-goes : goal.returns-clause-goes
 returns-clause-goes c w st =
     let i = c.self.inside in
-    let h : HostState = record { modules = i.modules.items; entries = i.entries.slots; live = i.live; space = i.memory; next = i.next } in
+    let h : HostState = record { modules = i.modules.items; entries = i.entries.slots; live = i.live; space = i.memory; next = i.next; next_module = i.next_module } in
     let here = subst (λ z. IsHost z w) (sym c.self.view_is) st in
     let x = c.in-Some.entry.now in
     let some = one_there h w c.args.id.place c.args.id.number x here (sym c.in-Some.ensures.value) c.if-not-has_number.ensures in

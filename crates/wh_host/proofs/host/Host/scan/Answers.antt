@@ -12,7 +12,7 @@ returns-then-not-has_few_pages-clause-moves g c w st =
 pub invariant_of-self : goal.invariant_of-self
 invariant_of-self g c =
     let i = c.self.inside in
-    let h : HostState = record { modules = i.modules.items; entries = i.entries.slots; live = i.live; space = i.memory; next = i.next } in
+    let h : HostState = record { modules = i.modules.items; entries = i.entries.slots; live = i.live; space = i.memory; next = i.next; next_module = i.next_module } in
     let inv = c.self.invariant in
     let hashes = g.H.PageHash.hashes c.args.hasher.now in
     let made = scanned_here h inv.0 hashes _ c.scan_all.new.memory inv.1 c.scan_all.ensures.scans.2 in
@@ -21,7 +21,7 @@ invariant_of-self g c =
 pub returns-clause-moves : goal.returns-clause-moves
 returns-clause-moves g c w st =
     let i = c.self.inside in
-    let h : HostState = record { modules = i.modules.items; entries = i.entries.slots; live = i.live; space = i.memory; next = i.next } in
+    let h : HostState = record { modules = i.modules.items; entries = i.entries.slots; live = i.live; space = i.memory; next = i.next; next_module = i.next_module } in
     let here = subst (λ z. IsHost z w) (sym c.self.view_is) st in
     let hashes = g.H.PageHash.hashes c.args.hasher.now in
     scanned_here h w hashes _ c.scan_all.new.memory here c.scan_all.ensures.scans.2

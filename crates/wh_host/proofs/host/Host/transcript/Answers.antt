@@ -8,7 +8,7 @@ use Rattle.wh_host.proofs.host.Host.transcript.Goals as goal
 pub returns-in-Ok-clause-shows : goal.returns-in-Ok-clause-shows
 returns-in-Ok-clause-shows c w st =
     let i = c.self.inside in
-    let h : HostState = record { modules = i.modules.items; entries = i.entries.slots; live = i.live; space = i.memory; next = i.next } in
+    let h : HostState = record { modules = i.modules.items; entries = i.entries.slots; live = i.live; space = i.memory; next = i.next; next_module = i.next_module } in
     let m = c.in-Some-module_at.module.now in
     let here = subst (λ z. IsHost z w) (sym c.self.view_is) st in
     let there = shown_there h w c.args.id.place c.args.id.number c.in-Some.entry.now m here (sym c.in-Some.ensures) c.if-not-has_number.ensures (sym c.in-Some-module_at.ensures) in
@@ -17,7 +17,7 @@ returns-in-Ok-clause-shows c w st =
 pub returns-in-Ok-clause-replays : goal.returns-in-Ok-clause-replays
 returns-in-Ok-clause-replays c led =
     let i = c.self.inside in
-    let h : HostState = record { modules = i.modules.items; entries = i.entries.slots; live = i.live; space = i.memory; next = i.next } in
+    let h : HostState = record { modules = i.modules.items; entries = i.entries.slots; live = i.live; space = i.memory; next = i.next; next_module = i.next_module } in
     let here = subst (λ z. IsHost z led.0) (sym c.self.view_is) led.1 in
     let m = c.in-Some-module_at.module.now in
     let x = c.in-Some.entry.now in

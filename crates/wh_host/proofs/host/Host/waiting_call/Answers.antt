@@ -10,7 +10,7 @@ use Rattle.wh_host.proofs.host.Host.waiting_call.Goals as goal
 pub returns : goal.returns
 returns c =
     let i = c.self.inside in
-    let h : HostState = record { modules = i.modules.items; entries = i.entries.slots; live = i.live; space = i.memory; next = i.next } in
+    let h : HostState = record { modules = i.modules.items; entries = i.entries.slots; live = i.live; space = i.memory; next = i.next; next_module = i.next_module } in
     let x = c.in-Some.entry.now in
     let at = sym c.in-Some.ensures in
     let number = c.if-not-has_number.ensures in
