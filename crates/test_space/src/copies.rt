@@ -98,6 +98,25 @@ fn copy(
     Ok(true)
 }
 
+// The same, and once more where that failed: then memory was refused, and nothing was left behind.
+fn copy_or_again(
+    memory: &mut Memory,
+    alloc: Global,
+    from: usize,
+    place: usize,
+    number: u64,
+) -> Result<bool> {
+    let before = (memory.used(), memory.pages_at(place));
+    match copy(memory, alloc, from, place, number) {
+        Ok(came) => Ok(came),
+        Err(_) => {
+            let now = (memory.used(), memory.pages_at(place));
+            ensure!(now == before, "a refused copy left something behind");
+            copy(memory, alloc, from, place, number)
+        }
+    }
+}
+
 impl Copies {
     fn new(alloc: Global) -> Result<Copies> {
         let tax = Tax { num: 3, den: 4 };
@@ -157,7 +176,7 @@ impl Copies {
             return Ok(());
         }
         let number = self.next;
-        if !copy(&mut self.memory, alloc, from, place, number)? {
+        if !copy_or_again(&mut self.memory, alloc, from, place, number)? {
             return Ok(());
         }
         self.next = self.next.saturating_add(1);
