@@ -1,5 +1,5 @@
 -- The roll is that of whatever host the code's stands for.
-use Rattle.std.proofs.Common.{◌≡◌, ℕ, zero, suc, ◌+◌, ◌++◌, Bool, Option, Some, None, List, [], ◌∷◌, length, map, take, get_or, slice_get, refl, sym, ap, subst, ◌∙◌, arith}
+use Rattle.std.proofs.Common.{◌≡◌, ℕ, zero, suc, ◌+◌, ◌<◌, ◌++◌, Bool, Option, Some, None, List, [], ◌∷◌, length, map, take, get_or, slice_get, refl, sym, ap, subst, ◌∙◌, arith}
 use Rattle.std.proofs.lemmas.List.{append-nil, append_assoc, length-append, map-append}
 use Rattle.wh_host_model.specs.Space.Errands.{tickets}
 use Rattle.wh_host_model.specs.Host.Worlds.{Suspension, Tenant, World, journal, tenant}
@@ -35,6 +35,12 @@ one_more_module n (z ∷ zs) zero m is =
 one_more_module n (z ∷ zs) (suc k) m is =
     let here : (n + 1) + k ≡ n + suc k = omega arith in
     ap (λ more. module_by n z ∷ more) (one_more_module (n + 1) zs k m is ∙ ap (λ i. modules_from (n + 1) (take k zs) ++ module_by i m ∷ []) here)
+
+-- what is found at an index lies there
+pub module_found : (ms : List LoadedModule) (k : ℕ) (m : LoadedModule) → k < length ms → slice_get ms k ≡ Some (get_or ms k m)
+module_found [] k m less = absurd (omega (arith, less))
+module_found (x ∷ ms) zero m less = refl
+module_found (x ∷ ms) (suc k) m less = module_found ms k m (omega (arith, less))
 
 pub module_step : (ms : List LoadedModule) (k : ℕ) (m : LoadedModule) (a b : List EnrolledModule) (e : EnrolledModule) → slice_get ms k ≡ Some m → map view_module a ≡ modules_from 0 (take k ms) → b ≡ a ++ e ∷ [] → view_module e ≡ module_by k m → map view_module b ≡ modules_from 0 (take (k + 1) ms)
 module_step ms k m a b e at before is same =

@@ -223,7 +223,7 @@ as_many_modules h w st = ap length (sym st.modules) ∙ length_mapped kept_as h.
 
 all_kept : (ms : List LoadedModule) → module_count (map kept_as ms) ≡ length ms
 all_kept [] = refl
-all_kept (m ∷ ms) = ap suc (all_kept ms)
+all_kept (m ∷ ms) = let more = all_kept ms in omega (arith, more)
 
 -- and all of them are there
 pub all_modules_there : (h : HostState) (w : World) → IsHost h w → module_count w.modules ≡ length h.modules

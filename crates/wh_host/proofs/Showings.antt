@@ -8,8 +8,9 @@ use Rattle.wh_host_model.specs.Host.Worlds.{Loaded, Tenant, World, journal, jour
 use Rattle.wh_host_model.specs.Owners.{Params, given_of}
 use Rattle.wh_host_model.specs.Host.Journals.{InOrder}
 use Rattle.wh_host_model.specs.Host.Suspensions.{FirstWaitsDuly}
+use Rattle.wh_host_model.proofs.Host.Copied.{copied_calls_have_ended}
 use Rattle.wh_host_model.proofs.Host.Lasting.{inputs_stay}
-use Rattle.wh_host_model.proofs.Host.Holding.{copied_calls_have_ended, instances_replay, journals_are_in_order, suspensions_are_right}
+use Rattle.wh_host_model.proofs.Host.Holding.{instances_replay, journals_are_in_order, suspensions_are_right}
 use Rattle.wh_imports.specs.LinkedState.{LinkedState}
 use Rattle.wh_load.specs.Refusing.{view_linked}
 use Rattle.wh_instance.specs.Tenancy.{IsTenant, HostInstanceState}

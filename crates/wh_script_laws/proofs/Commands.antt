@@ -1,5 +1,5 @@
 -- Commands, and what a script knows of its host behind them.
-use Rattle.std.proofs.Common.{◌≡◌, ℕ, suc, true, List, [], ◌∷◌, ◌++◌, length, Option, Some, None, refl, sym, ap, subst, arith}
+use Rattle.std.proofs.Common.{◌≡◌, ℕ, true, List, [], ◌∷◌, ◌++◌, length, Option, Some, None, refl, sym, subst, arith}
 use Rattle.std.specs.List.{AllZip}
 use Rattle.wh_host_model.specs.Host.Worlds.{Loaded, World}
 use Rattle.wh_host_model.specs.Host.Admission.{LoadFault, broken, invalid, unlinked, modules_full, LoadOutOfMemory, decoder_out_of_memory, validator_out_of_memory, linker_out_of_memory, host_out_of_memory, RefusesLoad, MayRunOut, LoadsModule, module_count}
@@ -41,7 +41,7 @@ all_there [] [] h = refl
 all_there [] (o ∷ ls) h = absurd h
 all_there (n ∷ names) [] h = absurd h
 all_there (n ∷ names) (None ∷ ls) h = absurd h.0
-all_there (n ∷ names) (Some l ∷ ls) h = ap suc (all_there names ls h.1)
+all_there (n ∷ names) (Some l ∷ ls) h = let more = all_there names ls h.1 in omega (arith, more)
 
 as_many : {settings : Settings} {w : World} {m : ScriptState} {places : List ℕ} → Knows settings w m places
     → length m.modules ≡ module_count w.modules

@@ -11,12 +11,12 @@ returns-in-Err-clause-loads c w st =
     let made = bytes_refused w c.args.bytes.now c.in-Err.error c.in-Err.ensures.err in
     (made.0, w, made.1, made.2, st)
 
-pub returns-then-number-ge-MOST_MODULES-clause-loads : goal.returns-then-number-ge-MOST_MODULES-clause-loads
-returns-then-number-ge-MOST_MODULES-clause-loads c w st =
+pub returns-then-len-ge-MOST_MODULES-clause-loads : goal.returns-then-len-ge-MOST_MODULES-clause-loads
+returns-then-len-ge-MOST_MODULES-clause-loads c w st =
     let i = c.self.inside in
     let h : HostState = record { modules = i.modules.items; entries = i.entries.slots; live = i.live; space = i.memory; next = i.next; next_module = i.next_module } in
     let here = subst (λ z. IsHost z w) (sym c.self.view_is) st in
-    (load_refused modules_full, w, refl, modules_are_full h w c.args.bytes.now _ here c.in-Ok.ensures.ok (omega (arith, c.if-number-ge-MOST_MODULES.true, c.len-number.ensures)), st)
+    (load_refused modules_full, w, refl, modules_are_full h w c.args.bytes.now _ here c.in-Ok.ensures.ok (omega (arith, c.if-len-ge-MOST_MODULES.true, c.len.ensures)), st)
 
 pub invariant_of-self : goal.invariant_of-self
 invariant_of-self c =
@@ -30,7 +30,7 @@ returns-in-Err-keep-clause-loads c w st =
     let i = c.self.inside in
     let h : HostState = record { modules = i.modules.items; entries = i.entries.slots; live = i.live; space = i.memory; next = i.next; next_module = i.next_module } in
     let here = subst (λ z. IsHost z w) (sym c.self.view_is) st in
-    let few : length i.modules.items < 1024 = omega (arith, c.if-number-ge-MOST_MODULES.false, c.len-number.ensures) in
+    let few : length i.modules.items < 1024 = omega (arith, c.if-len-ge-MOST_MODULES.false, c.len.ensures) in
     (load_out_of_memory host_out_of_memory, w, refl, no_room_to_keep h w c.args.bytes.now _ here c.in-Ok.ensures.ok few, subst (λ ms. IsHost (record h { modules = ms }) w) (sym c.in-Err-keep.ensures.err) here)
 
 pub returns-in-Err-keep-clause-err : goal.returns-in-Err-keep-clause-err
@@ -44,8 +44,8 @@ invariant_of-self-2 c =
     let i = c.self.inside in
     let h : HostState = record { modules = i.modules.items; entries = i.entries.slots; live = i.live; space = i.memory; next = i.next; next_module = i.next_module } in
     let inv = c.self.invariant in
-    let next : c.len-number.result ≡ length i.modules.items = omega (arith, c.len-number.ensures) in
-    let made = kept_here h inv.0 c.args.bytes.now _ _ c.len-number.result inv.1 c.in-Ok-keep.ensures.ok c.in-Ok.ensures.ok next c.if-number-ge-MOST_MODULES.false in
+    let few : length i.modules.items < 1024 = omega (arith, c.if-len-ge-MOST_MODULES.false, c.len.ensures) in
+    let made = kept_here h inv.0 c.args.bytes.now _ _ i.next_module inv.1 c.in-Ok-keep.ensures.ok c.in-Ok.ensures.ok refl few in
     (made.0, made.2)
 
 pub returns-clause-loads : goal.returns-clause-loads
@@ -53,6 +53,6 @@ returns-clause-loads c w st =
     let i = c.self.inside in
     let h : HostState = record { modules = i.modules.items; entries = i.entries.slots; live = i.live; space = i.memory; next = i.next; next_module = i.next_module } in
     let here = subst (λ z. IsHost z w) (sym c.self.view_is) st in
-    let next : c.len-number.result ≡ length i.modules.items = omega (arith, c.len-number.ensures) in
-    let made = kept_here h w c.args.bytes.now _ _ c.len-number.result here c.in-Ok-keep.ensures.ok c.in-Ok.ensures.ok next c.if-number-ge-MOST_MODULES.false in
-    (load_ok c.len-number.result, made.0, refl, made.1, made.2)
+    let few : length i.modules.items < 1024 = omega (arith, c.if-len-ge-MOST_MODULES.false, c.len.ensures) in
+    let made = kept_here h w c.args.bytes.now _ _ i.next_module here c.in-Ok-keep.ensures.ok c.in-Ok.ensures.ok refl few in
+    (load_ok i.next_module, made.0, refl, made.1, made.2)
