@@ -59,6 +59,11 @@ lives_there h w place i x st at number =
     let claims = (places w st.comes).claimed i f.t f.live in
     subst (λ s. (o : Occupant) × occupant_at s place o × (o.live ≡ true)) (sym st.space) (claimed_there w.space place (promised i f.t.params) (ap (claim w.space) (sym f.at) ∙ claims))
 
+pub get_mapped : {A B : Type 0} (f : A → B) (xs : List A) (i : ℕ) (x : A) → slice_get xs i ≡ Some x → slice_get (map f xs) i ≡ Some (f x)
+get_mapped f [] i x e = absurd (cc e)
+get_mapped f (y ∷ xs) zero x e = ap Some (ap f (one_value y x e))
+get_mapped f (y ∷ xs) (suc i) x e = get_mapped f xs i x e
+
 kept_there : (ms : List LoadedModule) (k : ℕ) (m : LoadedModule) → slice_get ms k ≡ Some m → get_or (map kept_as ms) k None ≡ Some (loaded_as m)
 kept_there [] k m e = absurd (cc e)
 kept_there (x ∷ ms) zero m e = ap kept_as (one_value x m e)
