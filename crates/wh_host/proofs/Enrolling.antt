@@ -14,7 +14,7 @@ use Rattle.wh_host.specs.declared.parts.InstanceRef.{InstanceRef}
 use Rattle.wh_host.specs.declared.rolling.Enrolled.{Enrolled}
 use Rattle.wh_host.specs.declared.rolling.EnrolledModule.{EnrolledModule}
 use Rattle.wh_host.specs.Hosting.{HostState, IsHost, IsEntryOf, kept_as, entry_at}
-use Rattle.wh_host.specs.Rolls.{IsRollOf, Listed, ListedModule, RollState, all_listed, all_modules, listed_as, listed_by, listed_in, listed_refs, module_by, modules_from, view_listed, view_module}
+use Rattle.wh_host.specs.Rolls.{IsRollOf, Listed, ListedModule, RollState, all_listed, all_modules, listed_as, listed_by, listed_in, listed_refs, module_by, modules_from, view_listed, view_listed_module}
 use Rattle.wh_host.specs.InstanceRefs.{AreInstanceRefs, refs_by}
 use Rattle.wh_host.specs.Showing.{given_with}
 use Rattle.wh_host.proofs.Showings.{inputs_are, params_by}
@@ -42,13 +42,13 @@ module_found [] k m less = absurd (omega (arith, less))
 module_found (x ∷ ms) zero m less = refl
 module_found (x ∷ ms) (suc k) m less = module_found ms k m (omega (arith, less))
 
-pub module_step : (ms : List LoadedModule) (k : ℕ) (m : LoadedModule) (a b : List EnrolledModule) (e : EnrolledModule) → slice_get ms k ≡ Some m → map view_module a ≡ modules_from 0 (take k ms) → b ≡ a ++ e ∷ [] → view_module e ≡ module_by k m → map view_module b ≡ modules_from 0 (take (k + 1) ms)
+pub module_step : (ms : List LoadedModule) (k : ℕ) (m : LoadedModule) (a b : List EnrolledModule) (e : EnrolledModule) → slice_get ms k ≡ Some m → map view_listed_module a ≡ modules_from 0 (take k ms) → b ≡ a ++ e ∷ [] → view_listed_module e ≡ module_by k m → map view_listed_module b ≡ modules_from 0 (take (k + 1) ms)
 module_step ms k m a b e at before is same =
     let next : k + 1 ≡ suc k = omega arith in
     let here : 0 + k ≡ k = omega arith in
-    ap (map view_module) is
-    ∙ map-append view_module a (e ∷ [])
-    ∙ ap (λ q. q ++ view_module e ∷ []) before
+    ap (map view_listed_module) is
+    ∙ map-append view_listed_module a (e ∷ [])
+    ∙ ap (λ q. q ++ view_listed_module e ∷ []) before
     ∙ ap (λ (l : ListedModule). modules_from 0 (take k ms) ++ l ∷ []) (same ∙ ap (λ i. module_by i m) (sym here))
     ∙ sym (one_more_module 0 ms k m at)
     ∙ ap (λ n. modules_from 0 (take n ms)) (sym next)

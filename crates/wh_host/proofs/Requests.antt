@@ -219,13 +219,6 @@ map_behind : {A B : Type 0} (f : A → B) (xs : List A) (x : A) → map f (xs ++
 map_behind f [] x = refl
 map_behind f (y ∷ xs) x = ap (λ zs. f y ∷ zs) (map_behind f xs x)
 
-length_mapped : {A B : Type 0} (f : A → B) (xs : List A) → length (map f xs) ≡ length xs
-length_mapped f [] = refl
-length_mapped f (x ∷ xs) = ap suc (length_mapped f xs)
-
-pub as_many_modules : (h : HostState) (w : World) → IsHost h w → length w.modules ≡ length h.modules
-as_many_modules h w st = ap length (sym st.modules) ∙ length_mapped kept_as h.modules
-
 all_kept : (ms : List LoadedModule) → module_count (map kept_as ms) ≡ length ms
 all_kept [] = refl
 all_kept (m ∷ ms) = let more = all_kept ms in omega (arith, more)

@@ -85,8 +85,8 @@ IsRollOf h roll = (w : World) → IsHost h w → roll ≡ roll_of w
 
 -- ---- what the code has of it
 
-abbrev pub view_module : EnrolledModule → ListedModule
-view_module e = record { number = e.id.number; bytes = e.bytes.value.items }
+abbrev pub view_listed_module : EnrolledModule → ListedModule
+view_listed_module e = record { number = e.id.number; bytes = e.bytes.value.items }
 
 abbrev pub view_listed : Enrolled → Listed
 view_listed e = record {

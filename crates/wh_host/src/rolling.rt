@@ -1,7 +1,7 @@
 //! What is there in a host.
 
 ghost use Rattle.std.specs.Prelude.{◌≡◌, ◌<◌, Some, IfErr, IfOk, length, map, slice_get};
-ghost use Rattle.wh_host.specs.Rolls.{IsRollOf, listed_by, listed_refs, modules_from, view_listed, view_module};
+ghost use Rattle.wh_host.specs.Rolls.{IsRollOf, listed_by, listed_refs, modules_from, view_listed, view_listed_module};
 
 use crate::error::HostError;
 use crate::host::Host;
@@ -60,7 +60,7 @@ pub struct Roll {
 
 impl Model for Roll {
     ghost use Rattle.std.specs.Prelude.{map as each};
-    ghost use Rattle.wh_host.specs.Rolls.{IsRollOfSome, RollState, view_listed as listed, view_module as listed_module};
+    ghost use Rattle.wh_host.specs.Rolls.{IsRollOfSome, RollState, view_listed as listed, view_listed_module as listed_module};
 
     ghost Value = { RollState };
 
@@ -82,7 +82,7 @@ impl Model for Roll {
 impl Roll {
     /// Returns the modules by number. Numbers of those that are gone are left out.
     pub fn modules(&self) -> &[EnrolledModule]
-        ensures { map view_module result.now ≡ self.now.modules }
+        ensures { map view_listed_module result.now ≡ self.now.modules }
     {
         &self.modules
     }
@@ -114,7 +114,7 @@ fn all_loaded(
     alloc: Global,
     modules: &[LoadedModule],
 ) -> Result<Vec<EnrolledModule>, AllocError>
-    ensures { IfOk result (λ list. map view_module list.items ≡ modules_from 0 modules.now) }
+    ensures { IfOk result (λ list. map view_listed_module list.items ≡ modules_from 0 modules.now) }
 {
     let mut list = Vec::with_capacity(alloc, modules.len())?;
     for number in 0..modules.len() {

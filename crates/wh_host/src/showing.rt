@@ -54,8 +54,8 @@ fn transcript_of(
 
 impl Host {
     /// Returns an instance's transcript: the bytes of its module, what its owner gave it, its calls, how many of them were
-    /// copied with it, and what the first open one waits for. Its calls replay where events alone have led to this host: no swap device gave other bytes than were
-    /// written to it.
+    /// copied with it, and what the first open one waits for. Its calls replay where events alone have led to this host: no
+    /// swap device gave other bytes than were written to it.
     ///
     /// # Errors
     /// `NoInstance`; `Memory` where room is refused.

@@ -25,8 +25,8 @@ pub record TranscriptState : Type 0 where
   pub waiting_for : Option Suspension
 
 -- The bytes spell a module that is accepted. An instance of it, which is given that, has these calls: those that have
--- ended, all that were copied among them, and then the open ones. They lead to this store, at which the first open one is there, and what it stands for
--- is right, where bytes of memory are wanted, if they are.
+-- ended, all that were copied among them, and then the open ones. They lead to this store, at which the first open one is
+-- there, and what it stands for is right, where bytes of memory are wanted, if they are.
 pub record IsReplayable (t : TranscriptState) : Type 0 where
   pub m : Module
   pub accepted : IsAccepted t.bytes m

@@ -1,6 +1,6 @@
 use Rattle.std.proofs.Common.{◌≡◌, ◌∙◌, ap, map, refl, sym, subst}
 use Rattle.wh_host.specs.Hosting.{HostState, IsHost}
-use Rattle.wh_host.specs.Rolls.{listed_refs, modules_from, view_listed, view_module}
+use Rattle.wh_host.specs.Rolls.{listed_refs, modules_from, view_listed, view_listed_module}
 use Rattle.wh_host.specs.InstanceRefs.{AreInstanceRefs}
 use Rattle.wh_host.proofs.Enrolling.{roll_is}
 use Rattle.wh_host.proofs.host.Host.make_roll.Goals as goal
@@ -12,7 +12,7 @@ invariant_of-result c =
     let inv = c.self.invariant in
     let instance_refs = c.in_ok-instance_refs.instance_refs.items in
     let are = subst (λ z. AreInstanceRefs z instance_refs) (sym c.self.view_is) c.in_ok-instance_refs.ensures in
-    let modules = map view_module c.in_ok-modules.modules.items in
+    let modules = map view_listed_module c.in_ok-modules.modules.items in
     let instances = map view_listed c.in_ok-instances.instances.items in
     let numbered : modules ≡ modules_from 0 h.modules = c.in_ok-modules.ensures ∙ ap (modules_from 0) c.deref.ensures.value in
     let listed : instances ≡ listed_refs h.entries instance_refs = c.in_ok-instances.ensures ∙ ap (listed_refs h.entries) c.deref-2.ensures.value in
@@ -25,7 +25,7 @@ returns c w st =
     let here = subst (λ z. IsHost z w) (sym c.self.view_is) st in
     let instance_refs = c.in_ok-instance_refs.instance_refs.items in
     let are = subst (λ z. AreInstanceRefs z instance_refs) (sym c.self.view_is) c.in_ok-instance_refs.ensures in
-    let modules = map view_module c.in_ok-modules.modules.items in
+    let modules = map view_listed_module c.in_ok-modules.modules.items in
     let instances = map view_listed c.in_ok-instances.instances.items in
     let numbered : modules ≡ modules_from 0 h.modules = c.in_ok-modules.ensures ∙ ap (modules_from 0) c.deref.ensures.value in
     let listed : instances ≡ listed_refs h.entries instance_refs = c.in_ok-instances.ensures ∙ ap (listed_refs h.entries) c.deref-2.ensures.value in
