@@ -1,7 +1,7 @@
 -- The charges of a host are the same in whatever host of the definitions it stands for.
-use Rattle.std.proofs.Common.{◌≡◌, ℕ, zero, suc, ◌+◌, List, [], ◌∷◌, drop, length, get_or, Option, Some, None, refl, sym, ap, subst, ◌∙◌, arith}
+use Rattle.std.proofs.Common.{◌≡◌, ℕ, zero, suc, ◌+◌, List, [], ◌∷◌, ◌++◌, drop, length, get_or, Option, Some, None, refl, sym, ap, subst, ◌∙◌, arith}
 use Rattle.std.specs.List.{sum_by}
-use Rattle.std.proofs.lemmas.List.Sums.{sum_by-cons, sum_by-append}
+use Rattle.std.proofs.lemmas.List.Sums.{sum_by-cons}
 use Rattle.wh_host_model.specs.Host.Worlds.{Tenant, World, journal, own_calls, tenant}
 use Rattle.wh_host_model.specs.Owners.{Entry}
 use Rattle.wh_journal.specs.Calls.{JournalCallState}
@@ -23,15 +23,28 @@ same_charges (c ∷ cs) [] h = absurd h
 same_charges (c ∷ cs) (e ∷ es) h =
     omega (arith, h.0.charges, same_charges cs es h.1, sum_by-cons charges_at e es, sum_by-cons (λ (x : JournalCallState). x.charges) c cs)
 
+both_each : (cs ds : List JournalCallState) (es fs : List Entry) → RepresentsEach cs es → RepresentsEach ds fs → RepresentsEach (cs ++ ds) (es ++ fs)
+both_each [] ds [] fs h g = g
+both_each [] ds (e ∷ es) fs h g = absurd h
+both_each (c ∷ cs) ds [] fs h g = absurd h
+both_each (c ∷ cs) ds (e ∷ es) fs h g = (h.0, both_each cs ds es fs h.1 g)
+
+rest_each : (k : ℕ) (cs : List JournalCallState) (es : List Entry) → RepresentsEach cs es → RepresentsEach (drop k cs) (drop k es)
+rest_each zero cs es h = h
+rest_each (suc k) [] [] h = h
+rest_each (suc k) [] (e ∷ es) h = absurd h
+rest_each (suc k) (c ∷ cs) [] h = absurd h
+rest_each (suc k) (c ∷ cs) (e ∷ es) h = rest_each k cs es h.1
+
 abbrev resident_charges : InstanceEntry → ℕ
-resident_charges x = code_charges x.tenant.journal.ended + code_charges x.tenant.journal.open_calls
+resident_charges x = code_charges (drop x.copied (x.tenant.journal.ended ++ x.tenant.journal.open_calls))
 
 tenant_charges : (h : HostState) (w : World) (i : ℕ) (t : Tenant) (x : InstanceEntry) → IsEntryOf h.modules x w.space i t → charges_in (own_calls t) ≡ resident_charges x
 tenant_charges h w i t x r =
-    let ended = same_charges x.tenant.journal.ended t.ended r.is.ended in
-    let open_calls = same_charges x.tenant.journal.open_calls t.open_calls r.is.open_calls in
-    let own : charges_in (own_calls t) ≡ charges_in (journal t) = ap (λ k. charges_in (drop k (journal t))) r.own in
-    omega (arith, own, ended, open_calls, sum_by-append charges_at t.ended t.open_calls)
+    let cs = x.tenant.journal.ended in
+    let ds = x.tenant.journal.open_calls in
+    ap (λ k. charges_in (drop k (journal t))) (sym r.copied)
+    ∙ same_charges (drop x.copied (cs ++ ds)) (drop x.copied (journal t)) (rest_each x.copied (cs ++ ds) (journal t) (both_each cs ds t.ended t.open_calls r.is.ended r.is.open_calls))
 
 some_is : {A : Type 0} (x y : A) → Some x ≡ Some y → x ≡ y
 some_is x y e = cc e
