@@ -372,3 +372,21 @@ fn pages_above_64_mb_are_touched_where_they_are_read(rt: HostRuntime) -> Result<
     let script = format!(in rt.alloc(); "{HIGH}{HIGH_CALLS}")?;
     expect(&rt, "slots = 65536\n", &script, HIGH_REPLIES)
 }
+
+/// `f` writes a word to each of 256 pages in turn, again and again: more pages than an instance may write in a round.
+const WALK: &str =
+    "module m 0061736d0100000001060160017f017f030201000503010010070501016600000a26012401027f03402001410c7441ffff3f712001360000200141016a22012000490d000b20020b\n";
+
+/// What three instances of this module do, for long enough to be run side by side.
+const WALKS: &str =
+    "admit i0 m 100 2 256 0 0 0\nadmit i1 m 100 2 256 0 0 0\nadmit i2 m 100 2 256 0 0 0\ninvoke i0 f 100000000 100000\ninvoke i1 f 100000000 100000\ninvoke i2 f 100000000 100000\n";
+
+/// What they get: twelve instructions a page, and one in the end.
+const WALK_REPLIES: &str =
+    "module m ok\nadmit i0 ok 0\nadmit i1 ok 1\nadmit i2 ok 2\ncall 1 done 0 charges 1200001\ncall 2 done 0 charges 1200001\ncall 3 done 0 charges 1200001\n";
+
+#[test]
+fn many_pages_written_in_turn_are_written_by_any_workers(rt: HostRuntime) -> Result<(), Fail> {
+    let script = format!(in rt.alloc(); "{WALK}{WALKS}")?;
+    expect(&rt, "frames = 2048\n", &script, WALK_REPLIES)
+}

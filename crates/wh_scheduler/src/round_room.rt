@@ -7,11 +7,11 @@ ghost use Rattle.wh_cell.specs.RoundCounts.{AreReceived};
 
 use std::alloc::{AllocError, Global};
 use std::marker::Model;
-use std::sync::atomic::AtomicU64;
+use std::sync::atomic::{AtomicU64, Ordering};
 use std::sync::ledger::Ledger;
 use wh_cell::{CellAgreements, Locked};
 use wh_host::{Burst, Fork, Runner};
-use wh_host_model::InstId;
+use wh_host_model::{InstId, TurnEnd};
 use wh_swap::SwapDev;
 use wh_threads::{ReceivedTurns, Worker};
 
@@ -26,6 +26,37 @@ const PAGES: usize = 16384;
 
 // So many turns of each instance a round has at least, where its series have as many.
 const FEWEST_FURTHER: u32 = 63;
+
+// So many rounds in a row may end for want of room for what an instance writes before it is in none for a while.
+const MOST_SHORT_ROUNDS: u32 = 2;
+
+// So many of its series are in no round then.
+const SERIES_ALONE: u32 = 16;
+
+// How many instances are remembered of which rounds ended so: the last one of those whose places are equal modulo this.
+const PLACES: usize = 64;
+
+// No instance in particular.
+const NOBODY: InstId = InstId {
+    place: 0,
+    number: 0,
+};
+
+const NO_ROUNDS: RoundsOf = RoundsOf {
+    id: NOBODY,
+    short: 0,
+    alone: 0,
+};
+
+// How the last rounds of an instance ended.
+#[derive(Clone, Copy)]
+struct RoundsOf {
+    id: InstId,
+    // How many in a row ended for want of room for what it writes.
+    short: u32,
+    // So many series more of it are in no round.
+    alone: u32,
+}
 
 /// For how long the series of a round run at most.
 #[derive(Clone, Copy)]
@@ -45,6 +76,8 @@ pub struct RoundRoom {
     runners: Vec<Runner>,
     // How many turns of an instance come in a round behind its first one at most: fewer where one had to stop in the last round.
     longest: u32,
+    // How rounds ended, by the instances' places modulo `PLACES`.
+    rounds: [RoundsOf; PLACES],
 }
 
 impl Model for RoundRoom {
@@ -70,6 +103,7 @@ impl RoundRoom {
             alloc,
             runners,
             longest: u32::MAX,
+            rounds: [NO_ROUNDS; PLACES],
         })
     }
 
@@ -81,16 +115,20 @@ impl RoundRoom {
             if self.runners.len() == self.runners.capacity() {
                 return false;
             }
-            let nobody = InstId {
-                place: 0,
-                number: 0,
-            };
-            let Ok(runner) = Runner::new(self.alloc, nobody, WRITTEN_PAGES, PAGES) else {
+            let Ok(runner) = Runner::new(self.alloc, NOBODY, WRITTEN_PAGES, PAGES) else {
                 return false;
             };
             self.runners.push_reserved(runner);
         }
         true
+    }
+}
+
+// Whether a runner's instance could go on, and stopped before it had all turns of the round.
+fn stopped_short(runner: &Runner, turns: u64) -> bool {
+    match runner.answer() {
+        Some(end) => end.turns < turns && end.end == TurnEnd::Again,
+        None => false,
     }
 }
 
@@ -126,6 +164,51 @@ fn give_all(runners: &mut [Runner], orders: &[ReceivedTurns], aim: Aim) -> bool
 }
 
 impl RoundRoom {
+    /// Returns whether the next series of an instance is to be in no round, since rounds ended for want of room for what it writes:
+    /// it would be copied out and back for a few turns. That is so for some series, of which this is one.
+    pub fn leaves_out(&mut self, id: InstId) -> bool
+        ensures { self.new ≡ self.old }
+    {
+        let rounds = &mut self.rounds[id.place % PLACES];
+        if rounds.id != id || rounds.alone == 0 {
+            return false;
+        }
+        rounds.alone -= 1;
+        true
+    }
+
+    // Notes whether a round ended for want of room for what an instance writes.
+    fn note(&mut self, id: InstId, is_short: bool)
+        ensures { self.new ≡ self.old }
+    {
+        let rounds = &mut self.rounds[id.place % PLACES];
+        if rounds.id != id {
+            *rounds = RoundsOf { id, ..NO_ROUNDS };
+        }
+        rounds.short = if is_short {
+            rounds.short.saturating_add(1)
+        } else {
+            0
+        };
+        if rounds.short >= MOST_SHORT_ROUNDS {
+            rounds.short = 0;
+            rounds.alone = SERIES_ALONE;
+        }
+    }
+
+    // Notes of each instance of a round of so many turns whether that ended for want of room for what it writes.
+    fn note_all(&mut self, orders: &[ReceivedTurns], turns: u64)
+        ensures { self.new ≡ self.old }
+    {
+        for at in 0..orders.len() {
+            let is_short = match self.runners.get(at) {
+                Some(runner) => stopped_short(runner, turns),
+                None => false,
+            };
+            self.note(orders[at].instance(), is_short);
+        }
+    }
+
     /// Runs turns of all these series at once, under the lock, where there are runners for so many, and each series has turns of as
     /// many charges as the aim says, and as many of them. Returns whether it ran some: `false` where there is no room, or none of
     /// their calls computes.
@@ -166,6 +249,9 @@ impl RoundRoom {
         } else {
             (further / 2).max(FEWEST_FURTHER)
         };
+        if aim.wanted.load(Ordering::SeqCst) == 0 {
+            self.note_all(orders, u64::from(further) + 1);
+        }
         worker.tally().turns > turns
     }
 }

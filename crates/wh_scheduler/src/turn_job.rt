@@ -356,6 +356,32 @@ impl<
         room.run(&fork, &mut locked, orders, aim, worker)
     }
 
+    // Runs those of the series by themselves whose instances are left out of rounds.
+    fn run_left_out<R: Wait>(
+        &self,
+        rt: &R,
+        orders: &mut Vec<ReceivedTurns>,
+        group: Group,
+        worker: &mut Worker<T, C>,
+    )
+        requires room { worker.old.tally.turns + turns_due orders.old.items < 2 ^ 64 }
+        ensures from { worker.new.from ≡ worker.old.from }
+        ensures turns { worker.new.tally.turns + turns_due orders.new.items
+            ≡ worker.old.tally.turns + turns_due orders.old.items }
+        ensures capacity { vec_capacity orders.new ≡ vec_capacity orders.old }
+    {
+        let mut at = 0;
+        while at < orders.len() {
+            let id = orders[at].instance();
+            if self.schedule.round_room.lock(rt).leaves_out(id) {
+                let order = orders.swap_remove(at);
+                self.run(rt, order, group, worker);
+            } else {
+                at += 1;
+            }
+        }
+    }
+
     // Runs most turns of these series at once, where there are several.
     fn run_rounds<R: Wait>(
         &self,
@@ -371,6 +397,7 @@ impl<
             ≡ worker.old.tally.turns + turns_due orders.old.items }
         ensures capacity { vec_capacity orders.new ≡ vec_capacity orders.old }
     {
+        self.run_left_out(rt, orders, group, worker);
         for _ in 0..MOST_ROUNDS {
             self.run_next_turns(rt, orders, group, worker);
             if !self.run_round(rt, orders, worker) {
