@@ -110,10 +110,7 @@ impl Roll {
 }
 
 // What the roll says of these modules.
-fn all_loaded(
-    alloc: Global,
-    modules: &[LoadedModule],
-) -> Result<Vec<EnrolledModule>, AllocError>
+fn all_loaded(alloc: Global, modules: &[LoadedModule]) -> Result<Vec<EnrolledModule>, AllocError>
     ensures { IfOk result (λ list. map view_listed_module list.items ≡ modules_from 0 modules.now) }
 {
     let mut list = Vec::with_capacity(alloc, modules.len())?;

@@ -43,13 +43,7 @@ fn transcript_of(
     let params = params_of(alloc, entry.given, tenant.inputs())?;
     let calls = tenant.journal().copies(alloc)?;
     let bytes = Arc::try_clone(bytes)?;
-    Ok(Transcript::new(
-        bytes,
-        params,
-        calls,
-        entry.copied,
-        tenant.waiting_for(),
-    ))
+    Ok(Transcript::new(bytes, params, calls, entry.copied, tenant.waiting_for()))
 }
 
 impl Host {
