@@ -101,23 +101,23 @@ def of_requests():
     with Host() as host:
         seven, trapping = host.load(pool("seven")), host.load(pool("trapping"))
         a, dead = host.admit(seven, max=16), host.admit(trapping, max=16, fuel=MOST)
-        host.run()
-        yield code_of(lambda: host.invoke(dead, "f"))
-        yield code_of(lambda: host.invoke(a, "g"))
-        yield code_of(lambda: host.invoke(a, b"\xff"))
-        yield code_of(lambda: host.invoke(a, "f", [1]))
+        host.run(MOST)
+        yield code_of(lambda: host.invoke(dead, "f", fuel=MOST))
+        yield code_of(lambda: host.invoke(a, "g", fuel=MOST))
+        yield code_of(lambda: host.invoke(a, b"\xff", fuel=MOST))
+        yield code_of(lambda: host.invoke(a, "f", [1], fuel=MOST))
         yield code_of(lambda: host.refuel(a, 1))
         yield code_of(lambda: host.status(a, 1))
         for _ in range(1024):
-            host.invoke(a, "f")
-        yield code_of(lambda: host.invoke(a, "f"))
+            host.invoke(a, "f", fuel=MOST)
+        yield code_of(lambda: host.invoke(a, "f", fuel=MOST))
         for at in range(1025, 65536):
-            host.run()
-            assert host.invoke(a, "f") == at
-        host.run()
-        yield code_of(lambda: host.invoke(a, "f"))
+            host.run(MOST)
+            assert host.invoke(a, "f", fuel=MOST) == at
+        host.run(MOST)
+        yield code_of(lambda: host.invoke(a, "f", fuel=MOST))
         host.release(a)
-        yield code_of(lambda: host.invoke(a, "f"))
+        yield code_of(lambda: host.invoke(a, "f", fuel=MOST))
 
 
 # Calls that trap: of which module, of which export, with which arguments.
@@ -134,8 +134,8 @@ def trap_of(name, export, args, times=1):
     """The code of the last of so many calls of a new instance."""
     with Host() as host:
         instance = host.admit(host.load(pool(name)), max=48, fuel=MOST)
-        calls = [host.invoke(instance, export, args) for _ in range(times)]
-        host.run()
+        calls = [host.invoke(instance, export, args, fuel=MOST) for _ in range(times)]
+        host.run(MOST)
         return host.status(instance, calls[-1]).fault
 
 

@@ -1,5 +1,6 @@
 """A script driven through the library, answered as wasmhost answers it: the lines are read by the second model of scripts
 (crates/test_sessions/model), and what they ask is asked of a host behind a handle."""
+import itertools
 import os
 import sys
 
@@ -128,15 +129,16 @@ class Driven(Session):
         self.calls.append(call)
         words = self.passed(held, export, [int(word) for word in numbers(words)])
         try:
-            call.place = self.asked(lambda: self.host.invoke(held.instance, export, words, fuel))
+            call.place = self.asked(lambda: self.host.invoke(held.instance, export, words, fuel=fuel))
         except Refused as refused:
             call.last = f"{call.name} refused {refused.args[0]}"
 
     def passed(self, held, export, words):
-        """The arguments as numbers of 64 bits; too many, where one is out of the range of its type and can't be passed so."""
+        """The arguments as numbers of 64 bits; too many, where one is out of the range of its type, or of all, and can't be passed
+        so."""
         exports = {name: index for name, kind, index in held.module.exports if kind == 0}
         params = held.module.type_of(exports[export])[0] if export in exports else []
-        for word, kind in zip(words, params):
+        for word, kind in itertools.zip_longest(words, params[: len(words)]):
             if not -(1 << 63) <= word < (1 << 63 if kind == I32 else 1 << 64):
                 return TOO_MANY
         return words

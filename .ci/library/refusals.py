@@ -6,7 +6,7 @@ import ctypes
 import itertools
 
 from codes import named, pool
-from driven import wolqedir
+from driven import MOST, wolqedir
 from wolqedir import Host, Refused
 
 # By which codes a call may say that room was refused.
@@ -98,13 +98,13 @@ def all_refused():
         instance = watched.tried("admit", lambda: host.admit(number, max=32, fuel=1000, inputs=[1, 2, 3]))
         watched.instances.append(instance)
     hosted, wide, pages, _ = watched.instances
-    watched.tried("invoke", lambda: host.invoke(hosted, "put", [7]))
-    watched.tried("invoke", lambda: host.invoke(wide, "mix", [1, 2, 3], 2))
-    watched.tried("invoke", lambda: host.invoke(pages, "set", [5, 6]))
+    watched.tried("invoke", lambda: host.invoke(hosted, "put", [7], fuel=MOST))
+    watched.tried("invoke", lambda: host.invoke(wide, "mix", [1, 2, 3], fuel=2))
+    watched.tried("invoke", lambda: host.invoke(pages, "set", [5, 6], fuel=MOST))
     watched.tried("run", lambda: host.run(3))
-    watched.tried("run", host.run)
+    watched.tried("run", lambda: host.run(MOST))
     watched.tried("refuel", lambda: host.refuel(wide, 1000))
-    watched.tried("run", host.run)
+    watched.tried("run", lambda: host.run(MOST))
     watched.tried("scan", host.scan)
     watched.tried("epoch", host.epoch)
     watched.tried("report", host.report)

@@ -1,6 +1,6 @@
 """The turns of runs: each instance that can go on has one of 1000 charges at most before the next one has."""
 from codes import pool
-from wolqedir import Host
+from wolqedir import MOST, Host
 
 QUANTUM = 1000
 RUNS = (3000, 1, 1500, 10, 999, 2001, 4, 7000, 2)
@@ -11,7 +11,7 @@ def alike():
     with Host() as host:
         spin = host.load(pool("spin"))
         callers = [host.admit(spin, max=16) for _ in range(3)]
-        calls = [(caller, host.invoke(caller, "f")) for caller in callers]
+        calls = [(caller, host.invoke(caller, "f", fuel=MOST)) for caller in callers]
         line, wanted = [0, 1, 2], [0, 0, 0]
         for charges in RUNS:
             left = charges

@@ -5,18 +5,51 @@ ctypes. WOLQEDIR_SO names the shared library, which docs/guide/library.md says h
         module = host.load(open("hello.wasm", "rb").read())
         instance = host.admit(module, inputs=[40, 2])
         call = host.invoke(instance, "run", fuel=1000)
-        host.run()
+        host.run(1000000)
         print(host.status(instance, call))
 
-Whatever is refused raises Refused, with the code and its sentence; the host is as it was then."""
+What the library refuses raises Refused, with the code and its sentence. A number beyond its range raises OverflowError, what is no
+integer TypeError, an instance of another host ValueError; the library isn't asked then. The host is as it was at each of these."""
 import ctypes
+import functools
+import itertools
+import operator
 import os
+import threading
 from ctypes import POINTER, Structure, byref, c_int64, c_size_t, c_uint8, c_uint32, c_uint64, c_void_p
+from dataclasses import dataclass
 from typing import NamedTuple, Optional
+
+__version__ = "0.1.0"
 
 KINDS = {1: "waiting", 2: "going", 3: "fuel", 4: "frame", 5: "device", 6: "returned", 7: "trapped", 8: "cancelled", 9: "dead"}
 FAMILIES = " DVLMAHTS"
 MOST = 2**64 - 1
+SLICE = 1000000
+SERIALS = itertools.count()
+
+
+def within(what, value, least, most):
+    """The integer, which has to be one from `least` to `most`, else OverflowError; TypeError where it is none."""
+    value = operator.index(value)
+    if not least <= value <= most:
+        raise OverflowError(f"{what} is {value}, and has to be a number from {least} to {most}")
+    return value
+
+
+def u32(what, value):
+    """An integer from 0 to 2^32 - 1."""
+    return within(what, value, 0, 2**32 - 1)
+
+
+def u64(what, value):
+    """An integer from 0 to 2^64 - 1."""
+    return within(what, value, 0, MOST)
+
+
+def word(what, value, bits=64):
+    """The bits of an integer from -2^(bits - 1) to 2^bits - 1, which is signed or unsigned."""
+    return within(what, value, -(2 ** (bits - 1)), 2**bits - 1) % 2**bits
 
 
 class Handle(Structure):
@@ -25,10 +58,18 @@ class Handle(Structure):
     _fields_ = [("full", c_uint32), ("at", c_void_p)]
 
 
-class Instance(Structure):
-    """An instance, as it was admitted."""
-
+class RawInstance(Structure):
     _fields_ = [("place", c_uint64), ("number", c_uint64)]
+
+
+@dataclass(frozen=True)
+class Instance:
+    """An instance, as it was admitted: the serial of its host, which no other host of the process has; its place there, which may
+    be given again; and its number, which isn't. It compares, hashes and pickles by these."""
+
+    host: int
+    place: int
+    number: int
 
 
 class Params(Structure):
@@ -49,7 +90,7 @@ class RawReport(Structure):
 
 
 class RawRow(Structure):
-    _fields_ = [("instance", Instance)]
+    _fields_ = [("instance", RawInstance)]
     _fields_ += [(name, c_uint32) for name in ("shares", "min", "max", "charged", "active", "swapped")]
 
 
@@ -116,12 +157,15 @@ class Refused(Exception):
     own."""
 
     def __init__(self, code):
-        super().__init__(f"{fault_of(code) or code}: {code_text(code)}")
+        super().__init__(code)
         self.code, self.fault = code, fault_of(code)
+
+    def __str__(self):
+        return f"{self.fault or self.code}: {code_text(self.code)}"
 
 
 # The exports by their names, with the types of their parameters as the header has them.
-HOST, BYTES, LENGTH, IT = POINTER(Handle), POINTER(c_uint8), POINTER(c_size_t), POINTER(Instance)
+HOST, BYTES, LENGTH, IT = POINTER(Handle), POINTER(c_uint8), POINTER(c_size_t), POINTER(RawInstance)
 EXPORTS = {
     "wq_host_new": [HOST, c_uint32, c_uint32, c_uint32, c_uint32],
     "wq_host_free": [HOST],
@@ -162,8 +206,9 @@ def array(kind, items):
 
 
 def octets(data):
-    """An array of these bytes, as above."""
-    return (c_uint8 * max(len(data), 1)).from_buffer_copy(data or b"\0")
+    """An array of these bytes, as above, and how many they are. A view of words has all their bytes."""
+    data = bytes(memoryview(data))
+    return (c_uint8 * max(len(data), 1)).from_buffer_copy(data or b"\0"), len(data)
 
 
 def signed(value, bits):
@@ -176,12 +221,17 @@ def fault_of(code):
     return f"{FAMILIES[code >> 8]}{code & 255}" if 0 < code >> 8 < len(FAMILIES) else None
 
 
+def must(code):
+    """Raises what was refused."""
+    if code:
+        raise Refused(code)
+
+
 def laid(call, kind=c_uint8):
     """What a call lays into a room, as a list: first it tells how many items there are. What it refuses is raised."""
     room, length, cap = array(kind, []), c_size_t(), 0
     while True:
-        if code := call(room, cap, byref(length)):
-            raise Refused(code)
+        must(call(room, cap, byref(length)))
         if length.value <= cap:
             return room[: length.value]
         room, cap = (kind * length.value)(), length.value
@@ -194,19 +244,47 @@ def reported(row):
 
 
 def code_text(code):
-    """The sentence for a code, or None."""
+    """The sentence for a code, 0 to 2^32 - 1, or None."""
     room, length = (c_uint8 * 128)(), c_size_t()
-    if lib.wq_code_text(code, room, len(room), byref(length)):
+    if lib.wq_code_text(u32("code", code), room, len(room), byref(length)):
         return None
     return bytes(room[: min(length.value, len(room))]).decode()
 
 
+def entries(words):
+    """The calls that these words tell of."""
+    while words:
+        function, fuel, pieces, charges, kind, count, result, n = words[:8]
+        result = result if kind == 7 or count else None
+        function = None if function == MOST else function
+        yield Entry(function, words[8 : 8 + n], fuel, pieces, charges, KINDS.get(kind, "open"), result)
+        words = words[8 + n :]
+
+
+def alone(method):
+    """A method that one thread at a time calls of a host. Who waits for it goes before the next slice of a run."""
+
+    @functools.wraps(method)
+    def called(self, *args, **named):
+        with self.door, self.lock:
+            return method(self, *args, **named)
+
+    return called
+
+
 class Host:
-    """A host. One thread at a time may call it. It is let go at the end of a `with`, or by `close`."""
+    """A host. Threads may share it: one call at a time is made, between two slices of a run. A signal's handler may call it too, but
+    for `release` within `release`, which raises RuntimeError; the child of a fork may not. It is let go at the end of a `with`, or by
+    `close`; then each call raises Refused, by code 1."""
 
     def __init__(self, frames=1024, slots=4096, tax=(3, 4)):
-        self.handle = Handle()  # all bytes 0: no host
-        self.must(lib.wq_host_new(self.handle, frames, slots, *tax))
+        """Makes a host with so many frames of 4096 bytes and slots for swapped pages, 0 to 2^32 - 1 each, and with this tax on idle
+        frames, a pair of numerator and denominator."""
+        self.handle, self.serial = Handle(), next(SERIALS)  # All bytes 0: no host.
+        self.door, self.lock, self.releases = threading.RLock(), threading.RLock(), False
+        num, den = tax
+        frames, slots, num, den = u32("frames", frames), u32("slots", slots), u32("tax[0]", num), u32("tax[1]", den)
+        must(lib.wq_host_new(self.handle, frames, slots, num, den))
 
     def __enter__(self):
         return self
@@ -215,93 +293,121 @@ class Host:
         self.close()
 
     def __del__(self):
-        self.close()
+        if hasattr(self, "lock"):  # Else it was never made.
+            self.close()
 
+    @alone
     def close(self):
         """Lets the host go. A second time does no harm."""
         lib.wq_host_free(self.handle)
 
-    @staticmethod
-    def must(code):
-        """Raises what was refused."""
-        if code:
-            raise Refused(code)
+    def named(self, instance):
+        """The instance for the library. That of another host raises ValueError."""
+        if not isinstance(instance, Instance):
+            raise TypeError(f"an Instance is wanted, and not {type(instance).__name__}")
+        if instance.host != self.serial:
+            raise ValueError("the instance is of another host")
+        return RawInstance(u64("place", instance.place), u64("number", instance.number))
 
+    @alone
     def load(self, data):
-        """Keeps a module: its number."""
-        number = c_size_t()
-        self.must(lib.wq_load(self.handle, octets(data), len(data), byref(number)))
+        """Keeps the module of these bytes, or whatever else has a buffer: its number."""
+        (room, length), number = octets(data), c_size_t()
+        must(lib.wq_load(self.handle, room, length, byref(number)))
         return number.value
 
+    @alone
     def admit(self, module, shares=100, min=2, max=64, fuel=0, salt=0, base=0, inputs=()):
-        """Admits an instance of a module. `salt`, `base` and inputs are numbers in the bits of their types, signed or not."""
-        params = Params(shares, min, max, fuel, salt & MOST, base & 0xFFFFFFFF)
-        words, instance = array(c_uint64, [word & MOST for word in inputs]), Instance()
-        self.must(lib.wq_admit(self.handle, module, params, words, len(inputs), instance))
-        return instance
+        """Admits an instance of a module. `fuel` is for its start. The module's number, `shares`, `min`, `max` and `fuel` are 0 to
+        2^64 - 1; `salt` and each input -2^63 to 2^64 - 1, `base` -2^31 to 2^32 - 1, in the bits of their types, signed or not."""
+        given = [u64(*pair) for pair in (("shares", shares), ("min", min), ("max", max), ("fuel", fuel))]
+        params = Params(*given, word("salt", salt), word("base", base, 32))
+        words, raw = [word("an input", item) for item in inputs], RawInstance()
+        must(lib.wq_admit(self.handle, u64("module", module), params, array(c_uint64, words), len(words), raw))
+        return Instance(self.serial, raw.place, raw.number)
 
-    def invoke(self, instance, name, args=(), fuel=MOST):
-        """Asks for a call, and runs nothing: its place among the calls of the instance, of which the start is 0."""
-        data, call = name.encode() if isinstance(name, str) else name, c_uint32()
-        words = array(c_int64, [signed(arg & MOST, 64) for arg in args])
-        self.must(lib.wq_invoke(self.handle, instance, octets(data), len(data), words, len(args), fuel, byref(call)))
+    @alone
+    def invoke(self, instance, name, args=(), *, fuel):
+        """Asks for a call that may take so many charges, 0 to 2^64 - 1, and runs nothing: its place among the calls of the
+        instance, of which the start is 0. The name is a text or bytes. Each argument is -2^63 to 2^64 - 1, and is passed by the
+        signed reading of its 64 bits."""
+        room, length = octets(name.encode() if isinstance(name, str) else name)
+        words, call = [signed(word("an argument", arg), 64) for arg in args], c_uint32()
+        given = array(c_int64, words), len(words), u64("fuel", fuel)
+        must(lib.wq_invoke(self.handle, self.named(instance), room, length, *given, byref(call)))
         return call.value
 
-    def run(self, charges=MOST):
-        """Lets all calls go on, until none can or they have taken so many charges together."""
-        progress = Progress()
-        self.must(lib.wq_run(self.handle, charges, progress))
-        return Ran(progress.charges, progress.goes_on != 0)
+    def run(self, charges):
+        """Lets all calls go on, until none can or they have taken so many charges together, 0 to 2^64 - 1. It does so by slices of
+        1000000, between which signals are handled, as the keyboard's, and other threads have their calls. Each slice that begins
+        behind 1000000 charges begins an epoch."""
+        left, taken = u64("charges", charges), 0
+        while True:
+            with self.door:
+                pass  # Whoever waits goes first.
+            with self.lock:
+                progress = Progress()
+                must(lib.wq_run(self.handle, min(left, SLICE), progress))
+            left, taken = left - progress.charges, taken + progress.charges
+            if left == 0 or not progress.goes_on:
+                return Ran(taken, progress.goes_on != 0)
 
+    @alone
     def status(self, instance, call):
-        """How far a call is."""
+        """How far a call is, which is 0 to 2^32 - 1."""
         told = Told()
-        self.must(lib.wq_status_of(self.handle, instance, call, told))
+        must(lib.wq_status_of(self.handle, self.named(instance), u32("call", call), told))
         value = signed(told.value, told.bits) if told.bits else None
         return Status(KINDS[told.kind], value, told.charges, fault_of(told.code))
 
+    @alone
     def refuel(self, instance, fuel):
-        """Gives the present call so much more fuel."""
-        self.must(lib.wq_refuel(self.handle, instance, fuel))
+        """Gives the present call so much more fuel, 0 to 2^64 - 1."""
+        must(lib.wq_refuel(self.handle, self.named(instance), u64("fuel", fuel)))
 
+    @alone
     def retry(self, instance):
         """Lets the present call try again where the swap device has failed."""
-        self.must(lib.wq_retry(self.handle, instance))
+        must(lib.wq_retry(self.handle, self.named(instance)))
 
+    @alone
     def cancel(self, instance):
         """Ends the present call where it is."""
-        self.must(lib.wq_cancel(self.handle, instance))
+        must(lib.wq_cancel(self.handle, self.named(instance)))
 
+    @alone
     def release(self, instance):
         """Lets an instance go: the bytes that it had put out."""
-        length = c_size_t()
-        self.must(lib.wq_release(self.handle, instance, byref(length)))
-        return bytes(laid(lambda room, cap, into: lib.wq_taken(self.handle, room, cap, into)))
+        if self.releases:
+            raise RuntimeError("an instance is being released")
+        self.releases = True
+        try:
+            must(lib.wq_release(self.handle, self.named(instance), byref(c_size_t())))
+            return bytes(laid(lambda room, cap, into: lib.wq_taken(self.handle, room, cap, into)))
+        finally:
+            self.releases = False
 
+    @alone
     def scan(self):
         """Merges equal pages. No instance sees it."""
-        self.must(lib.wq_scan(self.handle))
+        must(lib.wq_scan(self.handle))
 
+    @alone
     def epoch(self):
         """Marks all pages as not touched."""
-        self.must(lib.wq_epoch(self.handle))
+        must(lib.wq_epoch(self.handle))
 
+    @alone
     def report(self):
         """How the frames, slots and pages are used, and what each instance has of them, by number."""
         raw = RawReport()
-        self.must(lib.wq_report_of(self.handle, raw))
+        must(lib.wq_report_of(self.handle, raw))
         rows = laid(lambda room, cap, into: lib.wq_instance_reports(self.handle, room, cap, into), RawRow)
         used = raw.frames, raw.used_frames, raw.slots, raw.used_slots, raw.shared_frames, raw.sharers
         return Report(*used, (raw.tax_num, raw.tax_den), [reported(row) for row in rows])
 
+    @alone
     def transcript(self, instance):
         """The calls of an instance in the order of their coming, the first of which is the start."""
-        words = laid(lambda room, cap, into: lib.wq_transcript_of(self.handle, instance, room, cap, into), c_uint64)
-        calls = []
-        while words:
-            function, fuel, pieces, charges, kind, count, word, n = words[:8]
-            result = word if kind == 7 or count else None
-            function = None if function == MOST else function
-            calls.append(Entry(function, words[8 : 8 + n], fuel, pieces, charges, KINDS.get(kind, "open"), result))
-            words = words[8 + n :]
-        return calls
+        raw = self.named(instance)
+        return list(entries(laid(lambda room, cap, into: lib.wq_transcript_of(self.handle, raw, room, cap, into), c_uint64)))

@@ -12,6 +12,8 @@ pub enum Error {
     Tax,
     /// There is no such instance, or no such call of it.
     Unknown,
+    /// The instance or the module is of another host. This crate says so, and asks nothing of the library.
+    OtherHost,
     /// Frames and slots are 2^32 together or more.
     Large,
     /// D: the bytes aren't a module.
@@ -31,12 +33,12 @@ pub enum Error {
 }
 
 impl Error {
-    /// The code of the library.
+    /// The code of the library; for `OtherHost`, which it never says, that of what isn't there.
     pub fn code(self) -> u32 {
         match self {
             Error::Memory => 2,
             Error::Tax => 4,
-            Error::Unknown => 6,
+            Error::Unknown | Error::OtherHost => 6,
             Error::Large => 7,
             Error::Decode(number) => 0x100 + u32::from(number),
             Error::Valid(number) => 0x200 + u32::from(number),
@@ -79,6 +81,9 @@ pub fn code_text(code: u32) -> Option<String> {
 
 impl fmt::Display for Error {
     fn fmt(&self, f: &mut fmt::Formatter<'_>) -> fmt::Result {
+        if *self == Error::OtherHost {
+            return write!(f, "the instance or the module is of another host");
+        }
         let code = self.code();
         match code_text(code) {
             Some(text) => write!(f, "{text} (code {code:#x})"),

@@ -10,11 +10,15 @@ pub use error::{code_text, Error};
 use error::answer;
 use std::marker::PhantomData;
 use std::ptr;
+use std::sync::atomic::{AtomicU64, Ordering};
 
-/// An instance, as it was admitted. Its number is never given again.
-#[repr(C)]
+/// How many hosts were asked for: the serial of the next one. No two of a process have the same.
+static HOSTS: AtomicU64 = AtomicU64::new(0);
+
+/// An instance of one host, as it was admitted. Its number is never given again there.
 #[derive(Clone, Copy, Debug, PartialEq, Eq, Hash)]
 pub struct Instance {
+    host: u64,
     place: u64,
     number: u64,
 }
@@ -26,9 +30,12 @@ impl Instance {
     }
 }
 
-/// The number of a module in its host.
+/// A module of one host.
 #[derive(Clone, Copy, Debug, PartialEq, Eq, Hash)]
-pub struct Module(usize);
+pub struct Module {
+    host: u64,
+    number: usize,
+}
 
 /// What its owner gives an instance.
 #[derive(Clone, Copy, Debug)]
@@ -134,9 +141,9 @@ pub struct Report {
 }
 
 /// What an instance has of a host's memory.
-#[repr(C)]
 #[derive(Clone, Copy, Debug, PartialEq, Eq)]
 pub struct InstanceReport {
+    /// Which it is.
     pub instance: Instance,
     /// Its shares of memory.
     pub shares: u32,
@@ -150,19 +157,6 @@ pub struct InstanceReport {
     pub active: u32,
     /// How many of its pages are swapped.
     pub swapped: u32,
-}
-
-impl InstanceReport {
-    /// What a room for one has before it is written.
-    const NONE: InstanceReport = InstanceReport {
-        instance: Instance { place: 0, number: 0 },
-        shares: 0,
-        min: 0,
-        max: 0,
-        charged: 0,
-        active: 0,
-        swapped: 0,
-    };
 }
 
 /// A call of a transcript.
@@ -212,8 +206,11 @@ impl Entry {
 }
 
 /// A host. It stays on its thread: that it may go to another one isn't proved.
+///
+/// What is given an instance or a module of another host answers `OtherHost`, and does nothing.
 pub struct Host {
     handle: sys::Handle,
+    serial: u64,
 }
 
 impl Host {
@@ -226,7 +223,21 @@ impl Host {
         let Settings { frames, slots, tax: (num, den) } = settings;
         // SAFETY: all bytes 0 is a handle without a host, and nobody else has it.
         answer(unsafe { sys::wq_host_new(&mut handle, frames, slots, num, den) })?;
-        Ok(Host { handle })
+        Ok(Host { handle, serial: HOSTS.fetch_add(1, Ordering::Relaxed) })
+    }
+
+    /// The instance as the library names it, if it is of this host.
+    fn named(&self, instance: Instance) -> Result<sys::Instance, Error> {
+        let Instance { host, place, number } = instance;
+        if host != self.serial {
+            return Err(Error::OtherHost);
+        }
+        Ok(sys::Instance { place, number })
+    }
+
+    /// The instance of this host that the library names so.
+    fn owned(&self, instance: sys::Instance) -> Instance {
+        Instance { host: self.serial, place: instance.place, number: instance.number }
     }
 
     /// Keeps a module.
@@ -237,31 +248,32 @@ impl Host {
         let mut number = 0;
         // SAFETY: here and below, the handle is ours alone, slices are as long as they say, and the rest can be read and written.
         answer(unsafe { sys::wq_load(&mut self.handle, bytes.as_ptr(), bytes.len(), &mut number) })?;
-        Ok(Module(number))
+        Ok(Module { host: self.serial, number })
     }
 
     /// Admits an instance of a module.
     ///
     /// # Errors
-    /// `Admit`; `Memory`.
+    /// `OtherHost`; `Admit`; `Memory`.
     pub fn admit(&mut self, module: Module, params: Params<'_>) -> Result<Instance, Error> {
         let Params { shares, min, max, fuel, salt, base, inputs } = params;
-        let given = sys::Given { shares, min, max, fuel, salt, base };
-        let mut instance = Instance { place: 0, number: 0 };
+        if module.host != self.serial {
+            return Err(Error::OtherHost);
+        }
+        let given = sys::Params { shares, min, max, fuel, salt, base };
+        let (words, n, mut instance) = (inputs.as_ptr(), inputs.len(), sys::Instance::default());
         // SAFETY: as in `load`.
-        answer(unsafe {
-            sys::wq_admit(&mut self.handle, module.0, &given, inputs.as_ptr(), inputs.len(), &mut instance)
-        })?;
-        Ok(instance)
+        answer(unsafe { sys::wq_admit(&mut self.handle, module.number, &given, words, n, &mut instance) })?;
+        Ok(self.owned(instance))
     }
 
     /// Asks for a call, and runs nothing: its place among the calls of the instance, of which the start is 0. An argument is a
     /// number in the bits of its type, signed or unsigned.
     ///
     /// # Errors
-    /// `Ask`; `Memory`.
+    /// `OtherHost`; `Ask`; `Memory`.
     pub fn invoke(&mut self, instance: Instance, name: &str, args: &[i64], fuel: u64) -> Result<u32, Error> {
-        let mut call = 0;
+        let (instance, mut call) = (self.named(instance)?, 0);
         // SAFETY: as in `load`.
         answer(unsafe {
             sys::wq_invoke(
@@ -289,9 +301,9 @@ impl Host {
     /// How far a call is. `&mut`, since a call of the library takes the host out of its handle and puts it back.
     ///
     /// # Errors
-    /// `Unknown`.
+    /// `OtherHost`; `Unknown`.
     pub fn status(&mut self, instance: Instance, call: u32) -> Result<Status, Error> {
-        let mut status = sys::Status::default();
+        let (instance, mut status) = (self.named(instance)?, sys::Status::default());
         // SAFETY: as in `load`.
         answer(unsafe { sys::wq_status_of(&mut self.handle, &instance, call, &mut status) })?;
         let state = match status.kind {
@@ -315,8 +327,9 @@ impl Host {
     /// Gives the present call of an instance so much more fuel.
     ///
     /// # Errors
-    /// `Ask`.
+    /// `OtherHost`; `Ask`.
     pub fn refuel(&mut self, instance: Instance, fuel: u64) -> Result<(), Error> {
+        let instance = self.named(instance)?;
         // SAFETY: as in `load`.
         answer(unsafe { sys::wq_refuel(&mut self.handle, &instance, fuel) })
     }
@@ -324,8 +337,9 @@ impl Host {
     /// Lets the present call try again where the swap device has failed.
     ///
     /// # Errors
-    /// `Ask`.
+    /// `OtherHost`; `Ask`.
     pub fn retry(&mut self, instance: Instance) -> Result<(), Error> {
+        let instance = self.named(instance)?;
         // SAFETY: as in `load`.
         answer(unsafe { sys::wq_retry(&mut self.handle, &instance) })
     }
@@ -333,8 +347,9 @@ impl Host {
     /// Ends the present call of an instance where it is.
     ///
     /// # Errors
-    /// `Ask`.
+    /// `OtherHost`; `Ask`.
     pub fn cancel(&mut self, instance: Instance) -> Result<(), Error> {
+        let instance = self.named(instance)?;
         // SAFETY: as in `load`.
         answer(unsafe { sys::wq_cancel(&mut self.handle, &instance) })
     }
@@ -342,9 +357,9 @@ impl Host {
     /// Lets an instance go: the bytes that it had put out.
     ///
     /// # Errors
-    /// `Ask`.
+    /// `OtherHost`; `Ask`.
     pub fn release(&mut self, instance: Instance) -> Result<Vec<u8>, Error> {
-        let mut len = 0;
+        let (instance, mut len) = (self.named(instance)?, 0);
         // SAFETY: as in `load`.
         answer(unsafe { sys::wq_release(&mut self.handle, &instance, &mut len) })?;
         let mut output = vec![0; len];
@@ -371,9 +386,9 @@ impl Host {
     /// The calls of an instance in the order of their coming, the first of which is the start.
     ///
     /// # Errors
-    /// `Ask`; `Memory`.
+    /// `OtherHost`; `Ask`; `Memory`.
     pub fn transcript(&mut self, instance: Instance) -> Result<Vec<Entry>, Error> {
-        let mut words = Vec::new();
+        let (instance, mut words) = (self.named(instance)?, Vec::new());
         loop {
             let mut len = 0;
             let cap = words.len();
@@ -402,10 +417,10 @@ impl Host {
         let mut raw = sys::Report::default();
         // SAFETY: as in `load`.
         answer(unsafe { sys::wq_report_of(&mut self.handle, &mut raw) })?;
-        let mut instances = vec![InstanceReport::NONE; raw.instances];
-        let (cap, mut len) = (instances.len(), 0);
+        let mut rows = vec![sys::InstanceReport::default(); raw.instances];
+        let (cap, mut len) = (rows.len(), 0);
         // SAFETY: as in `load`; the room is initialised up to its length, which is that of the rows.
-        answer(unsafe { sys::wq_instance_reports(&mut self.handle, instances.as_mut_ptr(), cap, &mut len) })?;
+        answer(unsafe { sys::wq_instance_reports(&mut self.handle, rows.as_mut_ptr(), cap, &mut len) })?;
         Ok(Report {
             frames: raw.frames,
             used_frames: raw.used_frames,
@@ -414,8 +429,14 @@ impl Host {
             shared_frames: raw.shared_frames,
             sharers: raw.sharers,
             tax: (raw.tax_num, raw.tax_den),
-            instances,
+            instances: rows.into_iter().map(|row| self.shown(row)).collect(),
         })
+    }
+
+    /// What the library says of an instance.
+    fn shown(&self, row: sys::InstanceReport) -> InstanceReport {
+        let sys::InstanceReport { instance, shares, min, max, charged, active, swapped } = row;
+        InstanceReport { instance: self.owned(instance), shares, min, max, charged, active, swapped }
     }
 }
 

@@ -10,8 +10,15 @@ pub struct Handle {
 }
 
 #[repr(C)]
+#[derive(Clone, Copy, Default)]
+pub struct Instance {
+    pub place: u64,
+    pub number: u64,
+}
+
+#[repr(C)]
 #[derive(Clone, Copy)]
-pub struct Given {
+pub struct Params {
     pub shares: u64,
     pub min: u64,
     pub max: u64,
@@ -51,6 +58,18 @@ pub struct Report {
     pub instances: usize,
 }
 
+#[repr(C)]
+#[derive(Clone, Copy, Default)]
+pub struct InstanceReport {
+    pub instance: Instance,
+    pub shares: u32,
+    pub min: u32,
+    pub max: u32,
+    pub charged: u32,
+    pub active: u32,
+    pub swapped: u32,
+}
+
 extern "C" {
     pub fn wq_host_new(host: *mut Handle, frames: u32, slots: u32, tax_num: u32, tax_den: u32) -> u32;
     pub fn wq_host_free(host: *mut Handle);
@@ -58,14 +77,14 @@ extern "C" {
     pub fn wq_admit(
         host: *mut Handle,
         module: usize,
-        params: *const Given,
+        params: *const Params,
         inputs: *const u64,
         n: usize,
-        instance: *mut crate::Instance,
+        instance: *mut Instance,
     ) -> u32;
     pub fn wq_invoke(
         host: *mut Handle,
-        instance: *const crate::Instance,
+        instance: *const Instance,
         name: *const u8,
         len: usize,
         args: *const i64,
@@ -74,24 +93,24 @@ extern "C" {
         call: *mut u32,
     ) -> u32;
     pub fn wq_run(host: *mut Handle, charges: u64, progress: *mut Progress) -> u32;
-    pub fn wq_status_of(host: *mut Handle, instance: *const crate::Instance, call: u32, status: *mut Status) -> u32;
-    pub fn wq_refuel(host: *mut Handle, instance: *const crate::Instance, fuel: u64) -> u32;
-    pub fn wq_retry(host: *mut Handle, instance: *const crate::Instance) -> u32;
-    pub fn wq_cancel(host: *mut Handle, instance: *const crate::Instance) -> u32;
-    pub fn wq_release(host: *mut Handle, instance: *const crate::Instance, len: *mut usize) -> u32;
+    pub fn wq_status_of(host: *mut Handle, instance: *const Instance, call: u32, status: *mut Status) -> u32;
+    pub fn wq_refuel(host: *mut Handle, instance: *const Instance, fuel: u64) -> u32;
+    pub fn wq_retry(host: *mut Handle, instance: *const Instance) -> u32;
+    pub fn wq_cancel(host: *mut Handle, instance: *const Instance) -> u32;
+    pub fn wq_release(host: *mut Handle, instance: *const Instance, len: *mut usize) -> u32;
     pub fn wq_taken(host: *mut Handle, room: *mut u8, cap: usize, len: *mut usize) -> u32;
     pub fn wq_scan(host: *mut Handle) -> u32;
     pub fn wq_epoch(host: *mut Handle) -> u32;
     pub fn wq_report_of(host: *mut Handle, report: *mut Report) -> u32;
     pub fn wq_instance_reports(
         host: *mut Handle,
-        room: *mut crate::InstanceReport,
+        room: *mut InstanceReport,
         cap: usize,
         len: *mut usize,
     ) -> u32;
     pub fn wq_transcript_of(
         host: *mut Handle,
-        instance: *const crate::Instance,
+        instance: *const Instance,
         room: *mut u64,
         cap: usize,
         len: *mut usize,

@@ -1,0 +1,71 @@
+//! Two hosts of one process: what is of one is refused by the other, which stays as it was.
+use std::collections::HashSet;
+use wolqedir::{Error, Host, Instance, Module, Params, Settings, State};
+
+const PARAMS: Params<'_> = Params { shares: 100, min: 2, max: 16, fuel: 100, salt: 0, base: 0, inputs: &[40, 2] };
+
+/// A host with an instance of the module that the examples run.
+fn hosted() -> Result<(Host, Module, Instance), Error> {
+    let mut host = Host::new(Settings::default())?;
+    let module = host.load(include_bytes!("../../../examples/hello.wasm"))?;
+    let instance = host.admit(module, PARAMS)?;
+    Ok((host, module, instance))
+}
+
+#[test]
+fn an_instance_of_another_host_is_refused() -> Result<(), Error> {
+    let (mut one, _, mine) = hosted()?;
+    let (mut other, _, theirs) = hosted()?;
+    assert_eq!((mine.number(), theirs.number()), (0, 0));
+    assert_ne!(mine, theirs);
+    let before = other.report()?;
+    assert_eq!(other.invoke(mine, "run", &[], 1000), Err(Error::OtherHost));
+    assert_eq!(other.status(mine, 0), Err(Error::OtherHost));
+    assert_eq!(other.refuel(mine, 1), Err(Error::OtherHost));
+    assert_eq!(other.retry(mine), Err(Error::OtherHost));
+    assert_eq!(other.cancel(mine), Err(Error::OtherHost));
+    assert_eq!(other.release(mine), Err(Error::OtherHost));
+    assert_eq!(other.transcript(mine), Err(Error::OtherHost));
+    assert_eq!(other.report()?, before);
+    let call = other.invoke(theirs, "run", &[], 1000)?;
+    other.run(1000);
+    assert!(matches!(other.status(theirs, call)?.state, State::Returned(_)));
+    // A word of 42, and a line.
+    assert_eq!(other.release(theirs)?, [&[42, 0, 0, 0, 0, 0, 0, 0], "hello\n".as_bytes()].concat());
+    assert_eq!(other.release(theirs), Err(Error::Ask(1)));
+    assert_eq!(one.release(mine)?, []);
+    Ok(())
+}
+
+#[test]
+fn a_module_of_another_host_is_refused() -> Result<(), Error> {
+    let (_, module, _) = hosted()?;
+    let (mut other, _, _) = hosted()?;
+    assert_eq!(other.admit(module, PARAMS), Err(Error::OtherHost));
+    assert_eq!(other.report()?.instances.len(), 1);
+    Ok(())
+}
+
+#[test]
+fn a_report_names_instances_of_its_host() -> Result<(), Error> {
+    let (mut host, _, instance) = hosted()?;
+    let told: Vec<Instance> = host.report()?.instances.iter().map(|row| row.instance).collect();
+    assert_eq!(told, [instance]);
+    Ok(())
+}
+
+#[test]
+fn no_host_has_the_serial_of_one_that_is_gone() -> Result<(), Error> {
+    let mut seen = HashSet::new();
+    for _ in 0..8 {
+        let (_, _, instance) = hosted()?;
+        assert!(seen.insert(instance), "{instance:?}");
+    }
+    Ok(())
+}
+
+#[test]
+fn the_error_says_what_is_wrong() {
+    assert_eq!(Error::OtherHost.to_string(), "the instance or the module is of another host");
+    assert_eq!(Error::OtherHost.code(), Error::Unknown.code());
+}
