@@ -3,9 +3,10 @@
 ARCHIVE is another libwolqedir.a than that which archive.py gives, and WASMHOST another program than crates/wasmhost/out/wasmhost.
 
 It needs gcc, cargo and python3, and ends with the name of the one that is missing. The examples are built, under the sanitizers
-where gcc has them, and have to print examples/library/hello.stdout; random scripts get of the library what they get of wasmhost;
-each code comes; turns are as the header says; a host that is let go gives back all memory; and where a request for memory is
-refused, the host is as it was."""
+where gcc has them, and have to print examples/library/hello.stdout, also over the library as it is installed; random scripts get of
+the library what they get of wasmhost; each code comes; turns are as the header says; a host that is let go gives back all memory;
+where a request for memory is refused, the host is as it was; and the bindings keep numbers in their ranges, hosts apart, and threads
+from one another."""
 import os
 import random
 import re
@@ -17,6 +18,8 @@ import tempfile
 HERE = os.path.dirname(os.path.abspath(__file__))
 ROOT = os.path.dirname(os.path.dirname(HERE))
 SCRIPTS = 300
+# Seconds, for what goes wrong by not ending.
+LONGEST = 300
 
 
 def run(words, **how):
@@ -35,16 +38,16 @@ def tools():
 
 
 def gather(given, folder):
-    """Puts the archive, and the C of the toolchain's heap, into a folder, and makes a shared library of both: one that counts blocks
-    of memory, and passes requests on, but for those that it is told to refuse."""
+    """Puts the archive, and the C of the toolchain's heap, into a folder, installs both there, and makes one more shared library of
+    them that counts blocks of memory, and passes requests on, but for those that it is told to refuse."""
     from archive import KIT, archive
 
     shutil.copy(given or archive(), os.path.join(folder, "libwolqedir.a"))
     shutil.copy(os.path.join(KIT, "c", "liblibc_c.a"), folder)
     parts = ["-Wl,--whole-archive", folder + "/libwolqedir.a", "-Wl,--no-whole-archive", folder + "/liblibc_c.a"]
-    shared = ["gcc", "-shared", "-fPIC", "-O1", "-o"]
-    run([*shared, folder + "/libwolqedir.so", *parts])
-    run([*shared, folder + "/refusing.so", HERE + "/refuse.c", *parts, "-Wl,--wrap=malloc,--wrap=realloc,--wrap=free"])
+    run(["sh", "bindings/c/install.sh", folder, folder + "/installed"])
+    shared = ["gcc", "-shared", "-fPIC", "-O1", "-o", folder + "/refusing.so", HERE + "/refuse.c", *parts]
+    run([*shared, "-Wl,--wrap=malloc,--wrap=realloc,--wrap=free"])
 
 
 def sanitizers(folder):
@@ -56,22 +59,27 @@ def sanitizers(folder):
 
 
 def examples(folder):
-    """The examples print what was worked out by hand."""
+    """The examples print what was worked out by hand, and the tests of the Rust crate pass."""
+    import installed
+
     flags = sanitizers(folder)
     program = folder + "/hello"
     libraries = [folder + "/libwolqedir.a", folder + "/liblibc_c.a"]
     warned = ["gcc", "-std=c11", "-Wall", "-Wextra", "-Werror", "-g", "-O1"]
     run([*warned, *flags, "-Ibindings/c", "examples/library/hello.c", *libraries, "-o", program])
-    cargo = ["cargo", "run", "-q", "--offline", "--release", "--manifest-path", "bindings/rust/Cargo.toml", "--example", "hello"]
+    cargo = ["-q", "--offline", "--release", "--manifest-path", "bindings/rust/Cargo.toml"]
+    rust = {"WOLQEDIR_LIB": folder, "CARGO_TARGET_DIR": folder + "/target"}
+    run(["cargo", "test", *cargo, "--tests"], env={**os.environ, **rust})
     with open(ROOT + "/examples/library/hello.stdout") as file:
         wanted = file.read()
     for words, settings in (
         ([program], {}),
-        (cargo, {"WOLQEDIR_LIB": folder, "CARGO_TARGET_DIR": folder + "/target"}),
+        (["cargo", "run", *cargo, "--example", "hello"], rust),
         (
             ["python3", "examples/library/hello.py"],
-            {"WOLQEDIR_SO": folder + "/libwolqedir.so", "PYTHONPATH": ROOT + "/bindings/python"},
+            {"WOLQEDIR_SO": folder + "/installed/lib/libwolqedir.so", "PYTHONPATH": ROOT + "/bindings/python"},
         ),
+        *installed.programs(folder + "/installed", folder),
     ):
         got = run(words, env={**os.environ, **settings})
         if got != wanted:
@@ -157,6 +165,28 @@ def sessions(program, folder):
     return count, calls, codes
 
 
+def bindings(folder):
+    """What the bindings owe beside the library, and what is installed."""
+    import hosts
+    import installed
+    import names
+    import ranges
+
+    exports, places = names.same()
+    print(f"{exports} exports and {places} places of structs are declared alike for Rattle, C, Rust and Python")
+    print(f"the shared library shows {installed.shown(folder + '/installed/lib/libwolqedir.so')} exports and nothing else")
+    print(f"the Rust crate says in {installed.missing(folder)} cases which library is missing")
+    ranges.slices()
+    print(f"{ranges.edges()} numbers at the edges of their ranges reach the library as they are, or raise")
+    hosts.serials()
+    hosts.values()
+    print(f"{hosts.apart()} acts on what is of another host raise, and {hosts.buffers()} kinds of buffers bring a module")
+    ran = subprocess.run(["python3", HERE + "/threads.py"], stdout=subprocess.PIPE, text=True, timeout=LONGEST)
+    if ran.returncode != 0:
+        sys.exit(f"threads.py: status {ran.returncode} behind\n{ran.stdout}")
+    print(f"threads and signals on one host: {', '.join(ran.stdout.split())}")
+
+
 def main(archive=None, program=ROOT + "/crates/wasmhost/out/wasmhost"):
     tools()
     sys.path.insert(0, HERE)
@@ -164,11 +194,11 @@ def main(archive=None, program=ROOT + "/crates/wasmhost/out/wasmhost"):
         gather(os.path.abspath(archive) if archive else None, folder)
         os.environ["WOLQEDIR_SO"] = folder + "/refusing.so"
         import codes
-        import names
         import refusals
         import turns
 
-        print(f"{names.same()} exports are declared alike for C, Rust and Python, and {codes.texts()} codes have their sentences")
+        bindings(folder)
+        print(f"{codes.texts()} codes have their sentences")
         print(f"the examples in C, Rust and Python print what they should, that in C {examples(folder)}")
         count, calls, seen = sessions(os.path.abspath(program) if program else None, folder)
         print(f"{SCRIPTS} random scripts, {count} replies: the library and wasmhost agree; {calls} calls of transcripts have their statuses")

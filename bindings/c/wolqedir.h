@@ -1,7 +1,8 @@
 /* wolqedir.h: a host of many WebAssembly instances on one memory, each of which gets what it would get alone.
  *
  * Link libwolqedir.a (`rt lib` in crates/wolqedir makes it in out/) and behind it liblibc_c.a (in the toolchain's folder c),
- * which calls malloc, realloc and free. docs/guide/library.md shows how, and examples/library/hello.c a whole program.
+ * which calls malloc, realloc and free; or the shared library that bindings/c/install.sh makes of both. docs/guide/library.md
+ * shows how, and examples/library/hello.c a whole program. Both want Linux and a processor of x86-64-v2 (SSE4.2, POPCNT).
  *
  * Promise (proved, for all bytes and arguments; the compiler, the C heap and your duties below are trusted): whatever is
  * asked in whatever order, a call's end, result and charges, and the bytes that an instance puts out, are those that the W3C
@@ -9,7 +10,9 @@
  *
  * Handles. A wq_host is one word and a tag, which the library alone writes. WQ_HOST_NONE, all bytes 0, holds no host. Don't
  * copy one while it holds a host, and don't change it. Calls before wq_host_new and after wq_host_free answer WQ_NONE and do
- * nothing, and so does a second wq_host_free; wq_host_new answers WQ_FULL where the handle holds a host.
+ * nothing, and so does a second wq_host_free; but wq_invoke looks at its name before (WQ_NAME), and wq_invoke and wq_admit copy
+ * what they are given (WQ_MEMORY). wq_host_new answers WQ_FULL where the handle holds a host. A wq_instance doesn't say whose it
+ * is: the same one may be there in two hosts.
  *
  * Pointers. Every pointer is valid for what it says, aligned, and not null, also where a length is 0; what a call may write
  * overlaps nothing else that it is given. Nothing is kept: bytes are copied in and out, and are yours again when the call
@@ -23,13 +26,23 @@
  * handler, nor in the child of a fork of a process with threads.
  *
  * Memory. malloc and realloc align blocks to 16 bytes, and may answer NULL: the call then answers a code, and the host is as
- * it was. wq_run, wq_scan, wq_epoch, wq_status_of, wq_taken, wq_refuel, wq_retry, wq_cancel and wq_release take no memory. A host takes
- * room for all its frames and slots when it is made; what isn't used costs addresses and no memory.
+ * it was. wq_run, wq_scan, wq_epoch, wq_status_of, wq_taken, wq_refuel, wq_retry, wq_cancel and wq_release take no memory. A
+ * host takes room for all its frames and slots when it is made. Of that 63 bytes a frame and 20 a slot are memory at once; 4096
+ * more of each are addresses until it is first used.
+ *
+ * Life. A host keeps 1024 modules, and lets none go before itself (M1). It has 4096 instances at once (A6). An instance has 65535
+ * calls beside its start (H6), 1024 of them open at once (H4); each takes 100 to 260 bytes until the instance is released. It puts
+ * out 65536 bytes at most (T9), which wq_taken has when it is released, and not before. None can go to another host.
  */
 #ifndef WOLQEDIR_H
 #define WOLQEDIR_H
 #include <stddef.h>
 #include <stdint.h>
+
+/* The version of this header: 10000 times the major number, 100 times the minor one, and the patch. */
+#define WQ_VERSION 100
+#define WQ_VERSION_TEXT "0.1.0"
+
 #ifdef __cplusplus
 extern "C" {
 #endif
@@ -131,7 +144,7 @@ wq_code wq_invoke(wq_host *host, const wq_instance *instance, const uint8_t *nam
                   uint64_t fuel, uint32_t *call);
 
 /* Lets all calls of all instances go on by turns, until none can or they have taken so many charges together. Each instance
- * has a turn of 1000 charges at most before the next one has. */
+ * has a turn of 1000 charges at most before the next one has. Nothing ends it before: give long runs in slices. */
 wq_code wq_run(wq_host *host, uint64_t charges, wq_progress *progress);
 
 /* How far a call is. WQ_UNKNOWN. */
@@ -155,7 +168,8 @@ wq_code wq_taken(wq_host *host, uint8_t *room, size_t cap, size_t *len);
 /* Merges equal pages of all instances. No instance and no call sees it. It looks at all pages. WQ_LARGE. */
 wq_code wq_scan(wq_host *host);
 
-/* Marks all pages as not touched, by which the report and swap go. wq_run does so by itself, behind each million charges. */
+/* Marks all pages as not touched, by which the report and swap go. wq_run does so too, as it begins, where a call can go on: the
+ * first time, and then where runs took a million charges since it last did; once at most. So run by slices of a million. */
 wq_code wq_epoch(wq_host *host);
 
 /* How the frames, slots and pages of the host are used. It goes over all frames and all pages. H7. */
