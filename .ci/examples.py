@@ -6,6 +6,7 @@ import sys
 root = pathlib.Path(__file__).resolve().parent.parent
 shown = [
     ("docs/guide/embedding.md", "crates/example_embedding/src/main.rt", "rust"),
+    ("docs/guide/compiling-c.md", "examples/hello.c", "c"),
     ("docs/guide/compiling-libc.md", "examples/libc/sort.c", "c"),
     ("docs/guide/compiling-rust.md", "examples/rust/words.rs", "rust"),
     ("docs/guide/compiling-cpp.md", "examples/cpp/shapes.cpp", "cpp"),

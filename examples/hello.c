@@ -1,4 +1,4 @@
-/* Adds the two inputs that its owner gives, and says hello. docs/guide/compiling-c.md says how it is compiled. */
+/* Adds two inputs, and says hello. docs/guide/compiling-c.md says how it is compiled. */
 #define HOST(name) __attribute__((import_module("host"), import_name(#name)))
 HOST(input) unsigned long long input(unsigned index);
 HOST(put)   void put(unsigned long long word);
