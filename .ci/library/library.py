@@ -194,6 +194,7 @@ def main(archive=None, program=ROOT + "/crates/wasmhost/out/wasmhost"):
         gather(os.path.abspath(archive) if archive else None, folder)
         os.environ["WOLQEDIR_SO"] = folder + "/refusing.so"
         import codes
+        import epochs
         import refusals
         import turns
 
@@ -210,6 +211,7 @@ def main(archive=None, program=ROOT + "/crates/wasmhost/out/wasmhost"):
         assert refusals.blocks() == 0, refusals.blocks()
         print("each host gave back all blocks of memory that it had taken")
         print(f"{turns.alike()} runs gave instances their turns of 1000 charges, one after the other")
+        print(f"{epochs.begun()} runs began epochs where the header says")
         lacking = {codes.named(code) for code in codes.codes()} - met - codes.UNMET
         assert not lacking, f"codes that never came: {sorted(lacking)}"
         print(f"{len(met)} codes came, and nothing was done at any but 0")

@@ -130,7 +130,8 @@ wq_code wq_host_new(wq_host *host, uint32_t frames, uint32_t slots, uint32_t tax
 /* Lets the host go, with all that it has. */
 void wq_host_free(wq_host *host);
 
-/* Keeps the module that these bytes spell: its number, counted from 0. D, V, L, M. */
+/* Keeps the module that these bytes spell: its number, counted from 0. It may import the three functions and two globals of `host`
+ * that docs/guide/compiling-c.md lists; a program can add none. D, V, L, M. */
 wq_code wq_load(wq_host *host, const uint8_t *bytes, size_t len, size_t *module);
 
 /* Admits an instance of a module, with the n words of its input. Its start runs by wq_run, before its calls. WQ_MEMORY, A. */

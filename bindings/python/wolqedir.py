@@ -330,7 +330,7 @@ class Host:
     def invoke(self, instance, name, args=(), *, fuel):
         """Asks for a call that may take so many charges, 0 to 2^64 - 1, and runs nothing: its place among the calls of the
         instance, of which the start is 0. The name is a text or bytes. Each argument is -2^63 to 2^64 - 1, and is passed by the
-        signed reading of its 64 bits."""
+        signed reading of its 64 bits: 2^64 - 1 is -1, for an i32 too."""
         room, length = octets(name.encode() if isinstance(name, str) else name)
         words, call = [signed(word("an argument", arg), 64) for arg in args], c_uint32()
         given = array(c_int64, words), len(words), u64("fuel", fuel)
