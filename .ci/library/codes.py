@@ -167,7 +167,7 @@ def of_handles():
         yield named(lib.wq_host_new(host.handle, 8, 8, 0, 1))
         assert host.report() == before
         assert named(lib.wq_instance_reports(host.handle, rows, 1, length)) == "0"
-        assert (length.value, wolqedir.reported(rows[0])) == (2, before.instances[0])
+        assert (length.value, wolqedir.reported(rows[0], host.serial)) == (2, before.instances[0])
     yield named(lib.wq_scan(host.handle))
 
 

@@ -30,7 +30,7 @@ def lines_of(report):
     yield f"# slots {report.slots} used {report.used_slots} free {report.slots - report.used_slots}"
     yield f"# shared frames {report.shared_frames} sharers {report.sharers}"
     for row in report.instances:
-        given = f"{row.number:6}{row.shares:8}{row.min:6}{row.max:6}"
+        given = f"{row.instance.number:6}{row.shares:8}{row.min:6}{row.max:6}"
         yield f"#{given}{row.charged:6}{row.active:6}{row.swapped:6} {weighed(row, report.tax)}"
 
 

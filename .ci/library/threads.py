@@ -44,7 +44,7 @@ def tenant(host, module, times):
         while host.status(instance, call).kind != "returned":
             host.run(2000)
         assert host.status(instance, call).value == 7
-        assert instance.number in [row.number for row in host.report().instances]
+        assert instance in [row.instance for row in host.report().instances]
         assert host.transcript(instance)[call].result == 7
         assert host.release(instance) == b""
 
@@ -60,7 +60,7 @@ def together():
         host.cancel(instance)
         runner.done()
         assert host.status(instance, call).kind == "cancelled"
-        assert [row.number for row in host.report().instances] == [0]
+        assert [row.instance for row in host.report().instances] == [instance]
 
 
 def outputs():

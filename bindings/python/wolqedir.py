@@ -112,11 +112,10 @@ class Ran(NamedTuple):
 
 
 class InstanceReport(NamedTuple):
-    """What an instance has of a host's memory: its place and number, what it was promised, how many frames are charged to it, on
-    how many of these a page was touched, and how many of its pages are swapped."""
+    """What an instance has of a host's memory: which it is, what it was promised, how many frames are charged to it, on how many of
+    these a page was touched, and how many of its pages are swapped."""
 
-    place: int
-    number: int
+    instance: Instance
     shares: int
     min: int
     max: int
@@ -237,10 +236,10 @@ def laid(call, kind=c_uint8):
         room, cap = (kind * length.value)(), length.value
 
 
-def reported(row):
-    """What a row says of an instance."""
-    given = row.shares, row.min, row.max
-    return InstanceReport(row.instance.place, row.instance.number, *given, row.charged, row.active, row.swapped)
+def reported(row, serial):
+    """What a row says of an instance of the host with this serial."""
+    instance = Instance(serial, row.instance.place, row.instance.number)
+    return InstanceReport(instance, row.shares, row.min, row.max, row.charged, row.active, row.swapped)
 
 
 def code_text(code):
@@ -404,7 +403,7 @@ class Host:
         must(lib.wq_report_of(self.handle, raw))
         rows = laid(lambda room, cap, into: lib.wq_instance_reports(self.handle, room, cap, into), RawRow)
         used = raw.frames, raw.used_frames, raw.slots, raw.used_slots, raw.shared_frames, raw.sharers
-        return Report(*used, (raw.tax_num, raw.tax_den), [reported(row) for row in rows])
+        return Report(*used, (raw.tax_num, raw.tax_den), [reported(row, self.serial) for row in rows])
 
     @alone
     def transcript(self, instance):

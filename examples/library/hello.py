@@ -18,7 +18,7 @@ def report(told):
     shared = f"{told.shared_frames} shared by {told.sharers} pages"
     print(f"frames: {told.used_frames} of {told.frames} used, {shared}; slots: {told.used_slots} of {told.slots} used")
     for row in told.instances:
-        print(f"instance {row.number}: {row.charged} of {row.max} frames, {row.active} active; {row.swapped} pages swapped")
+        print(f"instance {row.instance.number}: {row.charged} of {row.max} frames, {row.active} active; {row.swapped} pages swapped")
 
 
 def main(path="examples/hello.wasm"):
