@@ -8,6 +8,9 @@ ctypes. WOLQEDIR_SO names the shared library, which docs/guide/library.md says h
         host.run(1000000)
         print(host.status(instance, call))
 
+A host keeps 1024 modules, and lets none go before itself; an instance has 65535 calls beside its start, and puts out 65536 bytes
+at most, which come when it is released.
+
 What the library refuses raises Refused, with the code and its sentence. A number beyond its range raises OverflowError, what is no
 integer TypeError, an instance of another host ValueError; the library isn't asked then. The host is as it was at each of these."""
 import ctypes
@@ -393,7 +396,7 @@ class Host:
 
     @alone
     def epoch(self):
-        """Marks all pages as not touched."""
+        """Marks all pages as not touched, as runs do too."""
         must(lib.wq_epoch(self.handle))
 
     @alone

@@ -1,7 +1,10 @@
 //! A host of many WebAssembly instances on one memory, each of which gets what it would get alone.
 //!
 //! Safe words for the library `wolqedir`, whose exports are proved (`docs/guide/library.md`); this crate isn't. Set
-//! `WOLQEDIR_LIB` to a folder with `libwolqedir.a` and `liblibc_c.a`.
+//! `WOLQEDIR_LIB` to a folder with `libwolqedir.a` and `liblibc_c.a`; they want Linux and a processor of x86-64-v2.
+//!
+//! A host keeps 1024 modules, and lets none go before itself; an instance has 65535 calls beside its start, and puts out 65536
+//! bytes at most, which come when it is released.
 mod error;
 mod sys;
 
@@ -290,7 +293,8 @@ impl Host {
         Ok(call)
     }
 
-    /// Lets all calls go on, until none can or they have taken so many charges together.
+    /// Lets all calls go on, until none can or they have taken so many charges together. Nothing ends it before: give long runs
+    /// in slices of a million, at the beginning of which epochs begin.
     pub fn run(&mut self, charges: u64) -> Progress {
         let mut progress = sys::Progress::default();
         // SAFETY: as in `load`. The code is 0, since the handle holds a host.
@@ -377,7 +381,8 @@ impl Host {
         answer(unsafe { sys::wq_scan(&mut self.handle) })
     }
 
-    /// Marks all pages as not touched.
+    /// Marks all pages as not touched. `run` does so too, as it begins, where a call can go on: the first time, and then where
+    /// runs took a million charges since it last did.
     pub fn epoch(&mut self) {
         // SAFETY: as in `load`. The code is 0, since the handle holds a host.
         let _ = unsafe { sys::wq_epoch(&mut self.handle) };
