@@ -7,6 +7,7 @@ stand-in there, which proves and builds nothing, and runs what was built. A page
 and not run. What the pages put into /tmp lies there afterwards."""
 import argparse
 import ast
+import functools
 import os
 import pathlib
 import re
@@ -175,7 +176,29 @@ def parallel(page, block):
     same(page.printed, "")
 
 
-def tables(page, _):
+# What is looked at behind the blocks: each is given the page.
+
+
+def flags(page):
+    """The table of flags of Rust: for each row the module has so many bytes, and gets this reply."""
+    command = re.search(r"^    (rustc --target (?:.*\n)*?.*/tmp/words\.wasm)$", page.text, re.M)[1]
+    lines = re.findall(r"^\| (all of these|without .*?) \| (\d+) \| (.*?) \|$", page.text, re.M)
+    for what, size, reply in lines:
+        left_out = ["-C lto=yes", "-C strip=symbols"] if what == "without both" else re.findall(r"`(.*?)`", what)
+        shorter = functools.reduce(lambda words, flag: words.replace(f" {flag}", ""), left_out, command)
+        page.run(f'PATH="/usr/bin:$PATH"; cd examples/rust; {shorter}')
+        same(str(os.path.getsize("/tmp/words.wasm")), size)
+        page.run("wasmhost", text="load words /tmp/words.wasm\n")
+        fault = re.match(r"`(.*?)`", reply)
+        same(page.printed, f"module words refused {fault[1]}\n" if fault else "module words ok\n")
+    admitted, runs_from = map(int, re.search(r"A7 below MAX (\d+), T1 below (\d+)", lines[-1][2]).groups())
+    for most, wanted in ((admitted - 1, "refused A7"), (admitted, "trap T1"), (runs_from - 1, "trap T1"), (runs_from, "done 2 ")):
+        script = f"load w /tmp/words.wasm\nadmit a w 100 2 {most} 100 0 0 2\ninvoke a run 100000\n"
+        page.run("wasmhost", text=script)
+        same(str(wanted in page.printed), "True")
+
+
+def tables(page):
     """The examples of the page's tables of faults, each of which is a script of its own."""
     count = 0
     for cells in re.findall(r"^\| (\w\d+) \|(.*)\|$", page.text, re.M):
@@ -207,7 +230,7 @@ def left(reason):
 
 PACKAGES, SYNOPSIS = left("it installs packages"), left("no command, but the form of one")
 WASI = ["clang", "wasm-ld", "/usr/lib/wasm32-wasi/libc.a", "/usr/lib/llvm-14/lib/clang/14.0.6/lib/wasi/libclang_rt.builtins-wasm32.a"]
-# What each page wants, and its steps.
+# What each page wants, its steps, and what is looked at behind them.
 PAGES = {
     "README.md": (
         ["wasmhost", "clang", "wasm-ld"],
@@ -234,6 +257,7 @@ PAGES = {
         ["wasmhost", "/usr/bin/rustc", "wasm-ld", "/usr/lib/rustlib/wasm32-unknown-unknown"],
         [PACKAGES, is_file("examples/rust/words.rs"), in_folder(".", RUSTC="/usr/bin/rustc"), shows]
         + [in_folder("examples/rust", PATH='"/usr/bin:$PATH"')],
+        flags,
     ),
     "docs/guide/embedding.md": (
         ["example_embedding"],
@@ -248,7 +272,7 @@ PAGES = {
         ["wasmhost", "/tmp/hello.wasm"],
         [asked, shows, hello, bounded, left("it wants a full disk: .ci/hostile/devices.py has one")],
     ),
-    "docs/guide/script.md": (["wasmhost"], [SYNOPSIS, tables]),
+    "docs/guide/script.md": (["wasmhost"], [SYNOPSIS, left("the report of a longer script")], tables),
 }
 
 
@@ -286,7 +310,7 @@ def missing(wants, folder, path):
 
 def tried(name, folder, path):
     """Runs a page: whether it is as it says."""
-    wants, steps = PAGES[name]
+    wants, steps, *behind = PAGES[name]
     lacking = list(missing(wants, folder, path))
     if lacking:
         print(f"{name}: not run, since {', '.join(lacking)} is missing")
@@ -298,6 +322,8 @@ def tried(name, folder, path):
             raise Stale(f"it has {len(blocks)} blocks, and {len(steps)} are known:\n" + "\n".join(block.split("\n")[0] for block in blocks))
         for step, block in zip(steps, blocks):
             step(page, block)
+        for look in behind:
+            look(page)
     except (Stale, subprocess.TimeoutExpired) as fault:
         print(f"{name}: {fault}")
         return False
