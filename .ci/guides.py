@@ -201,25 +201,17 @@ def flags(page):
 def tables(page):
     """The examples of the page's tables of faults, each of which is a script of its own."""
     count = 0
-    for cells in re.findall(r"^\| (\w\d+) \|(.*)\|$", page.text, re.M):
-        row = [cell.strip() for cell in cells[1].split("|")]
-        codes = [re.findall(r"`([^`]*)`", cell) for cell in row[-2:]] if len(row) > 2 else [[], []]
-        if not codes[1] or not codes[0] or not re.match(r"module|load|drain", codes[0][0]):
+    for name, cells in re.findall(r"^\| ([DVLC]\d+) \|(.*)\|$", page.text, re.M):
+        *_, example, reply = [""] + [cell.strip() for cell in cells.split("|")]
+        lines, wanted = re.findall(r"`([^`]*)`", example), re.findall(r"`([^`]*)`", reply)
+        if not wanted or not re.match(r"`(module|load|drain)", example):
             continue
-        lines, wanted = codes
-        if "twice" in row[-2]:
-            lines = lines * 2
-        page.run("wasmhost", text="".join(line + "\n" for line in lines))
-        if cells[0][0] != "C":
-            name = lines[0].split()[1]
-            wanted = [f"module {name} refused {fault}" for fault in wanted]
-        else:
-            wanted = [f"module {lines[0].split()[1]} ok" if line == "module good ok" else line for line in wanted]
-        told = page.printed.splitlines()
-        if told[: len(wanted)] != wanted and wanted != [line for line in told if line in wanted]:
-            raise Stale(f"{lines} gets {told} in place of {wanted}")
+        page.run("wasmhost", text="".join(line + "\n" for line in lines * (2 if "twice" in example else 1)))
+        before = "" if name[0] == "C" else f"module {lines[0].split()[1]} refused "
+        same(page.printed, "".join(f"{before}{line}\n" for line in wanted))
         count += 1
-    if count < 28:
+    # D1 to D12, V1 to V8, V10, L1, L2, and C1 to C4.
+    if count != 27:
         raise Stale(f"{count} examples of faults")
 
 
