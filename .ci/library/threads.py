@@ -154,6 +154,8 @@ def closed():
 
 
 if __name__ == "__main__":
+    # A shell without job control has what it starts in the background ignore SIGINT.
+    signal.signal(signal.SIGINT, signal.default_int_handler)
     for act in (together, outputs, interrupted, handled, releasing, closed):
         act()
         print(act.__name__, flush=True)
