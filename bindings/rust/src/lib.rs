@@ -208,13 +208,18 @@ impl Entry {
     }
 }
 
-/// A host. It stays on its thread: that it may go to another one isn't proved.
+/// A host. It may go to another thread, and is asked by one at a time.
 ///
 /// What is given an instance or a module of another host answers `OtherHost`, and does nothing.
 pub struct Host {
     handle: sys::Handle,
     serial: u64,
 }
+
+// SAFETY: what a handle holds is shared with nothing outside of it, so that it may go to another thread: of the library's own
+// handle that is proved (`Handle: Send` in crates/wolqedir). It asks that a lock, or a start or a join of a thread, order the
+// move, and that one call at a time is made: a value moves between threads of Rust by such alone, and each call takes `&mut self`.
+unsafe impl Send for Host {}
 
 impl Host {
     /// A new host.

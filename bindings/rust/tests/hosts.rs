@@ -69,3 +69,19 @@ fn the_error_says_what_is_wrong() {
     assert_eq!(Error::OtherHost.to_string(), "the instance or the module is of another host");
     assert_eq!(Error::OtherHost.code(), Error::Unknown.code());
 }
+
+#[test]
+fn a_host_goes_to_another_thread_and_back() -> Result<(), Error> {
+    let (mut host, _, instance) = hosted()?;
+    let (mut host, call) = std::thread::spawn(move || {
+        let call = host.invoke(instance, "run", &[], 1000);
+        host.run(1000);
+        (host, call)
+    })
+    .join()
+    .expect("the thread ends");
+    assert!(matches!(host.status(instance, call?)?.state, State::Returned(_)));
+    // A word of 42, and a line.
+    assert_eq!(host.release(instance)?, [&[42, 0, 0, 0, 0, 0, 0, 0], "hello\n".as_bytes()].concat());
+    Ok(())
+}

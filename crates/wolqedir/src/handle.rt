@@ -20,7 +20,15 @@ pub struct Handle {
     ghost empty: { full ≡ 0 → IsNone slot.held },
 }
 
+// Takes what may go to another thread.
+fn may_cross<T: Send>(_what: &T) {}
+
 impl Handle {
+    /// Shows that a handle may go to another thread: that this is accepted is the proof. It does nothing.
+    pub fn crosses(&self) {
+        may_cross(self);
+    }
+
     // One without a host.
     fn empty(alloc: Global) -> Handle
         ensures { result.slot.held ≡ None }

@@ -30,6 +30,9 @@ impl Model for HandleSlot {
     ghost also_owns = { λ s. slot_owns s.alloc s.at s.held };
 }
 
+// It may go to another thread, as a box of a host may, which is all that it owns.
+unsafe impl Send for HandleSlot {}
+
 impl HandleSlot {
     /// One without a host.
     pub fn empty(alloc: Global) -> HandleSlot
