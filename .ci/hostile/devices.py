@@ -10,7 +10,11 @@ import collections, itertools, os, re, shutil, subprocess, sys, tempfile
 
 from scripts import CASES, MODULES, ROOT, Case, answers, digits, told
 
-STOPPED = {"settings": b"wasmhost: settings\n", "script": b"wasmhost: script\n", "output": b"wasmhost: output\n"}
+STOPPED = {"settings": b"wasmhost: settings: ", "script": b"wasmhost: script: ", "output": b"wasmhost: output: standard output: "}
+FOLDER, NONE, FORBIDDEN_TO, FULL = (
+    f"{words} (os error {number})"
+    for words, number in (("Is a directory", 21), ("No such file or directory", 2), ("Permission denied", 13), ("No space left on device", 28))
+)
 LOADS = Case("a file", {}, 1, False, "load m {folder}/seven.wasm\nload n {folder}/none.wasm\nadmit a m 100 2 16 0 0 0\ninvoke a f 0\n")
 WANTED = "settings script output module S1 S2".split()
 FORBIDDEN = Case(
@@ -70,7 +74,7 @@ class Runs:
             # The whole script comes by its first read; behind it the last drain is not answered.
             right = {"settings": [[]], "script": [[], answers(self.case, self.lines, is_whole=False, files=self.files)]}
             fits = got == whole[: len(got)] if name == "output" else got in right[name]
-            return name if fits and (ran.returncode, ran.stderr) == (1, STOPPED[name]) else None
+            return name if fits and ran.returncode == 1 and ran.stderr.startswith(STOPPED[name]) else None
         if (ran.returncode, ran.stderr) != (0, b""):
             return None
         if name == "module":
@@ -150,8 +154,31 @@ def odd_files(program, folder):
     os.mkfifo(pipe)
     for path, faults in ((pipe, {"call 3": ("S2", 2)}), ("/dev/full", {"call 3": ("S2", 2)}), ("/dev/null", {"call 4": ("S1", 1)}), ("/dev/zero", {"call 4": ("S3", 1)})):
         expect(path, *ran_over(program, settings, path, lines, (0, b"", answers(case, lines, faults=faults))))
-    for path in (folder, folder + "/none/pages"):
-        expect(path, *ran_over(program, settings, path, lines, (1, b"wasmhost: swap\n", [])))
+    for path, words in ((folder, FOLDER), (folder + "/none/pages", NONE)):
+        expect(path, *ran_over(program, settings, path, lines, (1, f"wasmhost: swap: {path}: {words}\n".encode(), [])))
+
+
+def no_modules(program, folder):
+    """What is no regular file is no module's: its line is C4 at once, and the script's own pipe stays whole."""
+    pipe = folder + "/a_pipe"
+    os.mkfifo(pipe)
+    paths = (pipe, "/dev/stdin", "/dev/fd/0", "/dev/zero", folder, "-")
+    text = "".join(f"load m {path}\n" for path in paths) + "scan\n"
+    ran = subprocess.run([program], input=text.encode(), capture_output=True, timeout=60, cwd=folder)
+    wanted = [f"error C4 line {number}" for number in range(1, len(paths) + 1)] + ["scan ok"]
+    expect("what is no file", (ran.returncode, ran.stderr, told(ran.stdout)), (0, b"", wanted))
+
+
+def shown_texts(program):
+    """Help and the version come to standard output; a full one is blamed."""
+    with open(ROOT + "/bindings/c/wolqedir.h") as file:
+        version = re.search(r'#define WQ_VERSION_TEXT "(.*)"', file.read())[1]
+    for word, begins in (("--version", f"wasmhost {version}\n"), ("--help", "Runs WebAssembly modules ")):
+        ran = subprocess.run([program, word], capture_output=True, timeout=60)
+        expect(word, (ran.returncode, ran.stderr, ran.stdout.decode()[: len(begins)]), (0, b"", begins))
+        with open("/dev/full", "w") as full:
+            ran = subprocess.run([program, word], stdout=full, stderr=subprocess.PIPE, timeout=60)
+        expect(word, (ran.returncode, ran.stderr), (1, STOPPED["output"] + f"{FULL}\n".encode()))
 
 
 def ran_over(program, settings, path, lines, wanted):
@@ -195,7 +222,8 @@ class Forbidden:
         ran = subprocess.run(words, capture_output=True, timeout=60, **self.user)
         files = {f"{self.folder}/{name}": self.seven for name in ("seven.wasm", "module") if name not in modes}
         whole = answers(FORBIDDEN, self.script.splitlines(), files=files)
-        wanted = (1, f"wasmhost: {cause}\n".encode(), []) if cause else (0, b"", whole)
+        named = f"{self.folder}/{pages if cause == 'swap' else cause}"
+        wanted = (1, f"wasmhost: {cause}: {named}: {FORBIDDEN_TO}\n".encode(), []) if cause else (0, b"", whole)
         expect(what, (ran.returncode, ran.stderr, told(ran.stdout)), wanted)
         os.chmod(self.folder + "/pages", 0o644)
         with open(self.folder + "/pages", "rb") as file:
@@ -246,6 +274,8 @@ def main():
             print(f"{case.name}: {found.total()} calls failed in turn: " + ", ".join(f"{n} {kind}" for kind, n in sorted(found.items())))
         changed_pages(program, folder)
         odd_files(program, folder)
+        no_modules(program, folder)
+    shown_texts(program)
     forbidden = forbidden_files(program)
     print(f"{kinds.total()} runs with a call that failed: every reply was right; a swap file was changed, put back and cut; six odd ones were tried")
     print(f"{forbidden} runs, in all but one of which a file may not be opened: each stopped for it, or went on without that module")

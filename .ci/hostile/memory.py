@@ -4,11 +4,11 @@ each two: `python3 .ci/hostile/memory.py [PROGRAM]`, after `rt run` or `rt ci` m
 
 What has to come is worked out by the second model of scripts (crates/test_sessions/model): the line whose request was refused
 changes nothing and is answered so, and every other line is answered as the model answers it then; or the program ends with
-status 1 and `wasmhost: memory` or `wasmhost: threads` behind a beginning of such lines. It fails where anything else comes, and
-where a kind of answer didn't come at all."""
+status 1 and `wasmhost: memory` behind a beginning of such lines; and it may say that threads were refused. It fails where anything
+else comes, and where a kind of answer didn't come at all."""
 import collections, concurrent.futures, itertools, os, re, subprocess, sys, tempfile
 
-from scripts import CASES, MODULES, ROOT, answers, digits, told
+from scripts import CASES, MODULES, REFUSED_THREADS, ROOT, answers, digits, told
 
 # Which causes may name want of memory for a module, by what the host says of it otherwise.
 STAGES = {"ok": "D13 V11 L3 M2", "D": "D13", "V": "D13 V11", "L": "D13 V11 L3"}
@@ -44,16 +44,16 @@ def explanations(lines, got):
 
 def outcome(case, lines, ran, most):
     """How a run ended: the kinds of its answers, or None where it is neither right nor want of memory."""
-    got = told(ran.stdout)
+    got, said = told(ran.stdout), ran.stderr.removesuffix(REFUSED_THREADS)
     rights = [(found, answers(case, lines, wanting=found)) for found in explanations(lines, got) if len(found) <= most]
-    if ran.returncode == 0 and ran.stderr == b"":
+    if (ran.returncode, said) == (0, b""):
         kinds = [[code.split(" ")[0] for code in found.values()] for found, right in rights if right == got]
-    elif ran.returncode == 1 and ran.stderr in (b"wasmhost: memory\n", b"wasmhost: threads\n"):
-        end = ran.stderr.decode().split()[1]
-        kinds = [[end] + [code.split(" ")[0] for code in found.values()] for found, right in rights if right[: len(got)] == got]
+    elif (ran.returncode, said) == (1, b"wasmhost: memory\n"):
+        kinds = [["memory"] + [code.split(" ")[0] for code in found.values()] for found, right in rights if right[: len(got)] == got]
     else:
         kinds = []
-    return kinds[0] if kinds else None
+    threads = ["threads"] if said != ran.stderr else []
+    return kinds[0] + threads if kinds else None
 
 
 def sizes_in(path):

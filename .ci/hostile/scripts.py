@@ -7,6 +7,8 @@ sys.path.insert(0, ROOT + "/crates/test_sessions/model")
 from model import Call, Refused, Session
 
 HEAD = "0061736d01000000"
+# What stands last on standard error where a thread was refused.
+REFUSED_THREADS = b"wasmhost: threads: refused, so that calls ran in one\n"
 # What the host says of each module, worked out by hand: `f` gives 7; `f` stores a byte at 0; `s` stores a byte and `l` loads one;
 # `s` stores a byte and `w` eight; `f` puts out the word 5; all that a host offers is imported; and four that are refused.
 MODULES = {

@@ -1,6 +1,6 @@
 -- Who is at a place.
 use Rattle.std.proofs.Common.{◌≡◌, ℕ, Bool, true, false, ◌&&◌, List, [], ◌∷◌, Option, Some, None, zero, suc, refl, slice_get, get_or}
-use Rattle.wh_host_model.specs.Space.Parts.{Occupant, Space, has_number, occupant_at}
+use Rattle.wh_space_model.specs.{Occupant, Space, has_number, occupant_at}
 
 first_of : (b c : Bool) → b && c ≡ true → b ≡ true
 first_of true c e = refl

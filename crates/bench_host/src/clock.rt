@@ -3,7 +3,7 @@
 use anyhow::{Context, Result};
 use std::time::{CpuClock, Duration};
 
-/// The processor time since then.
+/// Returns the processor time since then.
 pub fn since(rt: &impl CpuClock, before: Duration) -> Result<Duration> {
     rt.thread_cpu_time()?
         .checked_sub(before)

@@ -52,7 +52,7 @@ fn template(alloc: Global, memory: &mut Memory, size: u32) -> Result<()> {
     write_all(memory, 0, pages)
 }
 
-// Admits the others, each with so many pages of 65536 bytes: how long that took.
+// Admits the others, each with `size` pages of 65536 bytes; returns how long that took.
 fn enters(rt: &(impl CpuClock + AllocGlobal), memory: &mut Memory, size: u32) -> Result<Duration> {
     template(rt.alloc(), memory, size)?;
     let before = rt.thread_cpu_time()?;
@@ -72,7 +72,7 @@ fn copies(rt: &(impl CpuClock + AllocGlobal), memory: &mut Memory, size: u32) ->
     since(rt, before)
 }
 
-// Both, of so many pages of 65536 bytes.
+// Both, of `size` pages of 65536 bytes.
 fn round(rt: &(impl Print + CpuClock + AllocGlobal), size: u32) -> Result<()> {
     let mut one = memory_of(rt.alloc(), 16384)?;
     let entered = enters(rt, &mut one, size)?.as_nanos() / u128::from(COPIES - 1);
@@ -84,7 +84,7 @@ fn round(rt: &(impl Print + CpuClock + AllocGlobal), size: u32) -> Result<()> {
     Ok(())
 }
 
-/// Each size, three times.
+/// Runs each size three times.
 pub fn run(rt: &(impl Print + CpuClock + AllocGlobal)) -> Result<()> {
     for _ in 0..3 {
         for size in [1, 4, 16, 64, 256] {

@@ -5,10 +5,10 @@ use crate::pages::{enter, memory_of, write};
 use anyhow::{Context, Result, ensure};
 use std::alloc::Global;
 use std::time::{CpuClock, Duration};
-use wh_host_model::Offer;
 use wh_kernels::{FnvHash, PageHash};
 use wh_scan::{offer_at, scan_page, take};
 use wh_space::Memory;
+use wh_space_model::Offer;
 
 // How many contents there are, each of three pages of the first instance.
 const CONTENTS: u32 = 340;
@@ -29,7 +29,7 @@ struct Times {
     stale: Duration,
 }
 
-// The hash of a page that stands alone.
+// The hash of a page that has a frame of its own.
 fn hash_of(memory: &Memory, page: u32) -> Result<u64> {
     let sample = take(memory, 0, page).context("it has no frame")?;
     Ok(FnvHash.hash(&sample.bytes))
@@ -129,7 +129,7 @@ fn round(rt: &impl CpuClock, memory: &mut Memory, hashes: &[u64], best: Times) -
     })
 }
 
-// So many instances come. Each but the first has a page with a content of its own, which is a hint.
+// Admits `instances` instances. Each but the first has a page with a content of its own, which is a hint.
 fn enter_all(alloc: Global, memory: &mut Memory, instances: u32) -> Result<()> {
     enter(alloc, memory, 0, SIZE)?;
     for place in 1..instances {
@@ -166,7 +166,7 @@ fn best_of(
     Ok(best)
 }
 
-// Times the moves of the first of so many instances. It owns their memory, and lends it to what can fail.
+// Times the moves of the first of `instances` instances. It owns their memory, and lends it to what can fail.
 fn time_moves(rt: &impl CpuClock, alloc: Global, instances: u32) -> Result<Times> {
     let mut memory = memory_of(alloc, 16384)?;
     best_of(rt, alloc, &mut memory, instances)

@@ -2,16 +2,16 @@
 
 use anyhow::{Result, ensure};
 use std::alloc::Global;
-use wh_host_model::Tax;
 use wh_model::Got;
 use wh_space::{Memory, Promise};
+use wh_space_model::Tax;
 
-/// A memory with so many frames, and slots enough.
+/// Returns a memory with this number of frames, and slots enough.
 pub fn memory_of(alloc: Global, frames: u32) -> Result<Memory> {
     Ok(Memory::new(alloc, frames, 1048576, Tax { num: 3, den: 4 })?)
 }
 
-/// An instance comes to this place, with so many pages of 65536 bytes.
+/// Gives an instance this place, with `size` pages of 65536 bytes.
 pub fn enter(alloc: Global, memory: &mut Memory, place: usize, size: u32) -> Result<()> {
     ensure!(size > 0, "it is too small");
     ensure!(size <= 4096, "it is too large");

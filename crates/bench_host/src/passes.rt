@@ -11,7 +11,7 @@ use wh_space::Memory;
 
 const PAGES: u32 = 65536;
 
-// Hashes all pages, each of which stands on a frame.
+// Hashes all pages, each of which is resident.
 fn hash_all(memory: &Memory) -> Result<u64> {
     let mut sum = 0u64;
     for page in 0..PAGES {

@@ -1,7 +1,7 @@
 //! A memory beside its swap device, and the time that provisions take.
 
 ghost use Rattle.std.specs.Prelude.{◌≡◌, true, OnOk};
-ghost use Rattle.wh_host_model.specs.Space.Parts.{Occupant, occupant_at};
+ghost use Rattle.wh_space_model.specs.Parts.{Occupant, occupant_at};
 ghost use Rattle.wh_reclaim.specs.Together.{AreTogether};
 ghost use Rattle.wh_swap.specs.MemorySwaps.{memory_held};
 
@@ -9,10 +9,10 @@ use crate::clock::since;
 use anyhow::{Context, Result, anyhow, ensure};
 use std::alloc::Global;
 use std::time::{CpuClock, Duration};
-use wh_host_model::Tax;
 use wh_model::{Got, Need};
 use wh_reclaim::{Buf, provide};
 use wh_space::{Memory, Promise};
+use wh_space_model::Tax;
 use wh_swap::MemSwap;
 
 /// A memory, its device, and what was done so far: how many stores had to wait, how many pages left for them, and how long that
@@ -41,7 +41,7 @@ impl Drop for Pool {
 }
 
 impl Pool {
-    /// One with so many frames and slots, and a tax of three fourths.
+    /// Creates a pool with this number of frames and slots, and a tax of three fourths.
     pub fn new(alloc: Global, frames: u32, slots: u32) -> Result<Pool> {
         let memory = Memory::new(alloc, frames, slots, Tax { num: 3, den: 4 })?;
         let device = MemSwap::new(alloc, slots)?;
@@ -56,7 +56,7 @@ impl Pool {
         })
     }
 
-    /// An instance comes to the place of its number, with this least number of frames, and so many pages of 65536 bytes.
+    /// Gives an instance the place of its number, with this minimum of frames and `size` pages of 65536 bytes.
     pub fn enter(&mut self, alloc: Global, number: u32, min: u32, size: u32) -> Result<()> {
         let place = number as usize;
         ensure!(size > 0 && size <= 4096, "it is of another size");
@@ -82,7 +82,7 @@ impl Pool {
         Ok(())
     }
 
-    /// A new epoch.
+    /// Begins an epoch.
     pub fn epoch(&mut self) {
         self.memory.invariant();
         self.memory.new_epoch();

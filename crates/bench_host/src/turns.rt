@@ -5,7 +5,8 @@ use anyhow::{Context, Result, ensure};
 use std::alloc::Global;
 use std::time::CpuClock;
 use wh_host::{Host, ModuleId, Params};
-use wh_host_model::{InstId, Tax, TurnEnd};
+use wh_host_model::TurnEnd;
+use wh_space_model::{InstId, Tax};
 
 // How many instances with a call are many. One more has none: then there are as many as a host takes.
 const MANY: usize = 4095;
@@ -50,7 +51,7 @@ fn empty_crowd(alloc: Global) -> Result<Crowd> {
     })
 }
 
-// So many instances with a call come, and one without.
+// Admits `count` instances with a call, and one without.
 fn fill(alloc: Global, crowd: &mut Crowd, count: usize) -> Result<()> {
     let Crowd { host, ids } = crowd;
     let module = host.load(alloc, &ENDLESS)?;
@@ -69,14 +70,15 @@ fn nth(ids: &[InstId], number: usize) -> Result<InstId> {
     ids.get(number).copied().context("nobody has the number")
 }
 
-// Turns of so many charges, to the first so many instances one after another. The time a turn, in picoseconds.
+// Runs turns of `quantum` charges of the first `among` instances one after another. Returns the time of a turn, in
+// picoseconds.
 fn round(rt: &impl CpuClock, crowd: &mut Crowd, among: usize, quantum: u64) -> Result<u128> {
     let Crowd { host, ids } = crowd;
     ensure!(among > 0, "nobody gets turns");
     let before = rt.thread_cpu_time()?;
     let mut at = 0;
     for _ in 0..TURNS {
-        let end = host.turn(nth(ids, at)?, quantum);
+        let (end, _) = host.turn(nth(ids, at)?, quantum);
         ensure!(end == TurnEnd::Again, "a turn came to {end:?}");
         at = if at < among - 1 { at + 1 } else { 0 };
     }
@@ -89,7 +91,7 @@ fn empty_round(rt: &impl CpuClock, crowd: &mut Crowd) -> Result<u128> {
     let idle = ids.last().copied().context("nobody is idle")?;
     let before = rt.thread_cpu_time()?;
     for _ in 0..TURNS {
-        let end = host.turn(idle, 100);
+        let (end, _) = host.turn(idle, 100);
         ensure!(end == TurnEnd::Idle, "an empty turn came to {end:?}");
     }
     Ok(1000 * since(rt, before)?.as_nanos() / u128::from(TURNS))

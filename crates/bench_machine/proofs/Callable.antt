@@ -1,8 +1,8 @@
 -- An instance over any bytes of its memory.
 use Rattle.std.proofs.Common.{◌≡◌, ℕ, List, map, refl, sym, subst}
-use Rattle.wh_model.specs.Validity.Typing.{Context}
+use Rattle.wh_model.specs.Validity.{Context}
 use Rattle.wh_model.specs.Execution.Store.{Instance, Store}
-use Rattle.wh_model.specs.Execution.Instance.{Parameters}
+use Rattle.wh_model.specs.Execution.{Parameters}
 use Rattle.wh_syntax.specs.View.{view_module}
 use Rattle.wh_bodies.specs.View.{view_side}
 use Rattle.wh_validate.specs.CheckedBodies.{IsChecked}

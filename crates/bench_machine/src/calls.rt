@@ -11,13 +11,13 @@ use std::alloc::Global;
 use std::time::{CpuClock, Duration};
 use wh_call::{RunEnd, call, can_call, exported};
 use wh_flatmem::FlatMemory;
-use wh_host_model::Tax;
 use wh_imports::Linked;
 use wh_initial::{Instantiated, Parameters, instantiate};
 use wh_linmem::LinearMem;
 use wh_machine::Machine;
 use wh_model::Got;
 use wh_space::{Memory, Promise, View};
+use wh_space_model::Tax;
 use wh_syntax::Data;
 
 /// To how many pages of 65536 bytes a memory may grow: the most that an instance of the host may have.
@@ -169,7 +169,7 @@ fn time_flat(
     time_on(rt, linked, begun, machine, &mut memory, wanted)
 }
 
-/// An instance comes to the first place of a memory. It has so many pages of 65536 bytes, and may get as many as the limit
+/// Gives an instance the first place of a memory. It has `size` pages of 65536 bytes, and may get as many as the limit
 /// says.
 fn enter_first(alloc: Global, memory: &mut Memory, size: u32, limit: u32) -> Result<()>
     requires within { size ≤ limit }
@@ -254,8 +254,8 @@ fn time_machine(
     }
 }
 
-/// The time of a call on an instance of its own. Of instance, machine and memory each is made by a function that does nothing
-/// else, and lent to what can fail: so it takes less to prove.
+/// Measures the time of a call on an instance of its own. Of instance, machine and memory each is made by a function
+/// that does nothing else, and lent to what can fail: so it takes less to prove.
 pub fn time_call(
     rt: &(impl CpuClock + AllocGlobal),
     linked: &Linked,

@@ -1,12 +1,12 @@
 //! Times calls on the machine: `bench_machine TABLE [NAME]` reads a table of modules from a file, or from standard
-//! input where TABLE is `-`, makes the calls of each, or of the one of this name, over a flat memory and over one on shared
-//! frames, and prints `NAME CHARGES SECONDS SECONDS`, those over the flat one first. Without an argument it does nothing, so
-//! that what it prints never depends on the time.
+//! input where TABLE is `-`, makes the calls of each, or of the one of this name, over a flat memory and over one on
+//! shared frames, and prints `NAME CHARGES SECONDS SECONDS`, those over the flat one first. Without an argument it does
+//! nothing, so that what it prints never depends on the time.
 //!
-//! A line `module NAME HEX` has a module, and each line `call EXPORT -> i32 WORD charges N` behind it, or with `i64`, a
+//! A line `module NAME HEX` has a module, and each line `call EXPORT -> i32 WORD charges N` after it, or with `i64`, a
 //! call of a function without parameters, with its result and its charges. A call has no limit of fuel. Its seconds are
-//! the processor's, of the best of five calls, each on an instance of its own, the two memories in turn; making the instance
-//! isn't counted.
+//! the processor's, of the best of five calls, each on an instance of its own, the two memories in turn; making the
+//! instance isn't counted.
 #![tactic(auto)]
 
 mod calls;

@@ -75,8 +75,8 @@ fn print(rt: &impl Print, name: &str, times: Times, instructions: u128) -> Resul
     Ok(())
 }
 
-/// Notes how long decoding took and, of a module in the first round, how many instructions there are. It gives the time behind
-/// that.
+/// Notes how long decoding took and, of a module in the first round, how many instructions there are. It gives the time
+/// after that.
 fn note_decoding(
     rt: &impl Clock,
     report: &mut Report,

@@ -36,7 +36,7 @@ fn run_start(instance: &mut Instance) -> Result<()> {
     Ok(())
 }
 
-/// Calls a function without arguments, slice by slice: what the call came to, and its charges.
+/// Calls a function without arguments, slice by slice; returns the outcome, and the charges taken.
 fn call_in_slices(instance: &mut Instance, func: u32) -> Result<(Outcome, u64)> {
     let (mut outcome, mut charges) = match instance.call(func, &[], SLICE) {
         Ok(answer) => answer,
@@ -55,7 +55,7 @@ fn call_in_slices(instance: &mut Instance, func: u32) -> Result<(Outcome, u64)> 
     Ok((outcome, charges))
 }
 
-/// Calls the export `run`: what it came to, and its charges. Where it runs on, it is given up.
+/// Calls the export `run`; returns the outcome, and the charges taken. Gives it up if it runs on.
 fn call_run(instance: &mut Instance) -> Result<(Outcome, u64)> {
     let func = instance.func("run").context("no function `run`")?;
     let answer = call_in_slices(instance, func)?;
@@ -63,7 +63,7 @@ fn call_run(instance: &mut Instance) -> Result<(Outcome, u64)> {
     Ok(answer)
 }
 
-/// Prints what a call came to.
+/// Prints the outcome of a call.
 fn print_outcome(rt: &HostRuntime, outcome: Outcome, charges: u64) -> Result<()> {
     match outcome {
         Outcome::Returned(value) => println!(rt; "{value:?} after {charges} charges")?,

@@ -7,7 +7,7 @@ use std::alloc::{AllocError, Global};
 // What stands in front of a body: a type, and a function of it.
 const BEFORE_CODE: &[u8] = b"\x00asm\x01\x00\x00\x00\x01\x04\x01\x60\x00\x00\x03\x02\x01\x00";
 
-/// A module made of a beginning, of so many pieces, and of an end.
+/// A module made of a beginning, of a number of equal pieces, and of an end.
 #[derive(Clone, Copy)]
 struct Repeated {
     begins: &'static [u8],

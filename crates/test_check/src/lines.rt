@@ -127,7 +127,7 @@ fn expect_script(alloc: Global, script: &[u8], wanted: &str) -> Result<()> {
     Ok(())
 }
 
-/// Fails where a line of so many bytes, with a command behind it, isn't said to be too long as it has to be.
+/// Fails if a line of `length` bytes, with a command after it, isn't said to be too long as it has to be.
 fn expect_length(alloc: Global, length: usize, wanted: &str) -> Result<()> {
     let mut script = Vec::from_slice(alloc, b"module mm ")?;
     script.resize(length, b'0')?;

@@ -3,10 +3,12 @@
 #![tactic(auto)]
 
 mod large;
+mod later;
 mod lines;
 mod modules;
 mod objects;
 mod settings;
+mod types;
 
 use anyhow::Result;
 
@@ -19,6 +21,8 @@ fn tell(rt: &HostRuntime, kind: &str, cases: usize) -> Result<()> {
 fn main(rt: HostRuntime) -> Result<()> {
     let alloc = rt.alloc();
     tell(&rt, "modules", modules::check(alloc)?)?;
+    tell(&rt, "types and indices", types::check(alloc)?)?;
+    tell(&rt, "later parts", later::check(alloc)?)?;
     tell(&rt, "large modules", large::check(alloc)?)?;
     tell(&rt, "settings", settings::check(alloc)?)?;
     tell(&rt, "lines", lines::check(alloc)?)?;

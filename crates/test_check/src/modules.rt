@@ -28,7 +28,7 @@ const MODULES: [(&[u8], &str); 51] = [
         b"\x00asm\x01\x00\x00\x00\x01\x05\x01",
         "D3 Truncated; the input ends too early; the type section, byte 11",
     ),
-    // Types behind functions.
+    // Types after functions.
     (
         b"\x00asm\x01\x00\x00\x00\x03\x01\x00\x01\x01\x00",
         "D4 SectionOrder; the section is repeated or out of order; the type section, byte 11",
@@ -53,7 +53,7 @@ const MODULES: [(&[u8], &str); 51] = [
         b"\x00asm\x01\x00\x00\x00\x01\x04\x01`\x00\x00\x03\x03\x02\x00\x00\x0A\x04\x02\x02\x00\x0B",
         "D5 SectionSize; the contents don't fill the declared size; the code section, function 1, byte 25",
     ),
-    // Bytes behind a body's end.
+    // Bytes after a body's end.
     (
         b"\x00asm\x01\x00\x00\x00\x01\x04\x01`\x00\x00\x03\x02\x01\x00\x0A\x05\x01\x03\x00\x0B\x01",
         "D5 SectionSize; the contents don't fill the declared size; the code section, function 0, byte 24",
@@ -71,7 +71,7 @@ const MODULES: [(&[u8], &str); 51] = [
     // An opcode of bulk memory.
     (
         b"\x00asm\x01\x00\x00\x00\x01\x04\x01`\x00\x00\x03\x02\x01\x00\x0A\x05\x01\x03\x00\xFC\x0B",
-        "D8 UnknownByte; the byte has no meaning here: 0xfc, which belongs to bulk memory or saturating conversions; the code section, function 0, instruction 0, byte 23",
+        "D8 UnknownByte; the byte has no meaning here: 0xfc, which belongs to bulk memory (memory.fill); the code section, function 0, instruction 0, byte 23",
     ),
     // An opcode of nothing.
     (
@@ -83,7 +83,7 @@ const MODULES: [(&[u8], &str); 51] = [
         b"\x00asm\x01\x00\x00\x00\x0C\x01\x00",
         "D8 UnknownByte; the byte has no meaning here: 0x0c, which belongs to bulk memory; no section, byte 8",
     ),
-    // An instruction of floating point behind an import.
+    // An instruction of floating point after an import.
     (
         b"\x00asm\x01\x00\x00\x00\x01\x09\x02`\x01\x7F\x01~`\x00\x00\x02\x0E\x01\x04host\x05input\x00\x00\x03\x02\x01\x01\x0A\x07\x01\x05\x00\x01\x01\x92\x0B",
         "D9 Float; floating point is left out: f32.add; the code section, function 1, instruction 2 (f32.add), byte 46",
@@ -176,12 +176,12 @@ const MODULES: [(&[u8], &str); 51] = [
     // An operand of another type.
     (
         b"\x00asm\x01\x00\x00\x00\x01\x04\x01`\x00\x00\x03\x02\x01\x00\x0A\x08\x01\x06\x00B\x00E\x1A\x0B",
-        "V1 BadType; the type is another one than it must be; the code section, function 0, instruction 1 (i32.eqz), byte 25",
+        "V1 BadType; the type is another one than it must be: expected [i32], found [i64]; the code section, function 0, instruction 1 (i32.eqz), byte 25",
     ),
     // A local that isn't there.
     (
         b"\x00asm\x01\x00\x00\x00\x01\x04\x01`\x00\x00\x03\x02\x01\x00\x0A\x07\x01\x05\x00 \x00\x1A\x0B",
-        "V2 Index; the index names nothing; the code section, function 0, instruction 0 (local.get), byte 23",
+        "V2 Index; the index names nothing: local 0, of 0 in all; the code section, function 0, instruction 0 (local.get), byte 23",
     ),
     // A load aligned too far.
     (
@@ -191,47 +191,47 @@ const MODULES: [(&[u8], &str); 51] = [
     // An operand that is missing.
     (
         b"\x00asm\x01\x00\x00\x00\x01\x04\x01`\x00\x00\x03\x02\x01\x00\x0A\x05\x01\x03\x00\x1A\x0B",
-        "V4 Arity; an operand is missing or left over; the code section, function 0, instruction 0 (drop), byte 23",
+        "V4 Arity; an operand is missing or left over: expected [any], found []; the code section, function 0, instruction 0 (drop), byte 23",
     ),
     // A global that begins with a defined one.
     (
         b"\x00asm\x01\x00\x00\x00\x06\x0B\x02\x7F\x00A\x00\x0B\x7F\x00#\x00\x0B",
-        "V5 Const; the expression isn't constant; the module as a whole",
+        "V5 Const; the expression isn't constant; the global section, entry 1, byte 16",
     ),
     // A name exported twice.
     (
         b"\x00asm\x01\x00\x00\x00\x01\x04\x01`\x00\x00\x03\x02\x01\x00\x07\x09\x02\x01a\x00\x00\x01a\x00\x00\x0A\x04\x01\x02\x00\x0B",
-        "V6 DuplicateExport; two exports have one name: \"a\"; the export section",
+        "V6 DuplicateExport; two exports have one name: \"a\"; the export section, entry 1, byte 25",
     ),
     // A start function with a parameter.
     (
         b"\x00asm\x01\x00\x00\x00\x01\x05\x01`\x01\x7F\x00\x03\x02\x01\x00\x08\x01\x00\x0A\x04\x01\x02\x00\x0B",
-        "V7 Start; the start function has parameters or results; the start section",
+        "V7 Start; the start function has parameters or results; the start section, byte 21",
     ),
     // A memory that ends before it begins.
     (
         b"\x00asm\x01\x00\x00\x00\x05\x04\x01\x01\x02\x01",
-        "V8 Limits; a limit of this host is passed: the least size is above the greatest one; the module as a whole",
+        "V8 Limits; a rule of WebAssembly 1.0 is broken: the least size is above the greatest one; the memory section, entry 0, byte 11",
     ),
     // Two results.
     (
         b"\x00asm\x01\x00\x00\x00\x01\x06\x01`\x00\x02\x7F\x7F",
-        "V8 Limits; a limit of this host is passed: more than 1 results of a function type; the module as a whole",
+        "V8 Limits; a rule of WebAssembly 1.0 is broken: more than one result of a function type; the type section, entry 0, byte 11",
     ),
     // Two memories.
     (
         b"\x00asm\x01\x00\x00\x00\x05\x05\x02\x00\x01\x00\x01",
-        "V8 Limits; a limit of this host is passed: more than 1 memories; the module as a whole",
+        "V8 Limits; a rule of WebAssembly 1.0 is broken: more than one memory; the memory section, entry 1, byte 13",
     ),
     // 65537 pages.
     (
         b"\x00asm\x01\x00\x00\x00\x05\x05\x01\x00\x81\x80\x04",
-        "V8 Limits; a limit of this host is passed: more than 65536 pages of a memory; the module as a whole",
+        "V8 Limits; a rule of WebAssembly 1.0 is broken: more than 65536 pages of a memory; the memory section, entry 0, byte 11",
     ),
     // 4097 table entries.
     (
         b"\x00asm\x01\x00\x00\x00\x04\x05\x01p\x00\x81 ",
-        "V8 Limits; a limit of this host is passed: more than 4096 entries at first of a table; the module as a whole",
+        "V8 Limits; a limit of this host is passed: more than 4096 entries at first of a table; the table section, entry 0, byte 11",
     ),
     // A parameter and 256 locals.
     (
@@ -246,17 +246,17 @@ const MODULES: [(&[u8], &str); 51] = [
     // An import that isn't offered.
     (
         b"\x00asm\x01\x00\x00\x00\x01\x06\x01`\x01\x7F\x01\x7F\x02\x0E\x01\x03env\x06printf\x00\x00",
-        "L1 UnknownImport; the host has nothing of its name: \"printf\" of module \"env\", [i32] -> [i32]; the import section, byte 19",
+        "L1 UnknownImport; the host has nothing of its name: \"printf\" of module \"env\", [i32] -> [i32]; the import section, entry 0, byte 19",
     ),
     // A global that isn't offered.
     (
         b"\x00asm\x01\x00\x00\x00\x02\x0D\x01\x04host\x03spi\x03\x7F\x00",
-        "L1 UnknownImport; the host has nothing of its name: \"spi\" of module \"host\", i32; the import section, byte 11",
+        "L1 UnknownImport; the host has nothing of its name: \"spi\" of module \"host\", i32; the import section, entry 0, byte 11",
     ),
     // An import of another type.
     (
         b"\x00asm\x01\x00\x00\x00\x01\x05\x01`\x01\x7F\x00\x02\x0C\x01\x04host\x03put\x00\x00",
-        "L2 ImportType; the host has another kind or type than it asks for: \"put\" of module \"host\", [i32] -> []; the import section, byte 18",
+        "L2 ImportType; the host has another kind or type than it asks for: \"put\" of module \"host\", [i32] -> []; the import section, entry 0, byte 18",
     ),
 ];
 

@@ -8,7 +8,7 @@ use wh_explain::{
 };
 
 // Modules, each with its verdict as JSON and in sentences.
-const MODULES: [(&[u8], &str, &str); 4] = [
+const MODULES: [(&[u8], &str, &str); 6] = [
     (
         b"\x00asm\x01\x00\x00\x00",
         "{\"file\":\"m.wasm\",\"kind\":\"module\",\"accepted\":true,\"refusal\":null}",
@@ -16,18 +16,28 @@ const MODULES: [(&[u8], &str, &str); 4] = [
     ),
     (
         b"\x00asm\x01\x00\x00\x00\x01\x02\x81\x08",
-        "{\"file\":\"m.wasm\",\"kind\":\"module\",\"accepted\":false,\"refusal\":{\"fault\":\"D11\",\"name\":\"Limit\",\"place\":{\"section\":\"type\",\"function\":null,\"function_name\":null,\"instruction\":null,\"opcode\":null,\"offset\":10},\"limit\":{\"name\":\"function types\",\"most\":1024},\"message\":\"a limit of this host is passed: more than 1024 function types\",\"advice\":\"Leave out what isn't called, by -Wl,--gc-sections, or split the module.\"}}",
+        "{\"file\":\"m.wasm\",\"kind\":\"module\",\"accepted\":false,\"refusal\":{\"fault\":\"D11\",\"name\":\"Limit\",\"place\":{\"section\":\"type\",\"entry\":null,\"function\":null,\"function_name\":null,\"instruction\":null,\"opcode\":null,\"offset\":10},\"limit\":{\"name\":\"function types\",\"most\":1024},\"message\":\"a limit of this host is passed: more than 1024 function types\",\"advice\":\"Leave out what isn't called, by -Wl,--gc-sections, or split the module.\"}}",
         "m.wasm: refused, D11 Limit\nWhat is wrong: a limit of this host is passed: more than 1024 function types\nWhere: the type section, byte 10\nWhat to do: Leave out what isn't called, by -Wl,--gc-sections, or split the module.\n",
     ),
     (
         b"\x00asm\x01\x00\x00\x00\x01\x04\x01\x60\x00\x00\x03\x02\x01\x00\x07\x05\x01\x01a\x00\x00\x0A\x05\x01\x03\x00\x92\x0B",
-        "{\"file\":\"m.wasm\",\"kind\":\"module\",\"accepted\":false,\"refusal\":{\"fault\":\"D9\",\"name\":\"Float\",\"place\":{\"section\":\"code\",\"function\":0,\"function_name\":\"a\",\"instruction\":0,\"opcode\":\"f32.add\",\"offset\":30},\"limit\":null,\"message\":\"floating point is left out: f32.add\",\"advice\":\"Compute with integers: no float or double may be left, in libraries that are linked in either.\"}}",
+        "{\"file\":\"m.wasm\",\"kind\":\"module\",\"accepted\":false,\"refusal\":{\"fault\":\"D9\",\"name\":\"Float\",\"place\":{\"section\":\"code\",\"entry\":null,\"function\":0,\"function_name\":\"a\",\"instruction\":0,\"opcode\":\"f32.add\",\"offset\":30},\"limit\":null,\"message\":\"floating point is left out: f32.add\",\"advice\":\"Compute with integers: no float or double may be left, in libraries that are linked in either.\"}}",
         "m.wasm: refused, D9 Float\nWhat is wrong: floating point is left out: f32.add\nWhere: the code section, function 0, instruction 0 (f32.add), byte 30\nThe function's name: \"a\"\nWhat to do: Compute with integers: no float or double may be left, in libraries that are linked in either.\n",
     ),
     (
         b"\x00asm\x01\x00\x00\x00\x01\x04\x01\x60\x00\x00\x03\x02\x01\x00\x07\x05\x01\x01a\x00\x00\x0A\x05\x01\x03\x00\x92\x0B\x00\x0D\x04name\x01\x06\x01\x00\x03sum",
-        "{\"file\":\"m.wasm\",\"kind\":\"module\",\"accepted\":false,\"refusal\":{\"fault\":\"D9\",\"name\":\"Float\",\"place\":{\"section\":\"code\",\"function\":0,\"function_name\":\"sum\",\"instruction\":0,\"opcode\":\"f32.add\",\"offset\":30},\"limit\":null,\"message\":\"floating point is left out: f32.add\",\"advice\":\"Compute with integers: no float or double may be left, in libraries that are linked in either.\"}}",
+        "{\"file\":\"m.wasm\",\"kind\":\"module\",\"accepted\":false,\"refusal\":{\"fault\":\"D9\",\"name\":\"Float\",\"place\":{\"section\":\"code\",\"entry\":null,\"function\":0,\"function_name\":\"sum\",\"instruction\":0,\"opcode\":\"f32.add\",\"offset\":30},\"limit\":null,\"message\":\"floating point is left out: f32.add\",\"advice\":\"Compute with integers: no float or double may be left, in libraries that are linked in either.\"}}",
         "m.wasm: refused, D9 Float\nWhat is wrong: floating point is left out: f32.add\nWhere: the code section, function 0, instruction 0 (f32.add), byte 30\nThe function's name: \"sum\"\nWhat to do: Compute with integers: no float or double may be left, in libraries that are linked in either.\n",
+    ),
+    (
+        b"\x00asm\x01\x00\x00\x00\x01\x05\x01`\x01\x7F\x00\x02\x0E\x01\x03env\x06memcpy\x00\x00",
+        "{\"file\":\"m.wasm\",\"kind\":\"module\",\"accepted\":false,\"refusal\":{\"fault\":\"L1\",\"name\":\"UnknownImport\",\"place\":{\"section\":\"import\",\"entry\":0,\"function\":null,\"function_name\":null,\"instruction\":null,\"opcode\":null,\"offset\":18},\"limit\":null,\"message\":\"the host has nothing of its name: \\\"memcpy\\\" of module \\\"env\\\", [i32] -> []\",\"advice\":\"Define it in the module, or link a library that does: docs/guide/compiling-c.md and compiling-libc.md say how.\"}}",
+        "m.wasm: refused, L1 UnknownImport\nWhat is wrong: the host has nothing of its name: \"memcpy\" of module \"env\", [i32] -> []\nWhere: the import section, entry 0, byte 18\nWhat to do: Define it in the module, or link a library that does: docs/guide/compiling-c.md and compiling-libc.md say how.\n",
+    ),
+    (
+        b"\x00asm\x01\x00\x00\x00\x01\x05\x01`\x01\x7F\x00\x02$\x01\x16wasi_snapshot_preview1\x09proc_exit\x00\x00",
+        "{\"file\":\"m.wasm\",\"kind\":\"module\",\"accepted\":false,\"refusal\":{\"fault\":\"L1\",\"name\":\"UnknownImport\",\"place\":{\"section\":\"import\",\"entry\":0,\"function\":null,\"function_name\":null,\"instruction\":null,\"opcode\":null,\"offset\":18},\"limit\":null,\"message\":\"the host has nothing of its name: \\\"proc_exit\\\" of module \\\"wasi_snapshot_preview1\\\", [i32] -> []\",\"advice\":\"There is no WASI here: docs/guide/compiling-libc.md says how C is built without it, compiling-cpp.md C++, and compiling-rust.md Rust.\"}}",
+        "m.wasm: refused, L1 UnknownImport\nWhat is wrong: the host has nothing of its name: \"proc_exit\" of module \"wasi_snapshot_preview1\", [i32] -> []\nWhere: the import section, entry 0, byte 18\nWhat to do: There is no WASI here: docs/guide/compiling-libc.md says how C is built without it, compiling-cpp.md C++, and compiling-rust.md Rust.\n",
     ),
 ];
 

@@ -12,7 +12,7 @@ const ACCEPTED: [&str; 3] = [
 ];
 
 // Documents that are refused, each with all that is said of it.
-const REFUSED: [(&str, &str); 17] = [
+const REFUSED: [(&str, &str); 18] = [
     (
         "frames = 1",
         "frames is 1, and has to be a number from 2 to 262144. ",
@@ -61,7 +61,14 @@ const REFUSED: [(&str, &str); 17] = [
         "hash = 0",
         "hash is 0, and has to be \"fnv64\" or \"constant\". ",
     ),
-    ("swap = 1", "swap is 1, and has to be a path in quotes. "),
+    (
+        "swap = 1",
+        "swap is 1, and has to be a path in quotes, and not an empty one. ",
+    ),
+    (
+        "swap = \"\"",
+        "swap is \"\", and has to be a path in quotes, and not an empty one. ",
+    ),
     ("workers = 4", "workers is 4, and there is no such key. "),
     (
         "[frames]",
@@ -107,7 +114,7 @@ fn expect_accepted(alloc: Global, text: &str) -> Result<()> {
     Ok(())
 }
 
-/// Fails where a document of so many spaces isn't accepted, or not refused, as it has to be.
+/// Fails if a document of `length` spaces isn't accepted, or not refused, as it has to be.
 fn expect_length(alloc: Global, length: usize, is_accepted: bool) -> Result<()> {
     let spaces = vec![in alloc; b' '; length]?;
     let verdict = explain_settings(alloc, &spaces)?;

@@ -29,7 +29,7 @@ impl fmt::Display for Answer {
     }
 }
 
-/// The answer that a result is. Where memory was refused there is none.
+/// Returns the answer that a result is; fails if an allocation failed.
 pub fn answer_of(decoded: &Result<Module, DecodeError>) -> Result<Answer> {
     match decoded {
         Ok(_) => Ok(Answer::Module),
@@ -45,7 +45,7 @@ pub fn answer_of(decoded: &Result<Module, DecodeError>) -> Result<Answer> {
     }
 }
 
-/// What a list of cuts, as `ok 8 15 D12 19 26`, says of the beginning of this length.
+/// Returns what a list of cuts, as `ok 8 15 D12 19 26`, says of the beginning of this length.
 pub fn expected_at(list: &str, length: usize) -> Result<Answer> {
     let mut answer = Answer::Module;
     for word in list.split_whitespace() {

@@ -1,7 +1,8 @@
 //! How cases are written.
 //!
-//! A module is words one behind the other: bytes as hexadecimal digits, `6a0b`; the same bytes so many times, `01*300`;
-//! and once at most a range of bytes, `28..35`, which makes as many cases, each with one byte of the range in its place.
+//! A module is words one after the other: bytes as hexadecimal digits, `6a0b`; the same bytes a number of times,
+//! `01*300`; and once at most a range of bytes, `28..35`, which makes as many cases, each with one byte of the range in
+//! its place.
 
 use crate::answer::Answer;
 use anyhow::{Result, bail};
@@ -20,7 +21,7 @@ pub struct Pattern {
 }
 
 impl Pattern {
-    /// The module with this byte of the range.
+    /// Returns the module with this byte of the range.
     pub fn bytes(&self, alloc: Global, byte: u8) -> Result<Vec<u8>> {
         let mut bytes = Vec::from_slice(alloc, &self.before)?;
         if self.ranged {
@@ -31,7 +32,7 @@ impl Pattern {
     }
 }
 
-/// A decimal number.
+/// Parses a decimal number.
 pub fn parse_number(word: &str) -> Result<usize> {
     match word.parse::<usize>() {
         Ok(number) => Ok(number),
@@ -66,7 +67,7 @@ fn add_word(alloc: Global, bytes: &mut Vec<u8>, word: &str) -> Result<()> {
     }
 }
 
-/// The modules that a text spells.
+/// Parses the pattern of modules that a text spells.
 pub fn parse_pattern(alloc: Global, text: &str) -> Result<Pattern> {
     let mut first = 0u8;
     let mut last = 0u8;
@@ -96,7 +97,7 @@ pub fn parse_pattern(alloc: Global, text: &str) -> Result<Pattern> {
     })
 }
 
-/// An answer as cases name it.
+/// Parses an answer as cases name it.
 pub fn parse_answer(text: &str) -> Result<Answer> {
     if text == "ok" {
         return Ok(Answer::Module);

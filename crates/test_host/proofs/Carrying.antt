@@ -1,6 +1,5 @@
 -- What calls of a host leave of the tickets that are out, and of what the device holds.
-use Rattle.std.proofs.Common.{◌≡◌, ◌≢◌, ℕ, ◌<◌, ◌++◌, inl, inr, Bool, true, false, cond, List, [], ◌∷◌, Option, Some, None, Result, Ok, Err, length, map, zero, suc, refl, sym, ap, ◌∙◌, subst, arith, slice_get, slice_set, get_or, length-set, replicate}
-use Rattle.std.specs.Prelude.{OnOk, OnErr, is_ok}
+use Rattle.std.proofs.Common.{◌≡◌, ◌≢◌, ℕ, ◌<◌, ◌++◌, inl, inr, Bool, true, false, cond, List, [], ◌∷◌, Option, Some, None, Ok, length, map, zero, suc, refl, sym, ap, ◌∙◌, subst, arith, slice_get, slice_set, get_or, length-set, replicate}
 use Rattle.std.specs.List.{remove}
 use Rattle.std.proofs.lemmas.List.{length-map, map-append}
 use Rattle.std.proofs.lemmas.Option.{slice_get-map}
@@ -9,22 +8,17 @@ use Rattle.std.proofs.Props.{props}
 use Rattle.std.proofs.lemmas.Grind.{merely}
 use Rattle.std.proofs.Math.Logic.{∥∥₁_elim, ∥∥₁_map}
 use Rattle.wh_model.specs.declared.memory.Need.{Need}
-use Rattle.wh_host_model.specs.declared.plain.InstId.{InstId}
-use Rattle.wh_host_model.specs.declared.Tax.{Tax}
-use Rattle.wh_host_model.specs.declared.plain.SwapError.{SwapError}
-use Rattle.wh_host_model.specs.declared.states.EvictEnd.{EvictEnd}
-use Rattle.wh_host_model.specs.declared.states.FetchEnd.{FetchEnd}
-use Rattle.wh_host_model.specs.declared.states.Slot.{Slot}
-use Rattle.wh_host_model.specs.declared.states.Slot.TheVariants.{Vacant, Taken, Evicting, Fetching}
-use Rattle.wh_host_model.specs.Space.Errands.{Errand, Pass, errand_for, pass_of, tickets, to_read, to_write}
-use Rattle.wh_host_model.specs.Space.Parts.{Slots, Space, wants}
-use Rattle.wh_host_model.specs.Space.Sound.{IsSound}
-use Rattle.wh_host_model.specs.Space.Tickets.{BeginsEvict, BeginsFetch, CommitsFetch}
-use Rattle.wh_host_model.specs.Host.Worlds.{World}
+use Rattle.wh_space_model.specs.declared.plain.InstId.{InstId}
+use Rattle.wh_space_model.specs.declared.Tax.{Tax}
+use Rattle.wh_space_model.specs.declared.states.EvictEnd.{EvictEnd}
+use Rattle.wh_space_model.specs.declared.states.FetchEnd.{FetchEnd}
+use Rattle.wh_space_model.specs.declared.states.Slot.{Slot}
+use Rattle.wh_space_model.specs.declared.states.Slot.TheVariants.{Vacant, Taken, Evicting, Fetching}
+use Rattle.wh_space_model.specs.{Errand, Pass, errand_for, pass_of, tickets, to_read, to_write, Slots, Space, wants, IsSound, BeginsEvict, BeginsFetch, CommitsFetch, page_at}
+use Rattle.wh_host_model.specs.Host.{World}
 use Rattle.wh_host_model.proofs.Host.Lasting.{frames_are_awaited, memory_stays_sound}
-use Rattle.wh_host_model.proofs.Space.Putting.{there_of}
-use Rattle.wh_host_model.proofs.Space.Slotting.{slot_taken, vacant_there}
-use Rattle.wh_host_model.specs.Space.States.{page_at}
+use Rattle.wh_space_model.proofs.Putting.{there_of}
+use Rattle.wh_space_model.proofs.Slotting.{slot_taken, vacant_there}
 use Rattle.wh_host.specs.declared.transit.Eviction.{Eviction}
 use Rattle.wh_host.specs.declared.transit.Fetch.{Fetch}
 use Rattle.wh_host.specs.TicketsOut.{EndsEvict}
@@ -166,11 +160,6 @@ fetch_fewer s k read bytes end s2 (inr (i, p, f, used, inr (failed, e, is))) = r
   held = ap (λ (z : Space). z.slots.held) is;
   out = out_set s s2 k Taken (ap (λ (z : Space). z.slots.uses) is);
 }
-
--- what the device holds, by its answer
-pub wrote_so : (answer : Result Unit SwapError) (held held2 : List (List ℕ)) (k : ℕ) (bytes : List ℕ) → OnOk answer (held2 ≡ slice_set held k bytes) → OnErr answer (held2 ≡ slice_set held k []) → held2 ≡ slice_set held k (cond (is_ok answer) bytes [])
-wrote_so (Ok done) held held2 k bytes ok err = ok
-wrote_so (Err fault) held held2 k bytes ok err = err
 
 other_errand : (out : List (Option Errand)) (k : ℕ) → slice_get out k ≡ Some (Some to_write) → slice_get out k ≢ Some (Some to_read)
 other_errand out k one two = let bad : Some (Some to_write) ≡ Some (Some to_read) = sym one ∙ two in cc bad

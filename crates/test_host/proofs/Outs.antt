@@ -1,8 +1,8 @@
 -- Tickets that are out, by the slots that they are for.
 use Rattle.std.proofs.Common.{◌≡◌, ◌≢◌, ℕ, ◌<◌, ◌++◌, ◌⊎◌, inl, inr, List, [], ◌∷◌, Option, Some, None, length, zero, suc, refl, sym, ap, ◌∙◌, subst, arith, slice_get, slice_set, get_or}
 use Rattle.std.specs.List.{remove}
-use Rattle.wh_host_model.specs.Space.Errands.{Errand}
-use Rattle.wh_host_model.proofs.Space.Putting.{set_other, set_same, there_of}
+use Rattle.wh_space_model.specs.{Errand}
+use Rattle.wh_space_model.proofs.Putting.{set_other, set_same, there_of}
 use Rattle.test_host.specs.Carried.{AreOut}
 
 -- one behind the others

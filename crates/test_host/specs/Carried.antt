@@ -1,7 +1,7 @@
 -- A host, the device beside it, and the tickets that are out.
 use Rattle.std.specs.Prelude.{◌≡◌, ℕ, List, length, map, slice_get, Option, Some}
-use Rattle.wh_host_model.specs.Space.Errands.{Errand, pass_of, to_read, to_write}
-use Rattle.wh_host_model.specs.Space.Parts.{Space}
+use Rattle.wh_space_model.specs.Errands.{Errand, pass_of, to_read, to_write}
+use Rattle.wh_space_model.specs.Parts.{Space}
 use Rattle.wh_host_model.specs.Host.Worlds.{World}
 use Rattle.wh_host.specs.declared.transit.Eviction.{Eviction}
 use Rattle.wh_host.specs.declared.transit.Fetch.{Fetch}

@@ -3,7 +3,8 @@
 
 use crate::life::{Life, Step};
 use Step::{Admit, Emit, Epoch, Invoke, Provide, Release, ReportIs, Scan, ScanAlike, Store, Turn};
-use wh_host_model::{Tax, TurnEnd};
+use wh_host_model::TurnEnd;
+use wh_space_model::Tax;
 
 const UNTAXED: Tax = Tax { num: 0, den: 1 };
 
@@ -124,7 +125,7 @@ const CHARGED_BY_NUMBER: &[Step] = &[
     ReportIs(
         "# frames 8 used 2 free 6\n# slots 64 used 0 free 64\n# shared frames 1 sharers 2\n#     1     100     2    16     1     1     0 100/1\n#     2     100     2    16     1     1     0 100/1\n#     3     100     2    16     0     0     0 -\n",
     ),
-    // A page of zeros lies on no frame.
+    // A page of zeros has no frame.
     Scan,
     ReportIs(
         "# frames 8 used 1 free 7\n# slots 64 used 0 free 64\n# shared frames 1 sharers 2\n#     1     100     2    16     0     0     0 -\n#     2     100     2    16     1     1     0 100/1\n#     3     100     2    16     0     0     0 -\n",

@@ -3,15 +3,16 @@
 use crate::modules::{ENDLESS, SEVEN};
 use anyhow::{Result, ensure};
 use std::alloc::Global;
-use wh_host::{Enrolled, Host, HostError, ModuleId, Params, Roll, Suspension};
-use wh_host_model::{InstId, Tax, TurnEnd};
+use wh_host::{Host, HostError, ModuleId, Params, Roll, RollInstance, Suspension};
+use wh_host_model::TurnEnd;
+use wh_space_model::{InstId, Tax};
 
 // A host of many frames and slots.
 fn host_of_many(alloc: Global) -> Result<Host> {
     Ok(Host::new(alloc, 1024, 4096, Tax { num: 3, den: 4 })?)
 }
 
-// An instance with so many frames at least.
+// An instance with a minimum of `min` frames.
 fn admit(host: &mut Host, alloc: Global, of: ModuleId, min: u64) -> Result<InstId> {
     let params = Params {
         shares: 100,
@@ -45,14 +46,14 @@ fn open_calls(host: &mut Host, alloc: Global) -> Result<()> {
     Ok(())
 }
 
-/// 1024 calls may be open, and no more.
+/// Checks that 1024 calls may be open, and no more.
 pub fn open_most(alloc: Global) -> Result<()> {
     let mut host = host_of_many(alloc)?;
     open_calls(&mut host, alloc)
 }
 
-// Whether it is the endless module's instance with a call open that waits for fuel, behind the start.
-fn is_endless(enrolled: &Enrolled, id: InstId, of: ModuleId) -> bool {
+// Whether it is the endless module's instance with a call open that waits for fuel, after the start.
+fn is_endless(enrolled: &RollInstance, id: InstId, of: ModuleId) -> bool {
     let params = &enrolled.params;
     enrolled.id == id
         && enrolled.of == of
@@ -88,16 +89,16 @@ fn come_and_go(host: &mut Host, alloc: Global) -> Result<()> {
     let output = host.release(alloc, a)?;
     ensure!(output.len() == 0, "there is output");
     let call = host.invoke(alloc, b, "f", &[], 5)?;
-    let end = host.turn(b, 1000);
+    let (end, charges) = host.turn(b, 1000);
     ensure!(
-        (call, end) == (1, TurnEnd::Fuel),
-        "the call came to {end:?}"
+        (call, end, charges) == (1, TurnEnd::Fuel, 5),
+        "the call came to {end:?} in {charges} charges"
     );
     ensure!(is_roll(host, alloc, b, endless)?, "the roll lists others");
     Ok(())
 }
 
-/// A roll of a module and an instance that has a call open, behind one that was released.
+/// Checks the roll of a module and an instance that has a call open, after one that was released.
 pub fn enroll(alloc: Global) -> Result<()> {
     let mut host = host_of_many(alloc)?;
     come_and_go(&mut host, alloc)

@@ -64,7 +64,7 @@ impl Call {
         }
     }
 
-    /// The name and the arguments of it.
+    /// Returns the name and the arguments by which it is asked, and how many arguments count.
     pub fn asked(self) -> (&'static str, [i128; 3], usize) {
         match self {
             Call::Set8 { at, byte } => ("set8", [i128::from(at), i128::from(byte), 0], 2),
@@ -102,7 +102,7 @@ struct Asked {
     ended: Ended,
 }
 
-/// An instance on a flat memory. Its calls are at the places of its journal, behind its start.
+/// An instance on a flat memory. Its calls are at the places of its journal, after its start.
 pub struct Flat {
     memory: FlatMemory,
     calls: Vec<Asked>,
@@ -121,7 +121,7 @@ impl Drop for Flat {
 }
 
 impl Flat {
-    /// One over this memory, all of whose bytes are 0.
+    /// Creates one over this memory, all of whose bytes are 0.
     pub fn over(alloc: Global, memory: FlatMemory) -> Flat {
         Flat {
             memory,
@@ -130,7 +130,7 @@ impl Flat {
         }
     }
 
-    /// All its bytes are 0 again, and it has no calls.
+    /// Zeroes all its bytes, and forgets its calls.
     pub fn clear(&mut self) {
         for asked in &self.calls {
             for at in asked.call.places() {
@@ -143,7 +143,7 @@ impl Flat {
         self.ended = 0;
     }
 
-    /// Its memory, all of whose bytes are 0 again.
+    /// Returns its memory, with all bytes zeroed.
     pub fn cleared(mut self) -> FlatMemory {
         self.clear();
         let Flat {
@@ -154,12 +154,12 @@ impl Flat {
         memory
     }
 
-    /// All bytes.
+    /// Returns all bytes.
     pub fn bytes(&self) -> &[u8] {
         self.memory.bytes()
     }
 
-    /// The hash of one of its pages.
+    /// Returns the hash of one of its pages.
     pub fn hash_of<H: PageHash>(&self, hasher: &H, page: u32) -> u64 {
         let bytes = self.bytes().chunks(4096).nth(page as usize);
         match bytes.and_then(|bytes| bytes.as_array::<4096>()) {
@@ -168,16 +168,17 @@ impl Flat {
         }
     }
 
-    /// How many calls are open.
+    /// Returns the number of open calls.
     pub fn open(&self) -> usize {
         self.calls.len().saturating_sub(self.ended)
     }
 
-    /// How many calls there were.
+    /// Returns the number of calls.
     pub fn len(&self) -> usize {
         self.calls.len()
     }
 
+    /// Opens a call with this fuel.
     pub fn ask(&mut self, call: Call, fuel: u64) -> Result<()> {
         self.calls.push(Asked {
             call,
@@ -193,7 +194,7 @@ impl Flat {
         self.calls.get_mut(self.ended)
     }
 
-    /// More fuel for the present call. Whether there is one.
+    /// Adds fuel to the present call; tells whether there is one.
     pub fn refuel(&mut self, fuel: u64) -> bool {
         let Some(asked) = self.present() else {
             return false;
@@ -202,7 +203,7 @@ impl Flat {
         true
     }
 
-    /// The end of the present call. Whether there is one.
+    /// Cancels the present call; tells whether there is one.
     pub fn cancel(&mut self) -> bool {
         let Some(asked) = self.present() else {
             return false;
@@ -259,7 +260,7 @@ impl Flat {
         Ok(())
     }
 
-    /// The present call goes on to so many charges, which are more than it has.
+    /// Runs the present call up to `charges` charges, which are more than it has.
     pub fn go_on(&mut self, charges: u64) -> Result<()> {
         let asked = *self.present().context("no call is open")?;
         for _ in asked.charges..charges {
@@ -268,18 +269,18 @@ impl Flat {
         Ok(())
     }
 
-    /// The place in the journal of the present call.
+    /// Returns the place of the present call in the journal.
     pub fn present_at(&self) -> Result<u32> {
         Ok(u32::try_from(self.ended.saturating_add(1))?)
     }
 
-    /// How many charges the present call has taken, where there is one, and whether that is all its fuel.
+    /// Returns the charges that the present call has taken, if there is one, and whether that is all its fuel.
     pub fn taken(&self) -> Option<(u64, bool)> {
         let asked = self.calls.get(self.ended)?;
         Some((asked.charges, asked.charges == asked.fuel))
     }
 
-    /// Whether this is the status of the call at a place of the list.
+    /// Tells whether this is the status of the call at a place of the list.
     pub fn is_status(&self, at: usize, status: Option<CallStatus>) -> bool {
         let Some(asked) = self.calls.get(at) else {
             return false;

@@ -5,9 +5,10 @@ use crate::views::PAGES;
 use anyhow::{Context, Result, ensure};
 use std::alloc::Global;
 use wh_host::{AdmitError, CallStatus, CallValue, HostError, ModuleId, Suspension};
-use wh_host_model::{EvictEnd, FetchEnd, InstId, Offer, SwapError, Tax, TurnEnd};
+use wh_host_model::TurnEnd;
 use wh_kernels::{ConstantHash, FnvHash};
 use wh_model::{Trap, ValType};
+use wh_space_model::{EvictEnd, FetchEnd, InstId, Offer, SwapError, Tax};
 
 /// A step, and last what has to come of it. An instance is named by its place among those that the table admits; where fewer
 /// are there, it is one that nobody has admitted. A module is named by its number; the pager is 0. A fault is its number.
@@ -18,11 +19,11 @@ pub enum Step {
     /// An instance of a module is admitted, with these frames at least and pages at most, and fuel for its start: its place
     /// and its number.
     Admit(usize, (u64, u64), u64, Result<(usize, u64), u8>),
-    /// A call is asked for, with these arguments and so much fuel: its place in the journal.
+    /// A call is asked for, with these arguments and this fuel: its place in the journal.
     Invoke(usize, &'static str, &'static [i128], u64, Result<u32, u8>),
     /// A byte is stored at an address of an instance of the pager, in a turn that has all charges for it.
     Store(usize, i128, i128, TurnEnd),
-    /// A turn of so many charges.
+    /// A turn of this many charges.
     Turn(usize, u64, TurnEnd),
     /// More fuel for the present call.
     Refuel(usize, u64, Result<(), u8>),
@@ -34,11 +35,11 @@ pub enum Step {
     Release(usize, Result<&'static [u8], u8>),
     /// How far the call at a place of the journal is.
     Status(usize, u32, Option<CallStatus>),
-    /// The call at a place of the journal returned this i32 behind two charges.
+    /// The call at a place of the journal returned this i32 after two charges.
     Returned(usize, u32, u64),
-    /// It returned nothing, behind so many.
+    /// It returned nothing, after this many charges.
     Done(usize, u32, u64),
-    /// It waits for a device that failed so, behind so many.
+    /// It is blocked on a device that failed so, after this many charges.
     Failed(usize, u32, SwapError, u64),
     /// It has trapped, whatever its charges.
     Trapped(usize, u32, Trap),
@@ -56,7 +57,7 @@ pub enum Step {
     Epoch,
     /// The next step is made ready, while the device's call of this number fails: how many pages left for it.
     Provide(usize, u32, Result<u64, SwapError>),
-    /// Turns and provisions, none of which fails, until the instance can't go on.
+    /// Runs turns and provisions, none of which fails, until the instance can't go on.
     RunOut(usize),
     /// A page begins to leave for an instance: its first byte.
     EvictBegin(usize, Option<u8>),
@@ -113,7 +114,7 @@ fn are_all(bytes: &[u8], want: &[(usize, u8)]) -> bool {
     there && count == want.len() && bytes.len() == 65536
 }
 
-// What a call comes to that stores a byte.
+// The outcome of a call that stores a byte.
 fn stored(rig: &mut Rig, alloc: Global, id: InstId, at: i128, byte: i128) -> Option<TurnEnd> {
     match rig.invoke(alloc, id, "set8", &[at, byte], 3) {
         Ok(_) => Some(rig.turn(id, 3)),
@@ -137,7 +138,7 @@ fn leaves(rig: &mut Rig, alloc: Global, id: InstId, want: Option<u8>) -> Result<
     }
 }
 
-// A call that returned this i32 behind two charges.
+// A call that returned this i32 after two charges.
 fn returned(word: u64) -> Option<CallStatus> {
     Some(CallStatus::Returned {
         value: Some(CallValue {
@@ -148,7 +149,7 @@ fn returned(word: u64) -> Option<CallStatus> {
     })
 }
 
-// One that returned nothing behind so many.
+// One that returned nothing after `charges` charges.
 fn done(charges: u64) -> Option<CallStatus> {
     Some(CallStatus::Returned {
         value: None,
@@ -156,7 +157,7 @@ fn done(charges: u64) -> Option<CallStatus> {
     })
 }
 
-// One that waits for a device that failed so, behind so many.
+// One that is blocked on a device that failed so, after `charges` charges.
 fn failed(fault: SwapError, charges: u64) -> Option<CallStatus> {
     Some(CallStatus::Present {
         waiting_for: Some(Suspension::Device(fault)),
@@ -290,7 +291,7 @@ fn first_unlike(
     Ok(None)
 }
 
-// Takes the steps of a beginning and those behind it, and fails at the first one that comes to something else.
+// Takes the steps of a beginning and those after it, and fails at the first one that comes to something else.
 fn take_all(rig: &mut Rig, alloc: Global, before: &[Step], steps: &[Step]) -> Result<()> {
     let mut admitted = Vec::new(alloc);
     let unlike = first_unlike(rig, alloc, &mut admitted, before)?;

@@ -7,8 +7,9 @@ use anyhow::{Context, Result, ensure};
 use std::alloc::Global;
 use wh_flatmem::FlatMemory;
 use wh_host::Suspension;
-use wh_host_model::{EvictEnd, FetchEnd, InstId, Offer, Tax, TurnEnd};
+use wh_host_model::TurnEnd;
 use wh_kernels::{FnvHash, PageHash};
+use wh_space_model::{EvictEnd, FetchEnd, InstId, Offer, Tax};
 
 // How many lists there are. Their digits are those of the multiples of 97.
 const LISTS: u32 = 1000;
@@ -76,8 +77,8 @@ impl Ends {
     }
 }
 
-/// How many views were compared behind single events, and how many of them were read from the first byte to the last one while a
-/// ticket was out.
+/// How many views were compared after single events, and how many of them were read from the first byte to the last one
+/// while a ticket was out.
 #[derive(Clone, Copy, Debug, Default)]
 pub struct Seen {
     pub views: u32,
@@ -140,6 +141,7 @@ fn look(rig: &mut Rig, alloc: Global, pair: &Pair, seen: &mut Seen) -> Result<()
 }
 
 impl Two {
+    /// Creates a host with two instances and a flat memory for each.
     pub fn new(alloc: Global) -> Result<Two> {
         let first = FlatMemory::new(alloc, 1, 1)?;
         let second = FlatMemory::new(alloc, 1, 1)?;
@@ -186,7 +188,7 @@ impl Two {
         Ok(())
     }
 
-    /// The end of the test: all tickets come back.
+    /// Ends the test: takes back all tickets.
     pub fn finish(self) {
         let Two { rig, a: _, b: _ } = self;
         rig.finish();
@@ -353,7 +355,8 @@ fn drive_all<H: PageHash>(
     Ok(())
 }
 
-/// All lists under a hash, each behind these events: how often each end came, and how many views were compared.
+/// Runs all lists of events under a hash, each after these first ones; returns how often each end came, and how many
+/// views were compared.
 pub fn run<H: PageHash>(alloc: Global, hasher: &H, prefix: &[u32]) -> Result<(Ends, Seen)> {
     let mut ends = Ends::default();
     let mut seen = Seen::default();

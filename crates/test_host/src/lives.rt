@@ -6,8 +6,9 @@ use Step::{
     Admit, Cancel, Epoch, Invoke, Load, Refuel, Release, ReportIs, Retry, Status, Trapped, Turn,
 };
 use wh_host::{CallStatus, CallValue, Suspension};
-use wh_host_model::{Tax, TurnEnd};
+use wh_host_model::TurnEnd;
 use wh_model::{Trap, ValType};
+use wh_space_model::Tax;
 
 /// All idle pages count four times.
 const TAXED: Tax = Tax { num: 3, den: 4 };
@@ -103,7 +104,7 @@ const REFUSED: &[Step] = &[
     Turn(0, 1000, TurnEnd::Idle),
 ];
 
-/// The call is the present one, stands for nothing, and has taken no charge.
+/// The call is the present one, isn't blocked, and has taken no charge.
 const PRESENT: CallStatus = CallStatus::Present {
     waiting_for: None,
     charges: 0,
@@ -142,7 +143,7 @@ const TOLD: &[Step] = &[
     Status(1, 0, None),
 ];
 
-/// So is fuel that ran out, a call that was cancelled, one that trapped, and one behind it.
+/// So is fuel that ran out, a call that was cancelled, one that trapped, and one after it.
 const TOLD_OF_ENDS: &[Step] = &[
     Load(&ENDLESS, Some(1)),
     Load(&DYING, Some(2)),

@@ -31,8 +31,8 @@ use rig::Rig;
 use std::alloc::Global;
 use streams::run_streams;
 use trial::{Counts, Trial};
-use wh_host_model::Tax;
 use wh_kernels::{ConstantHash, FnvHash, PageHash};
+use wh_space_model::Tax;
 
 const LISTS: u32 = 10000;
 
@@ -101,7 +101,7 @@ fn look(ends: &Ends, seen: &Seen) -> Result<()> {
     Ok(())
 }
 
-// The lists from their beginning, and behind the eviction of the page that is then wanted.
+// The lists from their beginning, and after the eviction of the page that is then wanted.
 fn run_lists<H: PageHash>(rt: &(impl Print + AllocGlobal), hasher: &H, name: &str) -> Result<()> {
     let (ends, seen) = lists::run(rt.alloc(), hasher, &[])?;
     look(&ends, &seen)?;

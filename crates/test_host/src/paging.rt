@@ -7,7 +7,8 @@ use Step::{
     FetchFails, Invoke, Offer, OfferAlike, Provide, Release, Report, ReportIs, Retry, Returned,
     RunOut, Scan, Store, Turn, Waits,
 };
-use wh_host_model::{EvictEnd, FetchEnd, Offer as Offered, SwapError, Tax, TurnEnd};
+use wh_host_model::TurnEnd;
+use wh_space_model::{EvictEnd, FetchEnd, Offer as Offered, SwapError, Tax};
 
 const UNTAXED: Tax = Tax { num: 0, den: 1 };
 

@@ -7,7 +7,7 @@ use anyhow::{Context, Result, bail, ensure};
 use std::alloc::Global;
 use wh_flatmem::FlatMemory;
 use wh_host::{CallStatus, Suspension};
-use wh_host_model::InstId;
+use wh_space_model::InstId;
 
 /// An instance, and the same on a flat memory, which goes as far as the instance has come.
 pub struct Pair {
@@ -22,7 +22,7 @@ impl Drop for Pair {
 }
 
 impl Pair {
-    /// A new instance, and a flat memory of zeros.
+    /// Creates the pair of a new instance and a flat memory of zeros.
     pub fn new(alloc: Global, id: InstId, memory: FlatMemory) -> Pair {
         Pair {
             id,
@@ -30,13 +30,13 @@ impl Pair {
         }
     }
 
-    /// Its memory, with nothing in it, when the instance is gone.
+    /// Returns its memory, zeroed, when the instance is gone.
     pub fn cleared(self) -> FlatMemory {
         let Pair { id: _, flat } = self;
         flat.cleared()
     }
 
-    /// Another instance, and the flat memory is one of zeros again.
+    /// Takes another instance, and zeroes the flat memory.
     pub fn renew(&mut self, id: InstId) {
         self.id = id;
         self.flat.clear();
@@ -55,7 +55,7 @@ impl Pair {
         Ok(())
     }
 
-    /// The flat one goes as far as the other has come, and its calls come to the same.
+    /// Runs the flat one as far as the other has come, and compares the outcomes of its calls.
     pub fn follow(&mut self, rig: &Rig) -> Result<()> {
         for _ in 0..10 {
             let at = self.flat.present_at()?;
@@ -73,7 +73,7 @@ impl Pair {
         bail!("there are too many calls")
     }
 
-    // The present call has ended after so many charges: so it has on the flat memory, in the same way.
+    // The present call has ended after `charges` charges: so it has on the flat memory, in the same way.
     fn end(&mut self, rig: &Rig, at: u32, charges: u64) -> Result<()> {
         self.flat.go_on(charges)?;
         ensure!(self.flat.present_at()? > at, "a call ends early");
@@ -91,7 +91,7 @@ impl Pair {
         Ok(())
     }
 
-    /// For what the present call stands.
+    /// Returns what the present call is blocked on.
     pub fn waiting_for(&self, rig: &Rig) -> Result<Option<Suspension>> {
         let at = self.flat.present_at()?;
         match rig.status(self.id, at) {
@@ -100,7 +100,7 @@ impl Pair {
         }
     }
 
-    /// All calls go on to their end, with fuel enough and other tries. No ticket is out.
+    /// Runs all calls to their end, with fuel enough and retries. No ticket may be out.
     pub fn run_out(&mut self, rig: &mut Rig, alloc: Global) -> Result<()> {
         for _ in 0..100 {
             self.follow(rig)?;
@@ -121,7 +121,7 @@ impl Pair {
         bail!("its calls don't end")
     }
 
-    /// The present call is cancelled, if there is one.
+    /// Cancels the present call, if there is one.
     pub fn break_off(&mut self, rig: &mut Rig) -> Result<()> {
         if self.flat.cancel() {
             rig.cancel(self.id)?;
@@ -129,8 +129,8 @@ impl Pair {
         Ok(())
     }
 
-    /// All calls came to the same, and all bytes are the same. The instance goes. Its first pages, which may have left, are
-    /// looked at last: while others are, tickets stay out.
+    /// Compares the outcomes of all calls and all bytes, and releases the instance. Its first pages, which may be
+    /// swapped, are compared last: while others are, tickets stay out.
     pub fn compare(&self, rig: &mut Rig, alloc: Global) -> Result<()> {
         for at in 0..self.flat.len() {
             self.is_same(rig, u32::try_from(at)?.saturating_add(1))?;

@@ -1,7 +1,7 @@
 // A host beside its swap device, with the tickets that are out.
 
 ghost use Rattle.std.specs.Prelude.{◌≡◌, [], true, IfOk, replicate, vec_len};
-ghost use Rattle.wh_host_model.specs.Space.Errands.{tickets};
+ghost use Rattle.wh_space_model.specs.Errands.{tickets};
 ghost use Rattle.wh_swap.specs.Written.{page_held};
 ghost use Rattle.test_host.specs.Carried.{IsCarried, IsSomeHost, coming_slots, leaving_slots};
 
@@ -14,9 +14,10 @@ use std::rc::Rc;
 use wh_host::{
     AdmitError, CallStatus, Eviction, Fetch, Host, HostError, ModuleError, ModuleId, Params,
 };
-use wh_host_model::{InstId, Offer, SwapError, Tax, TurnEnd};
+use wh_host_model::TurnEnd;
 use wh_kernels::PageHash;
 use wh_replies::write_report;
+use wh_space_model::{InstId, Offer, SwapError, Tax};
 use wh_swap::PageSwap;
 
 /// A host with one module, its swap device, and the tickets that are out, of each kind the oldest one first.
@@ -32,7 +33,7 @@ pub struct Rig {
         (coming_slots coming.items) },
 }
 
-// A host with so many frames and slots, and the pager as its first module.
+// A host with `frames` frames and `slots` slots, and the pager as its first module.
 fn host_with_pager(alloc: Global, frames: u32, slots: u32, tax: Tax) -> Result<Host>
     ensures { IfOk result (λ host. IsSomeHost host × (host.space.slots.held ≡ replicate slots [])) }
 {
@@ -43,7 +44,7 @@ fn host_with_pager(alloc: Global, frames: u32, slots: u32, tax: Tax) -> Result<H
 }
 
 impl Rig {
-    /// One with so many frames and slots, and without instances.
+    /// Creates a rig with this number of frames and slots, and without instances.
     pub fn new(alloc: Global, frames: u32, slots: u32, tax: Tax) -> Result<Rig> {
         let failing = Rc::new(alloc, Cell::new(0))?;
         let pages = vec![in alloc; [0; 4096]; slots as usize]?;
@@ -65,7 +66,7 @@ impl Rig {
         self.host.load(alloc, bytes)
     }
 
-    /// An instance of a module with 100 shares, this least and this greatest number of frames, and fuel for its start.
+    /// Admits an instance of a module with 100 shares, this minimum and maximum of frames, and fuel for its start.
     pub fn admit_of(
         &mut self,
         alloc: Global,
@@ -86,12 +87,12 @@ impl Rig {
         self.host.admit(alloc, module, params)
     }
 
-    /// An instance of the first module with this least number of frames, and 16 at most.
+    /// Admits an instance of the first module with this minimum of frames, and 16 at most.
     pub fn admit(&mut self, alloc: Global, min: u64) -> Result<InstId, AdmitError> {
         self.admit_of(alloc, self.module, min, 16, 0)
     }
 
-    /// A call of an instance, with so much fuel: its place in the journal.
+    /// Queues a call of an instance, with this fuel; returns its place in the journal.
     pub fn invoke(
         &mut self,
         alloc: Global,
@@ -103,12 +104,12 @@ impl Rig {
         self.host.invoke(alloc, id, name, given, fuel)
     }
 
-    /// A turn of so many charges.
+    /// Runs a turn of at most `charges` charges.
     pub fn turn(&mut self, id: InstId, charges: u64) -> TurnEnd {
-        self.host.turn(id, charges)
+        self.host.turn(id, charges).0
     }
 
-    /// A page is offered under this hash.
+    /// Offers a page for merging under this hash.
     pub fn offer<H: PageHash>(
         &mut self,
         hasher: &H,
@@ -119,47 +120,47 @@ impl Rig {
         self.host.offer(hasher, id, page, hash)
     }
 
-    /// All pages are offered under their own hash.
+    /// Offers all pages for merging under their own hash.
     pub fn scan<H: PageHash>(&mut self, hasher: &H) -> bool {
         self.host.scan(hasher).is_some()
     }
 
-    /// A new epoch.
+    /// Begins an epoch.
     pub fn epoch(&mut self) {
         self.host.epoch();
     }
 
-    /// More fuel for the present call.
+    /// Adds fuel to the present call.
     pub fn refuel(&mut self, id: InstId, fuel: u64) -> Result<(), HostError> {
         self.host.refuel(id, fuel)
     }
 
-    /// The end of the present call.
+    /// Cancels the present call.
     pub fn cancel(&mut self, id: InstId) -> Result<(), HostError> {
         self.host.cancel(id)
     }
 
-    /// Another try, where the present call waits for a device fault.
+    /// Retries the present call, if it is blocked on a device fault.
     pub fn retry(&mut self, id: InstId) -> Result<(), HostError> {
         self.host.retry(id)
     }
 
-    /// The instance goes: its output.
+    /// Releases the instance; returns its output.
     pub fn release(&mut self, alloc: Global, id: InstId) -> Result<Vec<u8>, HostError> {
         self.host.release(alloc, id)
     }
 
-    /// How far a call is.
+    /// Returns the status of a call.
     pub fn status(&self, id: InstId, at: u32) -> Option<CallStatus> {
         self.host.call_status(id, at)
     }
 
-    /// Whether the present call waits for a frame.
+    /// Tells whether the present call is blocked on a frame.
     pub fn awaits_frame(&self, id: InstId) -> bool {
         self.host.awaits_frame(id)
     }
 
-    /// The report, as a script has it.
+    /// Returns the report, as a script has it.
     pub fn report(&self, alloc: Global) -> Result<String> {
         let report = self.host.report(alloc)?;
         let mut text = String::new(alloc);
@@ -167,7 +168,7 @@ impl Rig {
         Ok(text)
     }
 
-    /// How many tickets are out, as the host says it.
+    /// Returns the number of tickets that are out, as the host says it.
     pub fn tickets(&self, alloc: Global) -> Result<u32, HostError>
         ensures { IfOk result (λ out. out ≡ tickets self.now.host.space) }
     {
@@ -183,19 +184,19 @@ impl Rig {
         self.leaving.is_empty() && self.coming.is_empty()
     }
 
-    /// How many tickets are kept here.
+    /// Returns the number of tickets of evictions and of fetches that are kept here.
     pub fn kept(&self) -> (usize, usize) {
         (self.leaving.len(), self.coming.len())
     }
 
-    /// The first byte of the page whose eviction is the oldest.
+    /// Returns the first byte of the page whose eviction is the oldest.
     pub fn leaving_byte(&self) -> Option<u8> {
         let eviction = self.leaving.first()?;
         Some(eviction.ticket.bytes()[0])
     }
 
-    /// The next step of an instance is made ready, while the device's call of this number fails. `None` where a ticket is out,
-    /// and then nothing is done.
+    /// Makes the next step of an instance ready, while the device's call of this number fails. Returns `None`, and does
+    /// nothing, if a ticket is out.
     pub fn provide(
         &mut self,
         alloc: Global,
@@ -216,7 +217,7 @@ impl Rig {
         Ok(Some(answer))
     }
 
-    /// Turns and provisions until the instance can't go on. The fault, where the device failed.
+    /// Runs turns and provisions until the instance can't go on; returns the fault, if the device failed.
     pub fn run_out(&mut self, alloc: Global, id: InstId) -> Result<Option<SwapError>> {
         for _ in 0..1000 {
             if !self.host.can_go_on(id) {

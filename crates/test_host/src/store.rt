@@ -23,7 +23,7 @@ impl Drop for Store {
 }
 
 impl Store {
-    /// These pages, of which that cell says which call fails.
+    /// Creates a store of these pages, whose call that cell numbers fails.
     pub fn new(pages: Vec<[u8; 4096]>, failing: Rc<Cell<u32>>) -> Store {
         Store { pages, failing }
     }

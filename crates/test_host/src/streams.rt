@@ -9,12 +9,12 @@ use std::alloc::Global;
 use std::cell::Cell;
 use std::io::{self, Cursor, Read, Seek, SeekFrom, Write};
 use std::rc::Rc;
-use wh_host_model::SwapError;
-use wh_host_model::SwapError::{Damaged, Read as Unread, Write as Unwritten};
+use wh_space_model::SwapError;
+use wh_space_model::SwapError::{Damaged, Read as Unread, Write as Unwritten};
 use wh_swap::{StreamSwap, SwapDev};
 
-/// A stream of 8192 bytes in memory. It seems to end at a place that others may move; what lies behind it can be neither read
-/// nor written, and may have other bytes.
+/// A stream of 8192 bytes in memory. It seems to end at a place that others may move; what lies after it can be neither
+/// read nor written, and may have other bytes.
 struct Moody {
     stream: Cursor<Vec<u8>>,
     end: Rc<Cell<u64>>,
@@ -32,7 +32,7 @@ impl Drop for Moody {
 }
 
 impl Moody {
-    // How many of so many bytes lie before the end.
+    // How many of `count` bytes are before the end.
     fn within(&self, count: usize) -> usize {
         let left = self.end.get().saturating_sub(self.stream.position());
         count.min(usize::try_from(left).unwrap_or(usize::MAX))

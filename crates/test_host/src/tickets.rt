@@ -9,8 +9,8 @@ use anyhow::{Result, ensure};
 use std::alloc::Global;
 use std::cell::Cell;
 use std::rc::Rc;
-use wh_host_model::{EvictEnd, FetchEnd, InstId, SwapError};
 use wh_reclaim::{EvictTicket, FetchTicket};
+use wh_space_model::{EvictEnd, FetchEnd, InstId, SwapError};
 use wh_swap::{PageSwap, SwapDev};
 
 // The device is asked to write a page that leaves, and may fail.
@@ -49,7 +49,7 @@ fn read(
 }
 
 impl Rig {
-    /// A page begins to leave for an instance. Whether one did.
+    /// Begins to evict a page for an instance; tells whether one could be.
     pub fn evict_begin(&mut self, alloc: Global, id: InstId) -> Result<bool> {
         let buf = Box::new(alloc, [0; 4096])?;
         self.leaving.reserve(1)?;
@@ -64,7 +64,7 @@ impl Rig {
         }
     }
 
-    /// A page begins to come for an instance. Whether one did.
+    /// Begins to fetch a page for an instance; tells whether one could be.
     pub fn fetch_begin(&mut self, alloc: Global, id: InstId) -> Result<bool> {
         let buf = Box::new(alloc, [0; 4096])?;
         self.coming.reserve(1)?;
@@ -79,8 +79,8 @@ impl Rig {
         }
     }
 
-    /// The page that is longest on its way is written, or the device fails, and its ticket comes back. `None` where no page
-    /// leaves.
+    /// Ends the oldest eviction: writes the page, or lets the device fail, and gives the ticket back. Returns `None` if
+    /// no page is being evicted.
     pub fn evict_commit(&mut self, fails: bool) -> Option<EvictEnd>
         ensures back { 0 < vec_len self.old.leaving
             → vec_len self.new.leaving + 1 ≡ vec_len self.old.leaving }
@@ -95,8 +95,8 @@ impl Rig {
         Some(end)
     }
 
-    /// The page that is longest on its way is read, or the device fails, and its ticket comes back. `None` where no page
-    /// comes.
+    /// Ends the oldest fetch: reads the page, or lets the device fail, and gives the ticket back. Returns `None` if no
+    /// page is being fetched.
     pub fn fetch_commit(&mut self, fails: bool) -> Option<FetchEnd>
         ensures back { 0 < vec_len self.old.coming
             → vec_len self.new.coming + 1 ≡ vec_len self.old.coming }
@@ -111,7 +111,7 @@ impl Rig {
         Some(end)
     }
 
-    /// The same where another device was asked, and failed so. The slot is as it was.
+    /// Ends the oldest fetch as if another device was asked, and had this fault. The slot is as it was.
     pub fn fetch_fails(&mut self, fault: SwapError) -> Option<FetchEnd> {
         if self.coming.is_empty() {
             return None;
@@ -141,7 +141,7 @@ impl Rig {
         }
     }
 
-    /// The end of the test: all tickets come back, and no device call goes well.
+    /// Ends the test: gives all tickets back, as if each device call had failed.
     pub fn finish(mut self) {
         self.end_leaving();
         self.end_coming();

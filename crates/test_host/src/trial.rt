@@ -8,8 +8,9 @@ use std::alloc::Global;
 use test_random::Random;
 use wh_flatmem::FlatMemory;
 use wh_host::{AdmitError, Suspension};
-use wh_host_model::{EvictEnd, FetchEnd, Offer, TurnEnd};
+use wh_host_model::TurnEnd;
 use wh_kernels::PageHash;
+use wh_space_model::{EvictEnd, FetchEnd, Offer};
 
 /// How often each end came, over all lists.
 #[derive(Clone, Copy, Debug, Default)]
@@ -62,6 +63,7 @@ impl Drop for Trial {
 }
 
 impl Trial {
+    /// Creates a trial without instances, with this seed.
     pub fn new(alloc: Global, seed: u64) -> Trial {
         Trial {
             pairs: [None, None, None],
@@ -132,7 +134,7 @@ impl Trial {
         }
     }
 
-    /// Three instances come, and each writes its first two pages.
+    /// Admits three instances, each of which writes its first two pages.
     pub fn begin(&mut self, rig: &mut Rig, alloc: Global) -> Result<()> {
         for place in 0..3 {
             let mut pair = self.admitted(rig, alloc)?.context("nobody comes")?;
@@ -148,7 +150,7 @@ impl Trial {
         Ok(())
     }
 
-    // The number of an event: every other time one that may help a call which stands for this.
+    // The number of an event: every other time one that may help a call which is blocked on this.
     fn some_kind(&mut self, waiting_for: Option<Suspension>) -> u32 {
         let any = self.random.below(48);
         let helping = self.random.below(15);
@@ -160,7 +162,7 @@ impl Trial {
         }
     }
 
-    /// One event, of whichever kind.
+    /// Makes one event, of any kind.
     pub fn event<H: PageHash>(&mut self, rig: &mut Rig, alloc: Global, hasher: &H) -> Result<()> {
         let place = self.some();
         let Some(mut pair) = self.pairs.get_mut(place).and_then(|pair| pair.take()) else {
@@ -351,7 +353,7 @@ impl Trial {
         Ok(())
     }
 
-    /// All tickets come back, all calls go on to their end, and all that is seen is compared.
+    /// Gives back all tickets, runs all calls to their end, and compares all that is seen.
     pub fn end(&mut self, rig: &mut Rig, alloc: Global) -> Result<()> {
         for _ in 0..10 {
             self.evict_commit(rig);

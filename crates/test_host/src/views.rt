@@ -4,7 +4,7 @@ use crate::rig::Rig;
 use anyhow::{Result, ensure};
 use std::alloc::Global;
 use wh_host::CallStatus;
-use wh_host_model::InstId;
+use wh_space_model::InstId;
 
 /// Where the pages of an instance begin.
 pub const PAGES: [u32; 16] = [
@@ -12,8 +12,8 @@ pub const PAGES: [u32; 16] = [
     57344, 61440,
 ];
 
-/// Which of these pages an instance has put out with other bytes than those of a memory; `None` where it has none. It is 65536
-/// where there are further bytes.
+/// Returns the first of these pages that an instance has put out with other bytes than a memory has; 65536 if there are
+/// further bytes, and `None` if there is no difference.
 pub fn difference(pages: &[u32], seen: &[u8], memory: &[u8]) -> Option<u32> {
     let mut rest = seen;
     for at in pages {
@@ -30,8 +30,8 @@ pub fn difference(pages: &[u32], seen: &[u8], memory: &[u8]) -> Option<u32> {
 }
 
 impl Rig {
-    // A call that puts out bytes goes on to its end: by a turn alone where its pages are at hand, whatever tickets are out. Else
-    // they come back, and its pages are brought.
+    // Runs a call that puts out bytes to its end: by a turn alone if its pages are resident or zero, whatever tickets
+    // are out. Else they come back, and its pages are fetched.
     fn put_out(&mut self, alloc: Global, id: InstId, call: u32) -> Result<()> {
         let done = Some(CallStatus::Returned {
             value: None,
@@ -50,7 +50,7 @@ impl Rig {
         Ok(())
     }
 
-    /// The bytes that an instance sees in these pages of its memory. It puts them out, and goes.
+    /// Returns the bytes that an instance sees in these pages of its memory. It puts them out, and is released.
     pub fn emitted(&mut self, alloc: Global, id: InstId, pages: &[u32]) -> Result<Vec<u8>> {
         for at in pages {
             let call = self.invoke(alloc, id, "emit", &[i128::from(*at), 4096], 3)?;

@@ -4,12 +4,12 @@ use crate::tables::agree;
 use anyhow::{Result, ensure};
 use std::alloc::{AllocError, Global};
 use wh_host::{InstanceReport, Report};
-use wh_host_model::Tax;
 use wh_model::ValType;
 use wh_replies::{
     Call, Caller, FaultPlace, ModuleRefusal, Reply, Status, signed_value, write_released,
     write_reply, write_report,
 };
+use wh_space_model::Tax;
 
 const REPLIES: [Reply<'static>; 7] = [
     Reply::Error { cause: 1, line: 4 },

@@ -38,7 +38,7 @@ const EACH_KEY_TEXT: &str =
     "frames = 2\nslots = 1048576\ntax_num = 0\ntax_den = 1\nquantum = 1\nhash = \"constant\"\nswap = \"/tmp/slots\"\n";
 
 // Documents that spell no settings.
-const INVALID: [&str; 21] = [
+const INVALID: [&str; 22] = [
     "frames = 1",
     "frames = 262145",
     "frames = \"2\"",
@@ -55,6 +55,7 @@ const INVALID: [&str; 21] = [
     "hash = \"fnv\"",
     "hash = 0",
     "swap = 1",
+    "swap = \"\"",
     "frame = 1024",
     "workers = 4",
     "[frames]",
@@ -62,7 +63,7 @@ const INVALID: [&str; 21] = [
     "frames",
 ];
 
-// Numbers of workers, and how many they are where there may be so many.
+// Numbers of workers, and what `Workers` makes of them.
 const WORKERS: [(u8, Option<usize>); 6] = [
     (1, Some(1)),
     (4, Some(4)),

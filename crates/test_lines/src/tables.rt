@@ -1,4 +1,4 @@
-//! What a table of cases came to.
+//! The outcome of a table of cases.
 
 use anyhow::{Result, bail};
 

@@ -1,4 +1,4 @@
-//! One call of a module, from its bytes to what it comes to. What it comes to was worked out by hand.
+//! One call of a module, from its bytes to its outcome, which was worked out by hand.
 
 use anyhow::{Result, bail};
 use std::alloc::Global;
@@ -66,7 +66,7 @@ const CASES: [Case; 5] = [
     },
 ];
 
-/// What the call comes to where `base` is 100.
+/// The outcome of the call where `base` is 100.
 fn came_to(alloc: Global, bytes: &[u8], case: &Case) -> Result<CallResult> {
     let parameters = Parameters {
         base: 100,

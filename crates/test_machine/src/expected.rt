@@ -37,7 +37,7 @@ pub struct Expected {
     charges: Option<u64>,
 }
 
-/// What is said of charges and depth behind an ending. The depth isn't kept.
+/// What is said of charges and depth after an ending. The depth isn't kept.
 fn parse_charges(words: &[&str]) -> Result<Option<u64>> {
     match *words {
         [] => Ok(None),
@@ -58,7 +58,7 @@ fn parse_trap(word: &str) -> Result<u8> {
 }
 
 impl Expected {
-    /// The words of an outcome.
+    /// Parses the words of an outcome.
     pub fn parse(words: &[&str]) -> Result<Expected> {
         let (ending, rest) = match words {
             ["i32", word, rest @ ..] => (Ending::Word(u64::from(word.parse::<u32>()?)), rest),
@@ -74,7 +74,7 @@ impl Expected {
         })
     }
 
-    /// Whether this is what a call came to.
+    /// Tells whether this is the outcome of a call.
     pub fn agrees(self, found: Found) -> bool {
         let Found::Ended(outcome, taken) = found else {
             return false;

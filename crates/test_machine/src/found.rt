@@ -7,7 +7,7 @@ use wh_load::LoadError;
 /// What comes of a call.
 #[derive(Clone, Copy)]
 pub enum Found {
-    /// It has ended so, or it stands, with so many charges from its beginning.
+    /// It has ended so, or waits, with this many charges from its beginning.
     Ended(Outcome, u64),
     /// The module has no instance.
     Refused(CallError),

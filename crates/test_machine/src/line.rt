@@ -7,7 +7,7 @@ use std::alloc::Global;
 /// A line of a table.
 #[derive(Drop)]
 pub enum Line<'a> {
-    /// The module that the lines behind it speak of.
+    /// The module that the lines after it speak of.
     Module {
         /// Its name.
         name: &'a str,
@@ -72,7 +72,7 @@ fn parse_call<'a>(
     })
 }
 
-/// A line with an arrow, by the words before and behind it.
+/// A line with an arrow, by the words before and after it.
 fn parse_expectation<'a>(alloc: Global, words: &[&'a str], outcome: &[&str]) -> Result<Line<'a>> {
     match words {
         ["call", export, arguments @ .., "fuel", fuel] => {
@@ -109,7 +109,7 @@ fn parse_plain<'a>(alloc: Global, words: &[&'a str]) -> Result<Line<'a>> {
 }
 
 impl<'a> Line<'a> {
-    /// The line of this text.
+    /// Parses a line.
     pub fn parse(alloc: Global, text: &'a str) -> Result<Line<'a>> {
         let Some((before, behind)) = text.split_once(" -> ") else {
             let words: Vec<&'a str> = text.split(' ').collect(alloc)?;

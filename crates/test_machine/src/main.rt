@@ -1,10 +1,10 @@
 //! Makes calls on the machine as tables say, and compares what comes with what they want.
 //!
-//! `test_machine TABLE ..` reads tables one behind the other; `programs/README.md` says what their lines mean and
-//! where the expectations come from. For each module a line says how many of them agree with what came and how many differ,
+//! `test_machine TABLE ..` reads tables one after the other; `programs/README.md` says what their lines mean and where
+//! the expectations come from. For each module a line says how many of them agree with what came and how many differ,
 //! and before it there is a line for each that differs, with what was wanted and what came. The status is 1 where one
-//! differs, or a line isn't understood. Last it makes calls from a module's bytes to what they come to, in one function. The depth of calls and the type of a result are read and not compared: the machine
-//! doesn't show them.
+//! differs, or a line isn't understood. Last it makes calls from a module's bytes to what they come to, in one
+//! function. The depth of calls and the type of a result are read and not compared: the machine doesn't show them.
 #![tactic(auto)]
 
 mod alone;

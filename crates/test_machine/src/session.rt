@@ -25,7 +25,7 @@ impl Drop for Session {
 }
 
 impl Session {
-    /// No module has been named yet.
+    /// Creates a session in which no module has been named yet.
     pub fn new(alloc: Global) -> Session {
         Session {
             modules: HashMap::new(alloc),
@@ -34,12 +34,12 @@ impl Session {
         }
     }
 
-    /// How many modules were named.
+    /// Returns the number of modules that were named.
     pub fn modules(&self) -> usize {
         self.modules.len()
     }
 
-    /// How all expectations fared.
+    /// Returns how all expectations fared.
     pub fn sums(&self) -> Tally {
         self.sums
     }

@@ -96,7 +96,7 @@ fn start(instance: &mut Instance) -> Result<()> {
 }
 
 impl Trial {
-    /// Nothing is known of the module of this name yet.
+    /// Creates the trial of a module of this name, of which nothing is known yet.
     pub fn new(name: String) -> Trial {
         Trial {
             name,

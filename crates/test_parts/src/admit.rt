@@ -69,7 +69,7 @@ fn given(alloc: Global, numbers: (u64, u64, u64)) -> Result<Params, AllocError> 
     })
 }
 
-// So many frames and slots are left, and so many instances are live.
+// How many frames and slots are left, and how many instances are live.
 fn left(numbers: (u64, u64, usize)) -> Room {
     let (frames, slots, live) = numbers;
     Room {

@@ -4,13 +4,13 @@ use crate::kept::Kept;
 use crate::tables::agree;
 use anyhow::Result;
 use std::alloc::{AllocError, Global};
-use wh_host_model::Page;
+use wh_space_model::Page;
 use wh_tables::PageId;
 
 // What is done, or what has to be shown.
 #[derive(Clone, Copy)]
 enum Step {
-    // An instance with this number comes to a place, with so many pages.
+    // An instance with this number gets a place, with this many pages.
     Enter(u32, u64, u32),
     // The page of an instance becomes this one.
     Set(u32, u32, Page),
@@ -79,7 +79,7 @@ const FIRST_GOES: [Step; 25] = [
     Step::Active(1, 0, 0),
     Step::Set(A, 0, Page::Swapped(5)),
     Step::Charged(0, 1, 0),
-    // The touched page stands there no longer.
+    // The touched page maps to it no longer.
     Step::Active(0, 0, 0),
     Step::On(5, (B, 0), (C, 1), 2),
     Step::Touch(C, 1),
@@ -136,7 +136,7 @@ fn is_active(kept: &Kept, a: u32, b: u32, c: u32) -> bool {
     here(A) == a && here(B) == b && here(C) == c
 }
 
-// Whether these are the first and the last page on a frame, of so many.
+// Whether these are the first and the last page on a frame, of `count`.
 fn is_on(
     kept: &Kept,
     alloc: Global,

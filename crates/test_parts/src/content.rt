@@ -4,7 +4,7 @@ use crate::tables::{agree, first_other};
 use anyhow::{Result, ensure};
 use std::alloc::{AllocError, Global};
 use wh_content::{ContentEntry, Table};
-use wh_host_model::Mark;
+use wh_space_model::Mark;
 
 const HINT: ContentEntry = ContentEntry::Hint {
     frame: 1,

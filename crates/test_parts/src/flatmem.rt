@@ -16,7 +16,7 @@ enum Step {
     Store(u64, [u8; 4], Got),
     // These are written and read quickly: whether each was done, and what was read over four nines.
     Quick(u64, [u8; 4], bool, bool, [u8; 4]),
-    // So many pages are added: how many there are before and behind it.
+    // This many pages are added: how many there are before and after it.
     Grow(u32, u32, Grown, u32),
     // How many bytes there are.
     Len(usize),
@@ -32,7 +32,7 @@ const STEPS: [Step; 13] = [
     Step::Store(65533, [2, 3, 4, 5], Got::Value),
     Step::Load(65534, Got::Value, [3, 4, 5, 0]),
     Step::Quick(131064, [6; 4], true, true, [6; 4]),
-    // One of the last seven bytes: it is in the memory, and left to a closer look.
+    // One of the last seven bytes: it is in the memory, and left to the slow path.
     Step::Quick(131065, [7; 4], false, false, [9; 4]),
     Step::Load(131064, Got::Value, [6; 4]),
     Step::Len(131072),

@@ -12,11 +12,11 @@ type Shown = (Option<u32>, u64, (u64, u64), CallEnd);
 // What is done, or what has to be shown.
 #[derive(Clone, Copy)]
 enum Step {
-    // A call of this function with so much fuel comes.
+    // A call of this function with this fuel is queued.
     Push(u32, u64),
-    // The present call writes so many pieces more, and takes so many charges more.
+    // The present call writes this many pieces more, and takes this many charges more.
     Go(u32, u32),
-    // The present call is given so much fuel more.
+    // The present call is given this much fuel more.
     Refuel(u64),
     // The present call ends so.
     End(CallEnd),

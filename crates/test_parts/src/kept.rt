@@ -1,11 +1,11 @@
 //! Page tables of `wh_tables` of which anything can be asked: what isn't allowed isn't done, and is answered by `false`.
 
 ghost use Rattle.std.specs.Prelude.{◌≡◌, ◌<◌, IfSome, IsTrue};
-ghost use Rattle.wh_host_model.specs.Space.Moves.{frame_of as frame_of_page};
+ghost use Rattle.wh_space_model.specs.Moves.{frame_of as frame_of_page};
 
 use std::alloc::{AllocError, Global};
 use std::marker::Model;
-use wh_host_model::Page;
+use wh_space_model::Page;
 use wh_tables::{PageId, Tables};
 
 /// How many pages an instance may have.
@@ -22,7 +22,7 @@ pub struct Kept {
     turn: u64,
 }
 
-/// The frame on which a page stands.
+/// Returns the frame to which a page maps.
 pub fn frame_of(page: Page) -> Option<u32>
     ensures { result ≡ frame_of_page page }
 {
@@ -45,7 +45,7 @@ impl Model for Kept {
 }
 
 impl Kept {
-    /// Tables of nobody.
+    /// Creates tables without instances.
     pub fn new(alloc: Global, turn: u64) -> Result<Kept, AllocError> {
         Ok(Kept {
             tables: Tables::new(alloc, FRAMES)?,
@@ -53,22 +53,22 @@ impl Kept {
         })
     }
 
-    /// How many places there are.
+    /// Returns the number of places.
     pub fn places(&self) -> usize {
         self.tables.places()
     }
 
-    /// How many pages the instance at a place has.
+    /// Returns the number of pages of the instance at this place.
     pub fn len_at(&self, place: usize) -> u32 {
         self.tables.len_at(place)
     }
 
-    /// How many frames are charged to it, and how many of them with a touched page.
+    /// Returns the number of frames charged to it, and of those with a touched page.
     pub fn counts(&self, place: usize) -> (u32, u32) {
         (self.tables.charged(place), self.tables.active(place))
     }
 
-    /// A page, and whether it is touched.
+    /// Returns a page, and whether it is touched.
     pub fn page(&self, id: PageId) -> Option<(Page, bool)> {
         let place = id.place as usize;
         if id.page >= self.tables.len_at(place) {
@@ -78,12 +78,12 @@ impl Kept {
         Some((page, self.tables.is_touched(place, id.page)))
     }
 
-    /// Whether a touched page stands on a frame.
+    /// Tells whether a touched page maps to a frame.
     pub fn has_touched(&self, frame: u32) -> bool {
         frame < FRAMES && self.tables.has_touched(frame)
     }
 
-    /// The first page on a frame.
+    /// Returns the first page on a frame.
     pub fn first_on(&self, frame: u32) -> Option<PageId> {
         if frame >= FRAMES {
             return None;
@@ -91,7 +91,7 @@ impl Kept {
         self.tables.first_on(frame)
     }
 
-    /// The pages on a frame from the last one back, of at most four instances.
+    /// Returns the pages on a frame from the last one back, of at most four instances.
     pub fn list_on(&self, alloc: Global, frame: u32) -> Result<Vec<PageId>, AllocError> {
         let mut list = Vec::new(alloc);
         if frame >= FRAMES {
@@ -108,7 +108,7 @@ impl Kept {
         Ok(list)
     }
 
-    /// An instance with this number comes to an empty place, with so many pages.
+    /// Gives an instance of this number an empty place, with `pages` pages.
     pub fn enter(
         &mut self,
         alloc: Global,
@@ -126,7 +126,7 @@ impl Kept {
         Ok(true)
     }
 
-    /// Another page.
+    /// Replaces a page.
     pub fn set(&mut self, id: PageId, page: Page) -> bool {
         let place = id.place as usize;
         if id.page >= self.tables.len_at(place) {
@@ -141,7 +141,7 @@ impl Kept {
         true
     }
 
-    /// A page is touched, or isn't any more.
+    /// Marks a page as touched, or clears the mark.
     pub fn mark(&mut self, id: PageId, touched: bool) -> bool {
         let place = id.place as usize;
         if id.page >= self.tables.len_at(place) {
@@ -155,7 +155,7 @@ impl Kept {
         true
     }
 
-    /// The frame of a page that was touched, if it has one, or with `alone` if the page is private.
+    /// Returns the frame of a page that was touched, if it has one, or with `alone` only if the page is private.
     pub fn touched_frame(&self, id: PageId, alone: bool) -> Option<u32> {
         let place = id.place as usize;
         if id.page >= self.tables.len_at(place) {
@@ -168,7 +168,7 @@ impl Kept {
         }
     }
 
-    /// So many pages more.
+    /// Adds `count` pages.
     pub fn grow(&mut self, place: usize, count: u32) -> bool {
         let len = self.tables.len_at(place);
         if place >= self.tables.places() || len > MAX || count > MAX - len {
@@ -178,7 +178,7 @@ impl Kept {
         true
     }
 
-    /// All pages of an instance go.
+    /// Removes all pages of an instance.
     pub fn clear(&mut self, place: usize) -> bool {
         if place >= self.tables.places() {
             return false;
@@ -187,7 +187,7 @@ impl Kept {
         true
     }
 
-    /// A new epoch begins.
+    /// Begins an epoch.
     pub fn clear_marks(&mut self) -> bool {
         self.tables.clear_marks();
         true

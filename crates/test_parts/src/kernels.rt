@@ -2,7 +2,7 @@
 //! vectors of FNV-1a.
 
 ghost use Rattle.std.specs.Prelude.{◌≡◌, [], ◌∷◌};
-ghost use Rattle.wh_host_model.specs.Hash.{fnv64};
+ghost use Rattle.wh_space_model.specs.Hash.{fnv64};
 
 use crate::tables::{agree, first_other};
 use anyhow::Result;

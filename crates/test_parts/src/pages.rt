@@ -3,13 +3,13 @@
 use crate::tables::agree;
 use anyhow::Result;
 use std::alloc::{AllocError, Global};
-use wh_host_model::Page;
 use wh_pages::PageTable;
+use wh_space_model::Page;
 
 // What is done, or what has to be shown.
 #[derive(Clone, Copy)]
 enum Step {
-    // So many pages are added: whether they fit.
+    // This many pages are added: whether they fit.
     Grow(u32, bool),
     // The page at a place becomes this one.
     Set(u32, Page),

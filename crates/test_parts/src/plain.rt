@@ -1,7 +1,7 @@
 //! The pages of instances and their marks without an index, and what an index has to say of them, counted anew each time.
 
 use crate::kept::{FRAMES, MAX, frame_of};
-use wh_host_model::Page;
+use wh_space_model::Page;
 use wh_tables::PageId;
 
 /// How many places there are.
@@ -40,14 +40,14 @@ fn id_at(at: u32) -> PageId {
 }
 
 impl Plain {
-    /// Nobody is there.
+    /// Creates tables without instances.
     pub fn new() -> Plain {
         Plain {
             rows: [NOBODY; PLACES as usize],
         }
     }
 
-    /// How many pages the instance at a place has.
+    /// Returns the number of pages of the instance at this place.
     pub fn len_at(&self, place: u32) -> u32 {
         match self.rows.get(place as usize) {
             Some(row) => row.len,
@@ -62,7 +62,7 @@ impl Plain {
         }
     }
 
-    /// A page, and whether it is touched.
+    /// Returns a page, and whether it is touched.
     pub fn page(&self, id: PageId) -> Option<(Page, bool)> {
         let row = self.rows.get(id.place as usize)?;
         if id.page >= row.len {
@@ -73,7 +73,7 @@ impl Plain {
         Some((*page, *mark))
     }
 
-    /// An instance comes.
+    /// Gives an instance of this number a place, with `pages` pages.
     pub fn enter(&mut self, place: u32, number: u64, pages: u32) {
         if let Some(row) = self.rows.get_mut(place as usize) {
             *row = Row {
@@ -84,7 +84,7 @@ impl Plain {
         }
     }
 
-    /// Another page.
+    /// Replaces a page.
     pub fn set(&mut self, id: PageId, page: Page) {
         if let Some(row) = self.rows.get_mut(id.place as usize)
             && let Some(here) = row.pages.get_mut(id.page as usize)
@@ -93,7 +93,7 @@ impl Plain {
         }
     }
 
-    /// Another mark.
+    /// Marks a page as touched, or clears the mark.
     pub fn mark(&mut self, id: PageId, touched: bool) {
         if let Some(row) = self.rows.get_mut(id.place as usize)
             && let Some(here) = row.marks.get_mut(id.page as usize)
@@ -102,7 +102,7 @@ impl Plain {
         }
     }
 
-    /// So many pages more.
+    /// Adds `count` pages.
     pub fn grow(&mut self, place: u32, count: u32) {
         let len = self.len_at(place);
         for at in 0..MAX {
@@ -117,21 +117,21 @@ impl Plain {
         }
     }
 
-    /// All pages of an instance go.
+    /// Removes all pages of an instance.
     pub fn clear(&mut self, place: u32) {
         if let Some(row) = self.rows.get_mut(place as usize) {
             row.len = 0;
         }
     }
 
-    /// All marks go.
+    /// Clears all marks.
     pub fn clear_marks(&mut self) {
         for at in 0..ALL {
             self.mark(id_at(at), false);
         }
     }
 
-    // Whether a page stands on this frame.
+    // Whether a page maps to this frame.
     fn is_on(&self, id: PageId, frame: u32) -> bool {
         match self.page(id) {
             Some((page, _)) => frame_of(page) == Some(frame),
@@ -145,7 +145,7 @@ impl Plain {
         numbers.0 < numbers.1 || numbers.0 == numbers.1 && one.page < other.page
     }
 
-    /// The first page on a frame: none there comes before it.
+    /// Returns the first page on a frame: none there comes before it.
     pub fn first_on(&self, frame: u32) -> Option<PageId> {
         let mut first: Option<PageId> = None;
         for at in 0..ALL {
@@ -161,7 +161,7 @@ impl Plain {
         first
     }
 
-    /// The last page on a frame, or the last one before this.
+    /// Returns the last page on a frame, or the last one before `end`.
     pub fn last_on(&self, frame: u32, end: Option<PageId>) -> Option<PageId> {
         let mut last: Option<PageId> = None;
         for at in 0..ALL {
@@ -181,7 +181,7 @@ impl Plain {
         last
     }
 
-    /// Whether a touched page stands on a frame.
+    /// Tells whether a touched page maps to a frame.
     pub fn has_touched(&self, frame: u32) -> bool {
         for at in 0..ALL {
             let id = id_at(at);
@@ -194,8 +194,8 @@ impl Plain {
         false
     }
 
-    /// How many frames each instance is charged, those whose first page is its own; and on how many of them a touched page
-    /// stands.
+    /// Returns for each instance the number of frames charged to it, those whose first page is its own, and on how many
+    /// of them there is a touched page.
     pub fn counts(&self) -> [(u32, u32); PLACES as usize] {
         let mut counts = [(0u32, 0u32); PLACES as usize];
         for frame in 0..FRAMES {

@@ -6,11 +6,11 @@ use crate::tables::{agree, first_other};
 use anyhow::{Result as Anyhow, ensure};
 use std::alloc::{AllocError, Global};
 use std::io::{self, Cursor, Read, Seek, SeekFrom, Write};
-use wh_host_model::{Slot, SwapError};
+use wh_space_model::{Slot, SwapError};
 use wh_swap::{MemSwap, PageSwap, Pages, Slots, StreamSwap, SwapDev};
 
-// A stream that wears out: so many writes go well, and the others fail; so many reads go well but for the last, which
-// gives another first byte, and the others fail.
+// A stream that wears out: a number of writes go well, and the others fail; a number of reads go well but for the last,
+// which gives another first byte, and the others fail.
 #[derive(Drop)]
 struct Wearing {
     stream: Cursor<Vec<u8>>,

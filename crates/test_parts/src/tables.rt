@@ -1,4 +1,4 @@
-//! What a table of cases came to.
+//! The outcome of a table of cases.
 
 use anyhow::{Result, bail};
 
@@ -10,7 +10,7 @@ pub fn agree(table: &str, wrong: Option<usize>) -> Result<()> {
     }
 }
 
-/// The same of a table whose rows have several places.
+/// Fails if a place of a row of a table, whose rows have several, came out otherwise.
 pub fn agree_in_rows(table: &str, wrong: Option<(usize, usize)>) -> Result<()> {
     match wrong {
         Some((row, place)) => bail!("{table}: row {row} came out otherwise at place {place}"),
@@ -18,7 +18,7 @@ pub fn agree_in_rows(table: &str, wrong: Option<(usize, usize)>) -> Result<()> {
     }
 }
 
-/// The first place at which two lists of one length differ.
+/// Returns the first place at which two lists of one length differ.
 pub fn first_other<T: PartialEq, const N: usize>(came: &[T; N], wanted: &[T; N]) -> Option<usize> {
     for (place, (one, other)) in came.iter().zip(wanted).enumerate() {
         if one != other {

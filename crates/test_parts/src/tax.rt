@@ -5,8 +5,8 @@ ghost use Rattle.std.specs.Prelude.{◌≤◌};
 use crate::tables::{agree, first_other};
 use anyhow::Result;
 use std::cmp::Ordering;
-use wh_host_model::{Claim, Tax};
 use wh_reclaim::{cmp_rho, weight};
+use wh_space_model::{Claim, Tax};
 
 // What a busy instance and an idle one weigh under a tax.
 const WEIGHTS: [u64; 2] = [100, 200];
@@ -36,7 +36,7 @@ fn weights() -> [u64; 2] {
     ]
 }
 
-// A claim of so many shares, at the ends of the ranges.
+// A claim of `shares` shares, at the ends of the ranges.
 fn greatest(shares: u32) -> Claim
     requires above { 1 ≤ shares }
     requires within { shares ≤ 1000000 }

@@ -1,6 +1,6 @@
-//! Random lists of what is done to the page tables of four instances, whose numbers aren't in the order of their places, and
-//! to plain ones. After each step the charged and active frames of each instance are counted from nothing, and behind each
-//! list the pages on each frame too.
+//! Random lists of what is done to the page tables of four instances, whose numbers aren't in the order of their
+//! places, and to plain ones. After each step the charged and active frames of each instance are counted from nothing,
+//! and after each list the pages on each frame too.
 
 ghost use Rattle.std.specs.Prelude.{◌<◌};
 
@@ -9,7 +9,7 @@ use crate::plain::{PLACES, Plain};
 use crate::tables::agree;
 use anyhow::Result as Anyhow;
 use std::alloc::{AllocError, Global};
-use wh_host_model::Page;
+use wh_space_model::Page;
 use wh_tables::PageId;
 
 // How many lists there are, and how many steps each has.
@@ -219,7 +219,7 @@ impl Walk {
     }
 }
 
-// Whether all answers and all counts are right behind each step of a list, and all else behind the last one.
+// Whether all answers and all counts are right after each step of a list, and all else after the last one.
 fn is_list_right(alloc: Global, list: u32) -> Result<bool, AllocError> {
     let mut walk = Walk::new(alloc, list)?;
     for _ in 0..STEPS {
@@ -231,7 +231,7 @@ fn is_list_right(alloc: Global, list: u32) -> Result<bool, AllocError> {
     is_all_so(&walk.kept, &walk.plain, alloc)
 }
 
-// The first list behind a step of which something is otherwise.
+// The first list after a step of which something is otherwise.
 fn first_wrong(alloc: Global) -> Result<Option<usize>, AllocError> {
     for list in 0..LISTS {
         if !is_list_right(alloc, list)? {

@@ -15,11 +15,11 @@ pub struct Got {
     pub status: u8,
     /// What was written in answer.
     pub output: Vec<u8>,
-    /// What stands on standard error.
+    /// What is on standard error.
     pub errors: Vec<u8>,
 }
 
-/// The words of a command line.
+/// Returns the words of a command line.
 pub fn words(rt: &impl AllocGlobal, line: &[&str]) -> Result<Vec<String>, Fail> {
     let mut words = Vec::new(rt.alloc());
     for word in line {
@@ -28,7 +28,8 @@ pub fn words(rt: &impl AllocGlobal, line: &[&str]) -> Result<Vec<String>, Fail> 
     Ok(words)
 }
 
-/// The status of a command line, for which the input gives these bytes. The device to which pages were swapped is let go.
+/// Returns the status of a command line, for which the input gives these bytes. Drops the device to which pages were
+/// swapped.
 pub fn status_of<E: Files + AllocGlobal + Threads + Wait + Copy + Send + Sync + 'static>(
     rt: &E,
     words: &[String],
@@ -45,7 +46,7 @@ where
     answer(rt, &folder, words, &mut input, &mut output, errors).status
 }
 
-/// What a command line gets, for which the input gives nothing.
+/// Returns what a command line gets, for which the input gives nothing.
 pub fn ask<E: Files + AllocGlobal + Threads + Wait + Copy + Send + Sync + 'static>(
     rt: &E,
     line: &[&str],
@@ -56,7 +57,7 @@ where
     ask_with(rt, line, "")
 }
 
-/// What a command line gets, for which the input gives these bytes.
+/// Returns what a command line gets, for which the input gives these bytes.
 pub fn ask_with<E: Files + AllocGlobal + Threads + Wait + Copy + Send + Sync + 'static>(
     rt: &E,
     line: &[&str],

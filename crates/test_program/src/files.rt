@@ -55,12 +55,22 @@ fn expect_stopped(rt: &impl Abort, got: &Got, complaint: &str, about: &str) {
     );
 }
 
-const ENDLESS: Plain = ["wasmhost", "wasmhost_program_endless.script"];
+const ODD: Plain = ["wasmhost", "wasmhost_program_odd.script"];
+
+/// Lines that load a module from what is no regular file: a device without an end, an empty one, a folder, and no file at all.
+const ODD_FILES: [&str; 4] = [
+    "load m /dev/zero\n",
+    "load m /dev/null\n",
+    "load m /\n",
+    "load m -\n",
+];
 
 #[test]
-fn a_module_that_never_ends_is_refused(rt: HostRuntime) -> Result<(), Fail> {
-    let got = answered(&rt, ENDLESS[1], &ENDLESS, "load m /dev/zero\n")?;
-    expect_reply(&rt, &got, "module m refused D11 at 1048576\n", "/dev/zero");
+fn a_module_comes_from_a_regular_file(rt: HostRuntime) -> Result<(), Fail> {
+    for line in ODD_FILES {
+        let got = answered(&rt, ODD[1], &ODD, line)?;
+        expect_reply(&rt, &got, "error C4 line 1\n", line);
+    }
     Ok(())
 }
 
@@ -116,8 +126,10 @@ fn settings_may_have_65536_bytes(rt: HostRuntime) -> Result<(), Fail> {
     fs::remove_file(&rt, LONG[2])?;
     let endless = answered(&rt, LONGEST[3], &LONGEST, "scan\n")?;
     expect_reply(&rt, &whole, "scan ok\n", "65536 bytes");
-    expect_stopped(&rt, &longer, "wasmhost: settings\n", "65537 bytes");
-    expect_stopped(&rt, &endless, "wasmhost: settings\n", "/dev/zero");
+    let longer_says = "wasmhost: settings: wasmhost_program_long.toml: more than 65536 bytes\n";
+    let endless_says = "wasmhost: settings: /dev/zero: more than 65536 bytes\n";
+    expect_stopped(&rt, &longer, longer_says, "65537 bytes");
+    expect_stopped(&rt, &endless, endless_says, "/dev/zero");
     Ok(())
 }
 
@@ -193,14 +205,25 @@ fn a_file_that_another_host_has_is_left_alone(rt: HostRuntime) -> Result<(), Fai
     held.unlock()?;
     let taken = answered_over(&rt, &USED, pages)?;
     fs::remove_file(&rt, pages)?;
-    expect_stopped(&rt, &refused, "wasmhost: swap\n", "a locked file");
+    let says = "wasmhost: swap: wasmhost_program_files_used.pages: another program has it locked\n";
+    expect_stopped(&rt, &refused, says, "a locked file");
     assert_eq!(rt; left, 21);
     expect_reply(&rt, &taken, "scan ok\n", "an unlocked file");
     Ok(())
 }
 
-/// What can't be opened for swap: a folder, what may only be read (a program that runs), and a name in no folder.
-const NO_SWAP: [&str; 3] = ["/", "/proc/self/exe", "no/such/pages"];
+/// What can't be opened for swap by any user, with what is said of it: a folder, a name in what is no folder, and one in no folder.
+const NO_SWAP: [(&str, &str); 3] = [
+    ("/", "wasmhost: swap: /: Is a directory (os error 21)\n"),
+    (
+        "/dev/null/pages",
+        "wasmhost: swap: /dev/null/pages: Not a directory (os error 20)\n",
+    ),
+    (
+        "no/such/pages",
+        "wasmhost: swap: no/such/pages: No such file or directory (os error 2)\n",
+    ),
+];
 
 /// What can, and keeps no bytes.
 const DEVICES: [&str; 2] = ["/dev/null", "/dev/full"];
@@ -214,9 +237,9 @@ const DEVICE: Settled = [
 
 #[test]
 fn devices_are_taken_as_they_are(rt: HostRuntime) -> Result<(), Fail> {
-    for pages in NO_SWAP {
+    for (pages, says) in NO_SWAP {
         let got = answered_over(&rt, &DEVICE, pages)?;
-        expect_stopped(&rt, &got, "wasmhost: swap\n", pages);
+        expect_stopped(&rt, &got, says, pages);
     }
     for pages in DEVICES {
         let got = answered_over(&rt, &DEVICE, pages)?;

@@ -62,6 +62,9 @@ fn a_folder_may_lack_a_script(rt: HostRuntime) -> Result<(), Fail> {
     let status = answer(&rt, &TwoFiles, &words, &mut input, &mut output, &mut errors).status;
     assert_eq!(rt; status, STOPPED);
     assert_eq!(rt; output.into_inner().len(), 0);
-    assert_eq!(rt; str::from_utf8(errors.as_slice()), Ok("wasmhost: script\n"));
+    assert_eq!(rt;
+        str::from_utf8(errors.as_slice()),
+        Ok("wasmhost: script: three.script: entity not found\n")
+    );
     Ok(())
 }

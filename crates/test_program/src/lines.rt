@@ -14,7 +14,7 @@ struct Full;
 
 impl Write for Full {
     fn write(&mut self, _buf: &[u8]) -> IoResult<usize> {
-        Err(Error::from(ErrorKind::Other))
+        Err(Error::from(ErrorKind::StorageFull))
     }
 
     fn flush(&mut self) -> IoResult<()> {
@@ -22,19 +22,23 @@ impl Write for Full {
     }
 }
 
-/// Command lines that get no reply, each with its status and the beginning of what stands on standard error.
+/// Command lines that get no reply, each with its status and the beginning of what is on standard error.
 const WITHOUT_A_REPLY: [(&[&str], u8, &str); 9] = [
     (
         &["wasmhost", "--settings", "no/such.toml"],
         STOPPED,
-        "wasmhost: settings\n",
+        "wasmhost: settings: no/such.toml: No such file or directory (os error 2)\n",
     ),
     (
         &["wasmhost", "no/such.script"],
         STOPPED,
-        "wasmhost: script\n",
+        "wasmhost: script: no/such.script: No such file or directory (os error 2)\n",
     ),
-    (&["wasmhost", "/"], STOPPED, "wasmhost: script\n"),
+    (
+        &["wasmhost", "/"],
+        STOPPED,
+        "wasmhost: script: /: Is a directory (os error 21)\n",
+    ),
     (
         &["wasmhost", "one.script", "other.script"],
         NOT_ACCEPTED,
@@ -63,7 +67,7 @@ const WITHOUT_A_REPLY: [(&[&str], u8, &str); 9] = [
     (&["wasmhost", "--workers", "-1"], NOT_ACCEPTED, "error: "),
 ];
 
-/// That a command line got this status and no reply, and that this is the beginning of what stands on standard error.
+/// That a command line got this status and no reply, and that this is the beginning of what is on standard error.
 fn expect_complaint(rt: &impl Abort, got: &Got, wanted: u8, complaint: &str) {
     assert_eq!(rt; got.status, wanted, "{complaint}");
     assert_eq!(rt; got.output.len(), 0, "{complaint}");
@@ -108,17 +112,26 @@ fn a_failed_write_stops_the_program(rt: HostRuntime) -> Result<(), Fail> {
     let statuses = statuses(&rt, &words, &mut output, &mut errors);
     assert_eq!(rt; statuses, [ANSWERED, STOPPED, STOPPED]);
     assert_eq!(rt; str::from_utf8(output.as_slice()), Ok("error C1 line 1\n"));
-    assert_eq!(rt; str::from_utf8(errors.as_slice()), Ok("wasmhost: output\n"));
+    assert_eq!(rt;
+        str::from_utf8(errors.as_slice()),
+        Ok("wasmhost: output: standard output: no storage space\n")
+    );
     Ok(())
 }
 
 /// Settings, each with why the program stops for them.
 const UNFIT: [(&str, &str); 2] = [
-    ("frames = 1\n", "wasmhost: settings\n"),
-    ("speed = 1\n", "wasmhost: settings\n"),
+    (
+        "frames = 1\n",
+        "wasmhost: settings: wasmhost_program_tests.toml: no settings, as `wasmhost_check settings` explains\n",
+    ),
+    (
+        "swap = \"\"\n",
+        "wasmhost: settings: wasmhost_program_tests.toml: no settings, as `wasmhost_check settings` explains\n",
+    ),
 ];
 
-/// That a program stopped without a reply, for these settings, and that this is what stands on standard error.
+/// That a program stopped without a reply, for these settings, and that this is what is on standard error.
 fn expect_stopped(rt: &impl Abort, got: &Got, settings: &str, complaint: &str) {
     assert_eq!(rt; got.status, STOPPED, "{settings}");
     assert_eq!(rt; got.output.len(), 0, "{settings}");
@@ -143,7 +156,7 @@ admit a m 100 2 16 0 0 0
 invoke a f 0
 ";
 
-/// That a script got the replies that `SEVEN` has to get, with so many workers.
+/// That a script got the replies that `SEVEN` has to get, with `number` workers.
 fn expect_seven(rt: &impl Abort, got: &Got, number: &str) {
     assert_eq!(rt; got.status, ANSWERED, "{number}");
     assert_eq!(rt;

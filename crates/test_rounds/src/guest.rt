@@ -1,8 +1,9 @@
 // The module of all instances.
 
-/// It has one page of memory. `set8` stores a byte at its first argument, and `get8` loads one; `set` and `get` do so with an
-/// i64. `two` stores its last argument at its first and at its second. `five` stores 5 at 0, and `wide` the bytes 1 to 8 at
-/// 4092: these two have one charge, their store. `emit` puts out so many bytes as its second argument from its first on.
+/// It has one page of memory. `set8` stores a byte at its first argument, and `get8` loads one; `set` and `get` do so
+/// with an i64. `two` stores its last argument at its first and at its second. `five` stores 5 at 0, and `wide` the
+/// bytes 1 to 8 at 4092: these two have one charge, their store. `emit` puts out as many bytes as its second argument
+/// says from its first on.
 pub const PAGER: [u8; 221] = [
     0x00, 0x61, 0x73, 0x6d, 0x01, 0x00, 0x00, 0x00, 0x01, 0x1e, 0x06, 0x60, 0x02, 0x7f, 0x7f, 0x00,
     0x60, 0x01, 0x7f, 0x01, 0x7f, 0x60, 0x02, 0x7f, 0x7e, 0x00, 0x60, 0x01, 0x7f, 0x01, 0x7e, 0x60,

@@ -8,15 +8,15 @@ mod twins;
 use anyhow::{Result, ensure};
 use std::alloc::Global;
 use twins::{Counts, Twins};
-use wh_host::{Fork, InOrder};
-use wh_rounds::AtOnce;
+use wh_host::{InOrder, RoundRunner};
+use wh_scheduler::AtOnce;
 
-// How many rounds there are, and so many frames: enough for all pages, and too few.
+// How many rounds there are, and how many frames: enough for all pages, and too few.
 const ROUNDS: u32 = 1000;
 
 const FRAMES: [u32; 2] = [40, 6];
 
-// For so many pages runners have marks: for all of a memory, and for the lower half.
+// For how many pages runners have marks: for all of a memory, and for the lower half.
 const PAGES: [usize; 2] = [16, 8];
 
 // Whether each end came, of turns that were taken at once too.
@@ -36,8 +36,8 @@ fn look_at(counts: &Counts) -> Result<()> {
     Ok(())
 }
 
-// So many rounds of two instances on so many frames, with marks for so many pages.
-fn run<F: Fork>(alloc: Global, fork: &F, frames: u32, pages: usize) -> Result<()>
+// Runs the rounds of two instances on `frames` frames, with marks for `pages` pages.
+fn run<F: RoundRunner>(alloc: Global, fork: &F, frames: u32, pages: usize) -> Result<()>
     requires { F.can fork.now }
 {
     let mut twins = Twins::new(alloc, frames, pages, 0x9E37_79B9_7F4A_7C15)?;

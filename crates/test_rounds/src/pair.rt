@@ -7,10 +7,10 @@ use anyhow::Result;
 use std::alloc::Global;
 use std::marker::Model;
 use std::sync::atomic::AtomicU64;
-use wh_host::{Burst, Fork, Host, Runner, SeriesEnd};
-use wh_host_model::InstId;
+use wh_host::{Burst, Host, RoundRunner, Runner, SeriesEnd};
+use wh_space_model::InstId;
 
-// How many pages one may write beside the memory in a round.
+// How many pages one may write in its overlay in a round.
 const WRITTEN: u16 = 2;
 
 /// Two runners, which have no instance between rounds.
@@ -41,14 +41,22 @@ fn two_runners(alloc: Global, first: InstId, second: InstId, pages: usize) -> Re
 }
 
 impl Pair {
-    /// Makes runners for these instances, with marks for so many pages.
+    /// Creates runners for these instances, with marks for `pages` pages.
     pub fn new(alloc: Global, first: InstId, second: InstId, pages: usize) -> Result<Pair> {
         let runners = two_runners(alloc, first, second, pages)?;
         Ok(Pair { runners })
     }
 
-    /// A round of bursts of `q` charges a turn, with so many further turns at most, while so many want the memory.
-    pub fn round<F: Fork>(&mut self, host: &mut Host, fork: &F, q: u64, further: u32, wanted: u64)
+    /// Runs a round of bursts of `q` charges a turn, with at most `further` further turns, while `wanted` others want
+    /// the memory.
+    pub fn round<F: RoundRunner>(
+        &mut self,
+        host: &mut Host,
+        fork: &F,
+        q: u64,
+        further: u32,
+        wanted: u64,
+    )
         requires { F.can fork.now }
     {
         let wanted = AtomicU64::new(wanted);
@@ -60,7 +68,7 @@ impl Pair {
         host.turns_at_once(fork, self.runners.as_mut_slice(), burst);
     }
 
-    /// To what the turns of this runner came.
+    /// Returns the outcome of the turns of this runner.
     pub fn answer(&self, at: usize) -> Option<SeriesEnd> {
         self.runners.get(at)?.answer()
     }

@@ -5,9 +5,10 @@ use crate::pair::Pair;
 use anyhow::{Context, Result, ensure};
 use std::alloc::Global;
 use test_random::Random;
-use wh_host::{Fork, Host, Params, SeriesEnd};
-use wh_host_model::{InstId, Tax, TurnEnd};
+use wh_host::{Host, Params, RoundRunner, SeriesEnd};
+use wh_host_model::TurnEnd;
 use wh_kernels::FnvHash;
+use wh_space_model::{InstId, Tax};
 
 // How many calls a journal has at most.
 const MOST_CALLS: u32 = 65536;
@@ -59,7 +60,7 @@ fn given(alloc: Global) -> Params {
     }
 }
 
-// A host with so many frames and two instances.
+// A host with `frames` frames and two instances.
 fn new_host(alloc: Global, frames: u32) -> Result<(Host, [InstId; 2])> {
     let mut host = Host::new(alloc, frames, 64, Tax { num: 0, den: 1 })?;
     let module = host.load(alloc, &PAGER)?;
@@ -69,7 +70,7 @@ fn new_host(alloc: Global, frames: u32) -> Result<(Host, [InstId; 2])> {
 }
 
 impl Twins {
-    /// Both hosts as they are first. Runners have marks for so many pages.
+    /// Creates both hosts as they are initially. Runners have marks for `pages` pages.
     pub fn new(alloc: Global, frames: u32, pages: usize, seed: u64) -> Result<Twins> {
         let (together, ids) = new_host(alloc, frames)?;
         let (apart, same) = new_host(alloc, frames)?;
@@ -138,11 +139,11 @@ impl Twins {
         }
     }
 
-    // A series of turns that was taken beside others, one turn after the other: each but the last can go on behind it.
+    // A series of turns that was taken beside others, one turn after the other: each but the last can go on after it.
     fn follow_one(&mut self, id: InstId, came: SeriesEnd, q: u64) -> Result<()> {
         ensure!(came.turns > 0, "a series has no turn");
         for _ in 1..came.turns {
-            let end = self.apart.turn(id, q);
+            let (end, _) = self.apart.turn(id, q);
             ensure!(
                 end == TurnEnd::Again,
                 "a turn before the last is answered {end:?}"
@@ -158,11 +159,16 @@ impl Twins {
             _ => q,
         };
         ensure!(left <= q, "a turn took more charges than it had");
-        let end = self.apart.turn(id, left);
+        let (end, charges) = self.apart.turn(id, left);
         ensure!(
             end == came.end,
             "the last turn is answered {end:?} and {:?}",
             came.end
+        );
+        ensure!(
+            charges == came.charges - before,
+            "the last turn took {charges} charges, and {} beside others",
+            came.charges - before
         );
         Ok(())
     }
@@ -182,9 +188,12 @@ impl Twins {
 
     // A turn of this instance on both hosts, which is answered the same. Where it waits for a frame its call ends.
     fn turn(&mut self, id: InstId, q: u64) -> Result<()> {
-        let end = self.together.turn(id, q);
+        let (end, charges) = self.together.turn(id, q);
         let other = self.apart.turn(id, q);
-        ensure!(other == end, "a turn is answered {other:?} and {end:?}");
+        ensure!(
+            other == (end, charges),
+            "a turn is answered {other:?} and {end:?} in {charges} charges"
+        );
         if end == TurnEnd::Frame {
             self.cancel(id)?;
         }
@@ -238,7 +247,7 @@ impl Twins {
         Ok(())
     }
 
-    fn round<F: Fork>(&mut self, alloc: Global, fork: &F) -> Result<()>
+    fn round<F: RoundRunner>(&mut self, alloc: Global, fork: &F) -> Result<()>
         requires { F.can fork.now }
     {
         self.ask_all(alloc)?;
@@ -283,8 +292,8 @@ impl Twins {
         Ok(())
     }
 
-    /// Runs so many rounds, beside which the same turns are taken one after the other.
-    pub fn run<F: Fork>(&mut self, alloc: Global, fork: &F, rounds: u32) -> Result<()>
+    /// Runs `rounds` rounds, beside which the same turns are taken one after the other.
+    pub fn run<F: RoundRunner>(&mut self, alloc: Global, fork: &F, rounds: u32) -> Result<()>
         requires { F.can fork.now }
     {
         for round in 0..rounds {

@@ -22,8 +22,8 @@ const CALLS: &[u8] =
 const CALLS_REPLIES: &[u8] =
     b"module m ok\nadmit a ok 0\ncall 1 done 7 charges 0\ncall 2 done 7 charges 0\nerror C1 line 9\ncall 3 done 7 charges 0\n";
 
-/// Scripts with their replies, so many writes, and how many bytes are kept where the next one fails. A line is one write
-/// with all that it gets, and so is the end; what gets nothing is none.
+/// Scripts with their replies, how many writes go well, and how many bytes are kept where the next one fails. A line is
+/// one write with all that it gets, and so is the end; what gets nothing is none.
 const FAILED_WRITES: [(&[u8], &[u8], usize, usize); 8] = [
     (THREE, THREE_REPLIES, 0, 0),
     (THREE, THREE_REPLIES, 1, 25),
@@ -35,7 +35,7 @@ const FAILED_WRITES: [(&[u8], &[u8], usize, usize); 8] = [
     (CALLS, CALLS_REPLIES, 4, 89),
 ];
 
-/// That a script keeps so many bytes of its replies where the writer fails behind so many writes.
+/// That a script keeps `kept` bytes of its replies where the writer fails after `writes` writes.
 fn expect_tired(
     rt: &(impl Abort + AllocGlobal + Threads + Wait + Copy + Send + Sync + 'static),
     script: &[u8],
@@ -66,7 +66,7 @@ fn a_failed_write_ends_a_script(rt: HostRuntime) -> Result<(), Fail> {
     Ok(())
 }
 
-/// That a script gets its replies by so many writes, and not one more.
+/// That a script gets its replies by `writes` writes, and not one more.
 fn expect_writes(
     rt: &(impl Abort + AllocGlobal + Threads + Wait + Copy + Send + Sync + 'static),
     script: &[u8],
@@ -94,8 +94,8 @@ fn each_reply_is_one_write(rt: HostRuntime) -> Result<(), Fail> {
     Ok(())
 }
 
-/// Scripts with their replies, so many bytes after which reading fails, and how many bytes of replies there are then. Where
-/// a script isn't read to its end nothing is drained for it.
+/// Scripts with their replies, the number of bytes after which reading fails, and how many bytes of replies there are
+/// then. Where a script isn't read to its end nothing is drained for it.
 const FAILED_READS: [(&[u8], &[u8], usize, usize); 13] = [
     (THREE, THREE_REPLIES, 0, 0),
     (THREE, THREE_REPLIES, 5, 0),
@@ -112,7 +112,7 @@ const FAILED_READS: [(&[u8], &[u8], usize, usize); 13] = [
     (CALLS, CALLS_REPLIES, 104, 89),
 ];
 
-/// That a script keeps so many bytes of its replies where the reader fails behind so many bytes.
+/// That a script keeps `kept` bytes of its replies where the reader fails after `fails_after` bytes.
 fn expect_failed_read(
     rt: &(impl Abort + AllocGlobal + Threads + Wait + Copy + Send + Sync + 'static),
     script: &[u8],
@@ -140,7 +140,7 @@ fn a_failed_read_ends_a_script(rt: HostRuntime) -> Result<(), Fail> {
     Ok(())
 }
 
-/// That a script gets its replies where the reader is interrupted so often, behind so many bytes.
+/// That a script gets its replies where the reader is interrupted `interruptions` times, after `undisturbed` bytes.
 fn expect_disturbed(
     rt: &(impl Abort + AllocGlobal + Threads + Wait + Copy + Send + Sync + 'static),
     settings: &Settings,
@@ -185,7 +185,8 @@ fn an_interrupted_read_is_made_again(rt: HostRuntime) -> Result<(), Fail> {
     Ok(())
 }
 
-/// That a script gets its replies where the writer is interrupted behind so many writes, of which there are so many.
+/// That a script gets its replies where the writer is interrupted after `undisturbed` writes, of which there are
+/// `writes`.
 fn expect_halting(
     rt: &(impl Abort + AllocGlobal + Threads + Wait + Copy + Send + Sync + 'static),
     settings: &Settings,

@@ -58,7 +58,7 @@ impl Read for Trickle<'_> {
     }
 }
 
-/// A writer that keeps what it is given, so many times, and then fails.
+/// A writer that keeps what it is given, a number of times, and then fails.
 #[derive(Drop)]
 pub struct Tired {
     /// What was written.
@@ -85,7 +85,7 @@ impl Write for Tired {
     }
 }
 
-/// A reader of three bytes at a time that is interrupted, so many times, before it gives more.
+/// A reader of three bytes at a time that is interrupted, a number of times, before it gives more.
 #[derive(Drop)]
 pub struct Disturbed<'a> {
     /// What it gives.

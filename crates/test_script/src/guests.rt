@@ -47,7 +47,7 @@ pub const GUESTS: [(&str, &str); 29] = [
         "branch",
         "0061736d010000000105016000017f03020100070501016600000a0c010a00027f41010c006a0b0b",
     ),
-    // The same with an i64 behind the branch.
+    // The same with an i64 after the branch.
     (
         "mistyped_branch",
         "0061736d010000000105016000017f03020100070501016600000a0e010c00027f41010c0042006a0b0b",
@@ -88,12 +88,12 @@ pub const GUESTS: [(&str, &str); 29] = [
         "byte_at_end",
         "0061736d0100000005030100010b09010041ffff030b0101",
     ),
-    // One page, with a byte in its last place and one behind it.
+    // One page, with a byte in its last place and one after it.
     (
         "byte_past_end",
         "0061736d0100000005030100010b0a010041ffff030b020102",
     ),
-    // One page, with no bytes behind its last place.
+    // One page, with no bytes after its last place.
     (
         "none_at_end",
         "0061736d0100000005030100010b080100418080040b00",

@@ -160,7 +160,7 @@ fn answered(
     Ok(written)
 }
 
-/// That a module whose name has so many bytes gets a reply that begins so.
+/// That a module whose name has `length` bytes gets a reply that begins so.
 fn expect_named(
     rt: &(impl Abort + AllocGlobal + Threads + Wait + Copy + Send + Sync + 'static),
     length: usize,
@@ -187,7 +187,7 @@ fn names_have_32_bytes_at_most(rt: HostRuntime) -> Result<(), Fail> {
     Ok(())
 }
 
-/// That a line of so many bytes that begins so gets this reply, and the line behind it its own.
+/// That a line of `length` bytes that begins so gets this reply, and the line after it its own.
 fn expect_long(
     rt: &(impl Abort + AllocGlobal + Threads + Wait + Copy + Send + Sync + 'static),
     length: usize,

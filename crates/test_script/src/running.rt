@@ -15,7 +15,7 @@ use wh_swap::MemSwap;
 /// With how many workers each script is run: one at a time, and several side by side.
 pub const NUMBERS: [u8; 3] = [1, 2, 8];
 
-/// Runs a script with these settings and so many workers, on a device of its own and with the modules to load.
+/// Runs a script with these settings and `number` workers, on a device of its own and with the modules to load.
 pub fn run<R: Read, W: Write>(
     rt: &(impl AllocGlobal + Threads + Wait + Copy + Send + Sync + 'static),
     settings: &Settings,
@@ -41,7 +41,7 @@ pub fn run<R: Read, W: Write>(
     Ok(result)
 }
 
-/// What a script gets: its result, and the text that was written.
+/// Returns what a script gets: its result, and the text that was written.
 pub fn outcome<R: Read>(
     rt: &(impl AllocGlobal + Threads + Wait + Copy + Send + Sync + 'static),
     settings: &Settings,
@@ -56,7 +56,7 @@ where
     Ok((result, written))
 }
 
-/// That a script gets these replies with these settings and so many workers.
+/// Expects that a script gets these replies with these settings and this number of workers.
 pub fn expect_with(
     rt: &(impl Abort + AllocGlobal + Threads + Wait + Copy + Send + Sync + 'static),
     settings: &Settings,
@@ -70,7 +70,7 @@ pub fn expect_with(
     Ok(())
 }
 
-/// That a script gets these replies with these settings, and with each number of workers.
+/// Expects that a script gets these replies with these settings, and with each number of workers.
 pub fn expect_each(
     rt: &(impl Abort + AllocGlobal + Threads + Wait + Copy + Send + Sync + 'static),
     settings: &Settings,
@@ -83,7 +83,7 @@ pub fn expect_each(
     Ok(())
 }
 
-/// That a script gets these replies, with settings as a document says them, and with each number of workers.
+/// Expects that a script gets these replies, with settings as a document says them, and with each number of workers.
 pub fn expect(
     rt: &(impl Abort + AllocGlobal + Threads + Wait + Copy + Send + Sync + 'static),
     settings: &str,
@@ -124,7 +124,8 @@ impl Table {
     }
 }
 
-/// That a script gets its replies, line by line as `Table::new` takes them. Turns of one charge have to come to the same.
+/// Expects that a script gets its replies, line by line as `Table::new` takes them. Turns of one charge have to give
+/// the same.
 pub fn expect_lines(
     rt: &(impl Abort + AllocGlobal + Threads + Wait + Copy + Send + Sync + 'static),
     settings: &str,
@@ -136,7 +137,7 @@ pub fn expect_lines(
     expect(rt, &short, &table.script, &table.replies)
 }
 
-/// That each of these scripts gets its replies, with settings as its document says them.
+/// Expects that each of these scripts gets its replies, with settings as its document says them.
 pub fn expect_all(
     rt: &(impl Abort + AllocGlobal + Threads + Wait + Copy + Send + Sync + 'static),
     scripts: &[(&str, &[(&str, &str)])],
@@ -168,7 +169,7 @@ fn frames_in_use(line: &str) -> Option<u32> {
     used.parse().ok()
 }
 
-/// That by each report in a text so many frames are in use at least and at most.
+/// That by each report in a text from `least` to `most` frames are in use.
 fn expect_used(rt: &impl Abort, text: &str, least: u32, most: u32) {
     for line in text.split_terminator('\n') {
         if let Some(used) = frames_in_use(line) {
@@ -177,7 +178,7 @@ fn expect_used(rt: &impl Abort, text: &str, least: u32, most: u32) {
     }
 }
 
-/// The same as `expect_frames` asks, with these settings and so many workers.
+/// The same as `expect_frames` asks, with these settings and `number` workers.
 fn expect_frames_with(
     rt: &(impl Abort + AllocGlobal + Threads + Wait + Copy + Send + Sync + 'static),
     settings: &Settings,
@@ -209,8 +210,8 @@ fn expect_frames_each(
     Ok(())
 }
 
-/// That a script gets its replies in turns of one charge, where its reports depend on what a scanner came to see beside the
-/// calls: by each of them so many frames are in use at least and at most.
+/// Expects that a script gets its replies in turns of one charge, where its reports depend on what a scanner came to
+/// see while calls ran: in each of them from `least` to `most` frames are in use.
 pub fn expect_frames(
     rt: &(impl Abort + AllocGlobal + Threads + Wait + Copy + Send + Sync + 'static),
     settings: &str,

@@ -53,7 +53,7 @@ fn equal_pages_are_merged_and_copied(rt: HostRuntime) -> Result<(), Fail> {
     )
 }
 
-/// A store over both of two merged pages, with one frame free. It needs no more, and neither page is shared behind it.
+/// A store over both of two merged pages, with one frame free. It needs no more, and neither page is shared after it.
 const TWO_PAGES: &[(&str, &str)] = &[
     ("load m words", "module m ok\n"),
     ("admit a m 100 2 16 0 0 0", "admit a ok 0\n"),
@@ -164,9 +164,10 @@ const ONE_HASH: &[(&str, &str)] = &[
     ),
 ];
 
-/// A place is used again by an instance with a higher number than one behind it. Pages are looked at by instance number: that
-/// of the earlier one is the first under the one hash, and neither of the later one's is merged with it or with the other.
-/// The first page of the later one isn't written, since a scanner beside the calls may look at it before the pass.
+/// A place is used again by an instance with a higher number than one after it. Pages are looked at by instance number:
+/// that of the earlier one is the first under the one hash, and neither of the later one's is merged with it or with
+/// the other. The first page of the later one isn't written, since a scanner beside the calls may look at it before the
+/// pass.
 const PLACE_USED_AGAIN: &[(&str, &str)] = &[
     ("load m words", "module m ok\n"),
     ("admit a m 100 2 16 0 0 0", "admit a ok 0\n"),

@@ -112,7 +112,7 @@ const RELEASED: &[(&str, &str)] = &[
     ("drain", ""),
 ];
 
-/// Starts are said by the number of their instance, and behind them all calls by their own.
+/// Starts are said by the number of their instance, and after them all calls by their own.
 const ORDER: &[(&str, &str)] = &[
     ("load k seven", "module k ok\n"),
     ("load s start_nops", "module s ok\n"),

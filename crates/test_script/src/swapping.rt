@@ -25,7 +25,7 @@ enum Fate {
 
 use Fate::{Damaged, Fails, Fine};
 
-/// So many are fine, so many behind them have this fate, and all others are fine.
+/// The first ones are fine, others after them have this fate, and all further ones are fine.
 #[derive(Clone, Copy)]
 struct Fates {
     fine: u32,
@@ -116,7 +116,7 @@ impl Pages for Worn {
     }
 }
 
-/// A device over so many pages, whose reads and writes have these fates.
+/// A device over `slots` pages, whose reads and writes have these fates.
 fn make_worn(
     alloc: Global,
     slots: u32,
@@ -134,7 +134,7 @@ fn make_worn(
     PageSwap::over(alloc, worn, slots)
 }
 
-/// Runs a script with these settings and so many workers, on such pages.
+/// Runs a script with these settings and `number` workers, on such pages.
 fn run_worn(
     rt: &(impl AllocGlobal + Threads + Wait + Copy + Send + Sync + 'static),
     settings: &Settings,
@@ -162,7 +162,7 @@ fn run_worn(
     Ok(result)
 }
 
-/// What is written in answer to a script, with these settings and so many workers, on such pages.
+/// What is written in answer to a script, with these settings and `number` workers, on such pages.
 fn answered(
     rt: &(impl AllocGlobal + Threads + Wait + Copy + Send + Sync + 'static),
     settings: &str,
@@ -178,8 +178,8 @@ fn answered(
     Ok(written)
 }
 
-/// Scripts on such pages, by what becomes of reads and writes, and their replies. Behind three pages of one instance that were
-/// stored the first is loaded.
+/// Scripts on such pages, by what becomes of reads and writes, and their replies. After three pages of one instance
+/// that were stored the first is loaded.
 const WORN: [(Fates, Fates, &str, &str); 3] = [
     (
         FIRST_FAILS,
@@ -207,7 +207,7 @@ const STORES: &str =
 
 const ADMITTED: &str = "module m ok\nadmit a ok 0\n";
 
-/// That `STORES` and these tries get these replies behind `ADMITTED`, where reads and writes have these fates.
+/// That `STORES` and these tries get these replies after `ADMITTED`, where reads and writes have these fates.
 fn expect_worn(
     rt: &(impl Abort + AllocGlobal + Threads + Wait + Copy + Send + Sync + 'static),
     reads: Fates,
@@ -268,8 +268,8 @@ fn all_is_loaded(rt: &impl Abort, written: &[u8], faultless: &[u8]) -> Result<bo
     Ok(text.contains("frame S"))
 }
 
-/// The script of two instances, on a device of which these reads and writes fail, by so many workers. Whether it failed on the
-/// way.
+/// The script of two instances, on a device of which these reads and writes fail, by `number` workers. Whether it
+/// failed on the way.
 fn fails_so(
     rt: &(impl Abort + AllocGlobal + Threads + Wait + Copy + Send + Sync + 'static),
     number: u8,

@@ -65,7 +65,7 @@ fn parse_words<'a>(words: &[&'a str]) -> Result<Line<'a>> {
 }
 
 impl<'a> Line<'a> {
-    /// The line of this text.
+    /// Parses a line.
     pub fn parse(alloc: Global, text: &'a str) -> Result<Line<'a>> {
         if text.is_empty() || text.starts_with('#') {
             return Ok(Line::Nothing);

@@ -1,11 +1,11 @@
 //! Runs scripts as tables say, and compares what is replied with what they want.
 //!
-//! `test_sessions TABLE ..` reads tables one behind the other; `README.md` says what their lines mean and where the wanted
-//! replies come from. For each table a line says how many scripts agree, how many replies these get, and how many scripts
-//! differ; before it there is a line for each that differs, with its name and its first difference. The status is 1 where
-//! one differs, or a line isn't understood. Lines of replies that begin with `#` aren't compared. Calls are run by 1, 2, 5 and
-//! 64 threads: each script takes the next of these numbers, and the fifth the first again. Scripts made for rounds are run by 1, 2,
-//! 4 and 8, each by all of these.
+//! `test_sessions TABLE ..` reads tables one after the other; `README.md` says what their lines mean and where the
+//! wanted replies come from. For each table a line says how many scripts agree, how many replies these get, and how
+//! many scripts differ; before it there is a line for each that differs, with its name and its first difference. The
+//! status is 1 where one differs, or a line isn't understood. Lines of replies that begin with `#` aren't compared.
+//! Calls are run by 1, 2, 5 and 64 threads: each script takes the next of these numbers, and the fifth the first again.
+//! Scripts made for rounds are run by 1, 2, 4 and 8, each by all of these.
 #![tactic(auto)]
 
 mod line;

@@ -46,7 +46,7 @@ pub fn add_line(text: &mut String, line: &str) -> Result<()> {
     Ok(())
 }
 
-/// What is written where these lines are obeyed, and so many threads run calls.
+/// What is written where these lines are obeyed, and `workers` threads run calls.
 fn written(
     rt: &(impl AllocGlobal + Threads + Wait + Copy + Send + Sync + 'static),
     shelf: &Shelf,
@@ -85,13 +85,13 @@ fn without_reports(alloc: Global, text: &str) -> Result<String> {
     Ok(kept)
 }
 
-/// How many lines a text has.
+/// Returns the number of lines of a text.
 pub fn count_lines(text: &str) -> usize {
     text.split_terminator('\n').count()
 }
 
 impl Script {
-    /// What it gets from so many workers, without reports.
+    /// Returns what it gets from this number of workers, without reports.
     pub fn replies(
         &self,
         rt: &(impl AllocGlobal + Threads + Wait + Copy + Send + Sync + 'static),
@@ -115,7 +115,7 @@ impl Script {
         }
     }
 
-    /// Prints where the replies from so many workers first differ from those wanted.
+    /// Prints where the replies from `workers` workers first differ from those wanted.
     pub fn print_difference(&self, rt: &impl Print, workers: u8, replies: &str) -> Result<()> {
         let name = self.name.as_str();
         let mut found = replies.split('\n');

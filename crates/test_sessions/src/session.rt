@@ -85,7 +85,7 @@ impl Drop for Session {
 }
 
 impl Session {
-    /// No line was read yet.
+    /// Creates a session of which no line was read yet.
     pub fn new(alloc: Global) -> Session {
         Session {
             shelf: Shelf::new(alloc),
@@ -98,7 +98,7 @@ impl Session {
         }
     }
 
-    /// How all scripts of tables that have ended fared.
+    /// Returns how all scripts of tables that have ended fared.
     pub fn sums(&self) -> Tally {
         self.sums
     }
@@ -118,7 +118,8 @@ impl Session {
         number
     }
 
-    /// Runs a script with so many workers. Whether it gets what it is to; where it doesn't, the first difference is printed.
+    /// Runs a script with `number` workers. Whether it gets what it is to; where it doesn't, the first difference is
+    /// printed.
     fn is_right(
         &self,
         rt: &(impl Print + AllocGlobal + Threads + Wait + Copy + Send + Sync + 'static),

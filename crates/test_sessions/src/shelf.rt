@@ -20,7 +20,7 @@ impl Drop for Shelf {
 }
 
 impl Shelf {
-    /// There is no file.
+    /// Creates a shelf without files.
     pub fn new(alloc: Global) -> Shelf {
         Shelf {
             files: HashMap::new(alloc),

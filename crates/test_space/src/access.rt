@@ -3,7 +3,7 @@
 use wh_linmem::LinearMem;
 use wh_model::{Got, Grown, Need};
 
-/// What a load or a store comes to.
+/// The outcome of a load or a store.
 #[derive(Clone, Copy)]
 pub enum End {
     /// It is done.
@@ -15,7 +15,7 @@ pub enum End {
 }
 
 impl End {
-    /// The answer of that load or store.
+    /// Returns the answer of that load or store.
     pub fn answer(self, need: Need) -> Got {
         match self {
             End::Done => Got::Value,
@@ -37,15 +37,15 @@ pub enum Access {
     QuickLoad(u64, &'static [u8], bool),
     /// A quick store, and whether it is done.
     QuickStore(u64, &'static [u8], bool),
-    /// Whether so many bytes from an address on are ready to be written.
+    /// Whether this many bytes from an address on are ready to be written.
     Ready(u64, usize, bool),
     /// The size in pages of 65536 bytes.
     Size(u32),
-    /// A growth by so many pages of 65536 bytes.
+    /// A growth by this many pages of 65536 bytes.
     Grow(u32, Grown),
 }
 
-// Whether a load of so many bytes at an address comes to this, and these bytes are there then.
+// Whether a load of as many bytes as wanted at an address ends so, and these bytes are there then.
 fn load<M: LinearMem>(memory: &mut M, at: u64, wanted: &[u8], end: End) -> bool {
     let length = wanted.len();
     if length > 8 {
@@ -96,7 +96,7 @@ fn is_ready<M: LinearMem>(memory: &M, at: u64, length: usize) -> bool {
     })
 }
 
-/// Whether it came out so.
+/// Tells whether the access came out as it says.
 pub fn agrees<M: LinearMem>(memory: &mut M, access: Access) -> bool {
     match access {
         Access::Load(at, wanted, end) => load(memory, at, wanted, end),

@@ -5,8 +5,8 @@ ghost use Rattle.std.specs.Prelude.{◌≡◌};
 use std::alloc::Global;
 use wh_space::{Memory, Promise};
 
-/// An instance comes to a place, with so many pages of 65536 bytes. Whether it came: the place and its number are free, and there
-/// are frames, slots and room for it.
+/// Gives an instance a place, with `size` pages of 65536 bytes, if the place and its number are free, and there are
+/// frames, slots and room for it; tells whether it did.
 pub fn enter(memory: &mut Memory, alloc: Global, place: usize, promise: Promise, size: u32) -> bool
     ensures { memory.new.slots ≡ memory.old.slots }
 {
@@ -31,8 +31,8 @@ pub fn enter(memory: &mut Memory, alloc: Global, place: usize, promise: Promise,
     memory.enter(alloc, place, promise, size).is_ok()
 }
 
-/// A memory ends. It is dropped here alone, and what holds one isn't `Drop`: each function that may drop one on some of its ways
-/// takes half a minute more to prove.
+/// Drops a memory. It is dropped here alone, and what holds one isn't `Drop`: each function that may drop one on some
+/// of its ways takes half a minute more to prove.
 pub fn let_go(memory: Memory) {
     drop(memory);
 }

@@ -1,4 +1,4 @@
-// Two memories at once, each read below and written beside the other, and then laid back.
+// Two overlays at once on one memory, which are then written back.
 
 ghost use Rattle.std.specs.Prelude.{◌≡◌, ◌≢◌, ◌+◌, ◌≤◌, [], IfOk, length};
 ghost use Rattle.wh_overlay.specs.Over.{AreAtHand, HasGrown, ReadsAreThere, frames_lacking};
@@ -11,10 +11,10 @@ use test_random::Random;
 use wh_flatmem::FlatMemory;
 use wh_linmem::LinearMem;
 use wh_model::MOST_WASM_PAGES;
-use wh_overlay::{Overlay, Upper};
+use wh_overlay::{Overlay, OverlayPages};
 use wh_space::Memory;
 
-// How many pages may be written beside each, and how many things are done at most before they are laid back.
+// How many pages may be written in each overlay, and how many things are done at most before they are written back.
 const ROOM: u16 = 6;
 
 const MOST_STEPS: u32 = 40;
@@ -37,15 +37,15 @@ fn step<V: LinearMem>(random: &mut Random, view: &mut V, flat: &mut FlatMemory) 
     }
 }
 
-// Does some things to the memories of the instances at two places in turn, both of which read one memory. What each has written
-// beside it, and how often something couldn't be done.
+// Does some things to the memories of the instances at two places in turn, both overlays on one memory that they read.
+// What each has written, and how often something couldn't be done.
 fn run_two(
     random: &mut Random,
     memory: &Memory,
     flats: &mut [FlatMemory],
-    uppers: (Upper, Upper),
+    uppers: (OverlayPages, OverlayPages),
     places: (usize, usize),
-) -> Result<(Upper, Upper, u32)>
+) -> Result<(OverlayPages, OverlayPages, u32)>
     requires first { (uppers.0.pages ≡ []) × (uppers.0.grown ≡ 0) × (uppers.0.taken ≡ 0)
         × (uppers.0.reads ≡ []) }
     requires second { (uppers.1.pages ≡ []) × (uppers.1.grown ≡ 0) × (uppers.1.taken ≡ 0)
@@ -77,8 +77,8 @@ fn run_two(
     Ok((here.into_upper(), there.into_upper(), refused))
 }
 
-// Lays back what two instances at different places have written beside the memory.
-fn lay_two(memory: &mut Memory, uppers: (Upper, Upper), places: (usize, usize))
+// Writes back what two instances at different places have written in their overlays.
+fn lay_two(memory: &mut Memory, uppers: (OverlayPages, OverlayPages), places: (usize, usize))
     requires apart { places.1 ≢ places.0 }
     requires first { AreAtHand memory.old places.0 uppers.0.pages }
     requires second { AreAtHand memory.old places.1 uppers.1.pages }
@@ -95,13 +95,13 @@ fn lay_two(memory: &mut Memory, uppers: (Upper, Upper), places: (usize, usize))
 }
 
 impl Trial {
-    // Does some things to the memories of two instances in turn, both of which read one memory, and then lays back what each has
-    // written.
+    /// Does some things to the memories of two instances in turn, both over one memory that they read, and then writes
+    /// back what each has written.
     pub fn run_beside(&mut self, alloc: Global) -> Result<()> {
         let first = self.random.below(PLACES - 1) as usize;
         let places = (first, PLACES as usize - 1);
-        let mut here = Upper::new(alloc, ROOM, MAX as usize)?;
-        let mut there = Upper::new(alloc, ROOM, MAX as usize)?;
+        let mut here = OverlayPages::new(alloc, ROOM, MAX as usize)?;
+        let mut there = OverlayPages::new(alloc, ROOM, MAX as usize)?;
         let free = self.memory.free();
         let lent = self.random.below(free.saturating_add(1)).min(free);
         here.lend(lent);

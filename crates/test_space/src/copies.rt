@@ -10,12 +10,12 @@ use anyhow::{Context, Result, ensure};
 use std::alloc::Global;
 use test_random::Random;
 use wh_flatmem::FlatMemory;
-use wh_host_model::{Offer, Tax};
 use wh_kernels::{FnvHash, PageHash};
 use wh_linmem::LinearMem;
 use wh_model::MOST_WASM_PAGES;
 use wh_scan::{offer_at, scan_all, take};
 use wh_space::{Memory, Promise, View};
+use wh_space_model::{Offer, Tax};
 
 // How many places there are, how many frames, and how many pages of 4096 bytes each instance may have.
 const PLACES: u32 = 6;
@@ -98,7 +98,7 @@ fn copy(
     Ok(true)
 }
 
-// The same, and once more where that failed: then memory was refused, and nothing was left behind.
+// The same, and once more where that failed: then memory was refused, and nothing was left after it.
 fn copy_or_again(
     memory: &mut Memory,
     alloc: Global,
@@ -334,7 +334,7 @@ impl Copies {
     }
 }
 
-/// All steps, with a line.
+/// Takes all steps, and prints a line.
 pub fn run(rt: &(impl Print + AllocGlobal)) -> Result<()> {
     let alloc = rt.alloc();
     let mut copies = Copies::new(alloc)?;

@@ -1,9 +1,9 @@
 // A memory of many instances, on which steps are taken.
 
 ghost use Rattle.std.specs.Prelude.{◌≢◌, IfSome, IsTrue};
-ghost use Rattle.wh_host_model.specs.Frames.{IsTaken};
-ghost use Rattle.wh_host_model.specs.Pages.{zero_page};
-ghost use Rattle.wh_host_model.specs.Space.Offers.{IsOffered};
+ghost use Rattle.wh_space_model.specs.Frames.{IsTaken};
+ghost use Rattle.wh_space_model.specs.Pages.{zero_page};
+ghost use Rattle.wh_space_model.specs.Offers.{IsOffered};
 
 use crate::access::{Access, End, agrees};
 use crate::arrivals::{enter, let_go};
@@ -11,12 +11,12 @@ use crate::steps::{Begin, Found, Key, Step};
 use anyhow::Result;
 use std::alloc::Global;
 use wh_content::ContentEntry;
-use wh_host_model::Offer;
 use wh_kernels::{ConstantHash, FnvHash, PageHash};
 use wh_model::{Got, Need};
 use wh_reclaim::{PageOf, page_to_take};
 use wh_scan::{offer, offer_at, scan_all, take};
 use wh_space::{Memory, Promise, View};
+use wh_space_model::Offer;
 
 /// A memory, what its instances are promised, and the hash that was noted.
 pub struct Ground {
@@ -53,7 +53,7 @@ fn scanned<H: PageHash>(memory: &mut Memory, hasher: &H, place: u32, page: u32) 
     offered(memory, hasher, place, page, hash)
 }
 
-// The frame on which a page stands alone, where it isn't pinned.
+// The frame of its own of a page that isn't pinned.
 fn own_frame(memory: &Memory, place: u32, page: u32) -> Option<u32>
     ensures offered { IfSome result (λ frame. IsOffered memory.now place page frame) }
     ensures taken { IfSome result (λ frame. IsTaken memory.now.pool frame) }
@@ -77,7 +77,7 @@ fn hinted(memory: &mut Memory, place: u32, page: u32, hash: u64) -> bool {
 }
 
 // Whether the first byte of a page isn't 0.
-#[tactic(auto, unfolding(wh_host_model::specs::Pages::zero_page))]
+#[tactic(auto, unfolding(wh_space_model::specs::Pages::zero_page))]
 fn is_marked(page: &[u8; 4096]) -> bool
     ensures { IsTrue result → page.now ≢ zero_page }
 {
@@ -110,7 +110,7 @@ fn paired(memory: &mut Memory, place: u32, page: u32, hash: u64) -> bool {
     true
 }
 
-/// The instance of this number goes, if it is at this place.
+/// Releases the instance of this number, if it is at this place.
 pub fn gone(memory: &mut Memory, place: u32, number: u64) -> bool {
     if !memory.is_at(place, number) {
         return false;
@@ -147,7 +147,7 @@ fn must_leave(memory: &mut Memory, place: u32, page: PageOf) -> bool {
     }
 }
 
-// Whether the hint of a page is found, which stands alone on its frame.
+// Whether the hint of a page is found, which has a frame of its own.
 fn is_hint_of(memory: &Memory, entry: Option<ContentEntry>, place: u32, page: u32) -> bool {
     match memory.private_frame(place, page) {
         Some(frame) => entry == Some(ContentEntry::Hint { frame, place, page }),
@@ -156,7 +156,7 @@ fn is_hint_of(memory: &Memory, entry: Option<ContentEntry>, place: u32, page: u3
 }
 
 impl Ground {
-    /// One that begins so, without instances.
+    /// Creates one that begins so, without instances.
     pub fn new(alloc: Global, begin: Begin) -> Result<Ground> {
         Ok(Ground {
             memory: Memory::new(alloc, begin.frames, begin.slots, begin.tax)?,
@@ -166,7 +166,7 @@ impl Ground {
         })
     }
 
-    /// It ends.
+    /// Ends it.
     pub fn finish(self) {
         let Ground {
             memory,

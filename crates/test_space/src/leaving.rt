@@ -5,8 +5,8 @@ use crate::access::{Access, End};
 use crate::steps::{Begin, Case, Found, Key, Step};
 use crate::tables::take_each;
 use anyhow::Result;
-use wh_host_model::Tax;
 use wh_model::MOST_WASM_PAGES;
+use wh_space_model::Tax;
 
 // A memory of four frames, of which none is free, with two instances. Their first pages share a frame, and the first one has two
 // more pages, of which one is a hint.
@@ -81,7 +81,7 @@ const CASES: [Case; 2] = [
     },
 ];
 
-/// All of them, with a line for each.
+/// Takes all cases, and prints a line for each.
 pub fn run(rt: &(impl Print + AllocGlobal)) -> Result<()> {
     take_each(rt, &CASES)
 }

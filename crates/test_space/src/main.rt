@@ -1,18 +1,18 @@
 //! Tests the memory on which all instances lie.
 //!
-//! First it does the same to four memories on shared frames and to four flat ones, and compares all that is seen: 10000 random
-//! loads, stores, growths and offers, and between them what two do at once beside the memory, which is then laid back. Pages are
-//! offered under their own hash alone, and again under others' too; each list once under FNV-1a and once under the hash that is 0
-//! for each page. Every 250 steps all bytes are compared, and the sums of frames; and every 1000, where all hashes were right, all
-//! pages are offered, and the frames in use counted.
+//! First it does the same to four memories on shared frames and to four flat ones, and compares all that is seen: 10000
+//! random loads, stores, growths and offers, and between them what two do at once in overlays, which are then
+//! written back. Pages are offered under their own hash alone, and again under others' too; each list once under FNV-1a
+//! and once under the hash that is 0 for each page. Every 250 steps all bytes are compared, and the sums of frames; and
+//! every 1000, where all hashes were right, all pages are offered, and the frames in use counted.
 //!
-//! Instances are copied at random too, beside flat copies: copies and those that they are copies of are written, offered and
-//! released, and after each pass no frame is shared without an entry.
+//! Instances are copied at random too, beside flat copies: copies and those that they are copies of are written,
+//! offered and released, and after each pass no frame is shared without an entry.
 //!
 //! Then it goes through tables that were worked out by hand: what is done, row by row, and what has to come of it.
 //!
-//! It prints a line for each list and each table. The status is 1 where anything differs, or an answer of an offer that a list
-//! ought to meet never came.
+//! It prints a line for each list and each table. The status is 1 where anything differs, or an answer of an offer that
+//! a list ought to meet never came.
 #![tactic(auto)]
 
 mod access;

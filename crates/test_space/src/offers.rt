@@ -1,10 +1,10 @@
-// Worked by hand: what a page comes to that is offered.
+// Worked by hand: the outcome of offering a page.
 
 use crate::access::End;
 use crate::steps::{Begin, Case, Key, Step};
 use crate::tables::take_each;
 use anyhow::Result;
-use wh_host_model::{Offer, Tax};
+use wh_space_model::{Offer, Tax};
 
 // A memory of eight frames with two instances, each of 16 pages.
 const TWO: Begin = Begin {
@@ -109,7 +109,7 @@ const CASES: [Case; 6] = [
     },
 ];
 
-/// All of them, with a line for each.
+/// Takes all cases, and prints a line for each.
 pub fn run(rt: &(impl Print + AllocGlobal)) -> Result<()> {
     take_each(rt, &CASES)
 }

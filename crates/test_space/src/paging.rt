@@ -9,10 +9,10 @@ use crate::told::tell;
 use anyhow::Result;
 use std::alloc::Global;
 use std::io;
-use wh_host_model::{SwapError, Tax};
 use wh_model::{Got, Need};
 use wh_reclaim::{Buf, provide};
 use wh_space::{Memory, Promise};
+use wh_space_model::{SwapError, Tax};
 use wh_swap::{MemSwap, PageSwap, Pages, SwapDev};
 
 // Pages of which the first read fails.
@@ -57,13 +57,14 @@ enum Move {
     Store(usize, u64, u8, End),
     // A load of a byte into one that is 9: the one that is there then.
     Load(usize, u64, u8, End),
-    // The instance stands for a byte that is to be read, or written, and that is made ready: how many pages left for it.
+    // The instance is blocked on a byte that is to be read, or written, and that is made ready: how many pages left for
+    // it.
     Provide(u32, u64, bool, Result<u64, SwapError>),
-    // So many frames are in use.
+    // This many frames are in use.
     Used(u32),
-    // So many frames are free.
+    // This many frames are free.
     Free(u32),
-    // So many slots are vacant.
+    // This many slots are vacant.
     Vacant(u32),
 }
 
@@ -148,7 +149,7 @@ fn byte_at(at: u64, writes: bool) -> Need
 }
 
 impl<D: SwapDev + Drop> Paged<D> {
-    // So many frames, and slots of a device to which nothing was written, without instances.
+    // `frames` frames, and `slots` slots of a device to which nothing was written, without instances.
     fn new(alloc: Global, frames: u32, slots: u32, tax: Tax, device: D) -> Result<Paged<D>>
         requires { D.held device ≡ replicate slots [] }
     {
@@ -254,7 +255,7 @@ const WHO_HAS_MORE: [Move; 13] = [
     Move::Load(1, 4096, 4, End::Done),
 ];
 
-/// All cases of pages that leave and come, with a line for each.
+/// Takes all cases of evictions and fetches, and prints a line for each.
 pub fn run(rt: &(impl Print + AllocGlobal)) -> Result<()> {
     let alloc = rt.alloc();
     let failing = Failing {

@@ -6,7 +6,7 @@ use anyhow::{Result, ensure};
 use wh_linmem::LinearMem;
 use wh_model::{Got, Need};
 
-// Reads so many bytes of both.
+/// Reads `count` bytes of both.
 pub fn load<V: LinearMem, F: LinearMem>(
     view: &mut V,
     flat: &mut F,
@@ -33,7 +33,7 @@ pub fn load<V: LinearMem, F: LinearMem>(
     Ok(())
 }
 
-// Reads so many bytes of both, and says whether it could be done at once. Else it looks that they aren't read.
+/// Reads `count` bytes of both; tells whether it could be done at once. If not, checks that they aren't read.
 pub fn load_if_ready<V: LinearMem, F: LinearMem>(
     view: &mut V,
     flat: &mut F,
@@ -62,8 +62,8 @@ pub fn load_if_ready<V: LinearMem, F: LinearMem>(
     Ok(false)
 }
 
-// Writes these bytes to both, and says whether it could be done at once. Where no frame is free for it the flat one is left as
-// it is, too.
+/// Writes these bytes to both; tells whether it could be done at once. If no frame is free for it, the flat one is left
+/// as it is, too.
 pub fn store<V: LinearMem, F: LinearMem>(
     view: &mut V,
     flat: &mut F,
@@ -103,7 +103,7 @@ pub fn store<V: LinearMem, F: LinearMem>(
     Ok(true)
 }
 
-// Adds so many pages of 65536 bytes to both.
+/// Adds `pages` pages of 65536 bytes to both.
 pub fn grow<V: LinearMem, F: LinearMem>(view: &mut V, flat: &mut F, pages: u32) -> Result<()>
     ensures { V.keeps view.old view.new }
 {
@@ -113,7 +113,7 @@ pub fn grow<V: LinearMem, F: LinearMem>(view: &mut V, flat: &mut F, pages: u32) 
     Ok(())
 }
 
-// Looks at all bytes of both.
+/// Compares all bytes of both.
 pub fn compare<V: LinearMem, F: LinearMem>(view: &mut V, flat: &mut F) -> Result<()> {
     ensure!(flat.size() == view.size(), "the sizes differ");
     for page in 0..u64::from(flat.size()) * 16 {

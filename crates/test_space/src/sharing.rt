@@ -4,7 +4,7 @@ use crate::access::End;
 use crate::steps::{Begin, Case, Found, Key, Step};
 use crate::tables::take_each;
 use anyhow::Result;
-use wh_host_model::{Offer, Tax};
+use wh_space_model::{Offer, Tax};
 
 // A memory of eight frames, and no instance.
 const NOBODY: Begin = Begin {
@@ -234,7 +234,7 @@ const CASES: [Case; 8] = [
     },
 ];
 
-/// All of them, with a line for each.
+/// Takes all cases, and prints a line for each.
 pub fn run(rt: &(impl Print + AllocGlobal)) -> Result<()> {
     take_each(rt, &CASES)
 }

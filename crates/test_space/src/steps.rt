@@ -1,8 +1,8 @@
 // What is done to the memory of many instances, step by step, and what has to come of it.
 
 use crate::access::{Access, End};
-use wh_host_model::{Offer, Tax};
 use wh_reclaim::PageOf;
+use wh_space_model::{Offer, Tax};
 
 /// A hash.
 #[derive(Clone, Copy)]
@@ -20,7 +20,7 @@ pub enum Found {
     Nothing,
     /// A hint, or a shared frame.
     Something,
-    /// The hint of the page of this number at a place, which stands alone on its frame.
+    /// The hint of the page of this number at a place, which has a frame of its own.
     HintOf(u32, u32),
 }
 
@@ -28,8 +28,8 @@ pub enum Found {
 /// a page of 4096 bytes.
 #[derive(Clone, Copy)]
 pub enum Step {
-    /// The instance of this number comes to a place, with so many pages of 65536 bytes: both are free, and there are frames and
-    /// slots for it.
+    /// The instance of this number gets a place, with this many pages of 65536 bytes: both are free, and there are
+    /// frames and slots for it.
     Enter(usize, u64, u32),
     /// The instance of this number goes from a place, or isn't there.
     Exit(u32, u64, bool),
@@ -37,9 +37,9 @@ pub enum Step {
     Store(usize, u64, &'static [u8], End),
     /// A load at an address: the bytes that are there then.
     Load(usize, u64, &'static [u8], End),
-    /// Whether so many bytes from an address on are ready to be written.
+    /// Whether this many bytes from an address on are ready to be written.
     Ready(usize, u64, usize, bool),
-    /// What is done to the linear memory of whoever is at a place, which may grow to so many pages of 65536 bytes.
+    /// What is done to the linear memory of whoever is at a place, which may grow to this many pages of 65536 bytes.
     View(usize, u32, Access),
 
     /// The hash of a page's bytes is noted.
@@ -59,18 +59,18 @@ pub enum Step {
     /// A page goes to the frame of a hint, with equal bytes, of which the first isn't 0.
     Pair(u32, u32, u64),
 
-    /// A byte is written to each of the first so many pages.
+    /// A byte is written to each of the first pages, this many.
     Fill(usize, u64),
     /// A new epoch begins, in which no page was touched.
     Epoch,
     /// The page that has to leave where an instance's step lacks a frame to write its first byte.
     MustLeave(u32, PageOf),
 
-    /// So many frames are in use.
+    /// This many frames are in use.
     Used(u32),
-    /// So many frames are free.
+    /// This many frames are free.
     Free(u32),
-    /// So many frames are shared, and by so many pages.
+    /// This many frames are shared, and by this many pages.
     Sharing(u32, u64),
     /// What is found under this hash.
     Entry(Key, Found),
@@ -80,7 +80,7 @@ pub enum Step {
     FreePlace(usize, bool),
     /// Whether no instance has this number.
     FreshNumber(u64, bool),
-    /// How many frames are left beside the least numbers of pages of all instances.
+    /// How many frames are left by the minima of all instances.
     FramesLeft(u64),
 }
 

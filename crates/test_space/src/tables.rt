@@ -28,7 +28,7 @@ pub fn take_each(rt: &(impl Print + AllocGlobal), cases: &[Case]) -> Result<()> 
     Ok(())
 }
 
-/// All tables, with a line for each.
+/// Takes all tables, and prints a line for each.
 pub fn run(rt: &(impl Print + AllocGlobal)) -> Result<()> {
     sharing::run(rt)?;
     offers::run(rt)?;

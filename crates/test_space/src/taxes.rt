@@ -3,8 +3,8 @@
 use crate::steps::{Begin, Case, Step};
 use crate::tables::take_each;
 use anyhow::Result;
-use wh_host_model::Tax;
 use wh_reclaim::PageOf;
+use wh_space_model::Tax;
 
 // Two instances with 100 shares each and a minimum of 2, each of 128 pages, where idle pages are taxed.
 const TAXED: Begin = Begin {
@@ -86,7 +86,7 @@ const CASES: [Case; 4] = [
     },
 ];
 
-/// All of them, with a line for each.
+/// Takes all cases, and prints a line for each.
 pub fn run(rt: &(impl Print + AllocGlobal)) -> Result<()> {
     take_each(rt, &CASES)
 }

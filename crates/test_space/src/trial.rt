@@ -8,12 +8,12 @@ use anyhow::{Context, Result, ensure};
 use std::alloc::Global;
 use test_random::Random;
 use wh_flatmem::FlatMemory;
-use wh_host_model::{Offer, Tax};
 use wh_kernels::PageHash;
 use wh_linmem::LinearMem;
 use wh_model::MOST_WASM_PAGES;
 use wh_scan::{offer, scan_all, take};
 use wh_space::{Memory, Promise, View};
+use wh_space_model::{Offer, Tax};
 
 // How many memories there are, how many frames they have together, and how many pages of 4096 bytes each may have.
 pub const PLACES: u32 = 4;
@@ -22,8 +22,9 @@ const FRAMES: u32 = 96;
 
 pub const MAX: u32 = 48;
 
-// How often each answer of an offer came, how often a store found no frame, how often what two have written was laid back, how
-// often something couldn't be done beside the memory, and how often frames were taken where it was laid back.
+// How often each answer of an offer came, how often a store found no frame, how often what two have written was written
+// back, how often something couldn't be done in an overlay, and how often frames were taken where it was written
+// back.
 #[derive(Clone, Copy, Debug, Default)]
 pub struct Counts {
     pub skipped: u32,
@@ -46,7 +47,8 @@ pub struct Trial {
     pub counts: Counts,
 }
 
-// A place in a memory of so many pages of 65536 bytes, often near the end of a page of 4096; now and then it is beyond.
+/// Returns an address in a memory of `size` pages of 65536 bytes, often near the end of a page of 4096; now and then it
+/// is beyond.
 pub fn some_place(random: &mut Random, size: u32) -> u64 {
     let page = random.below(size.min(4) * 16 + 1);
     let near = 4090 + random.below(6);
@@ -59,7 +61,7 @@ pub fn some_place(random: &mut Random, size: u32) -> u64 {
     4096 * u64::from(page) + u64::from(offset)
 }
 
-// How many bytes to read or write: a whole page, some of it, those of a number, or none.
+/// Returns how many bytes to read or write: a whole page, some of it, those of a number, or none.
 pub fn some_count(random: &mut Random) -> usize
     ensures { result ≤ 4096 }
 {
@@ -73,7 +75,7 @@ pub fn some_count(random: &mut Random) -> usize
 }
 
 impl Trial {
-    // Memories without instances.
+    /// Creates memories without instances.
     pub fn new(alloc: Global) -> Result<Trial> {
         let tax = Tax { num: 3, den: 4 };
         Ok(Trial {
@@ -84,7 +86,7 @@ impl Trial {
         })
     }
 
-    // An instance comes to each place, with one page of 65536 zeros.
+    /// Gives an instance each place, with one page of 65536 zeros.
     pub fn begin(&mut self, alloc: Global) -> Result<()> {
         for place in 0..PLACES as usize {
             let promise = Promise {
@@ -100,7 +102,7 @@ impl Trial {
         Ok(())
     }
 
-    // They end: how often each answer came.
+    /// Ends them; returns how often each answer came.
     pub fn finish(self) -> Counts {
         let Trial {
             memory,
@@ -112,7 +114,7 @@ impl Trial {
         counts
     }
 
-    // Does one thing. Where `astray`, pages are offered under the hashes of others, too.
+    /// Does one thing. With `astray`, offers pages under the hashes of others, too.
     pub fn step<H: PageHash>(&mut self, alloc: Global, hasher: &H, astray: bool) -> Result<()> {
         match self.random.below(64) {
             0 => self.grow(),
@@ -216,7 +218,7 @@ impl Trial {
         *times = times.saturating_add(1);
     }
 
-    // Looks at all bytes of all memories, and at the sums of frames.
+    /// Compares all bytes of all memories, and the sums of frames.
     pub fn compare(&mut self) -> Result<()> {
         for place in 0..PLACES as usize {
             let flat = self.flats.get_mut(place).context("nobody is there")?;
@@ -259,8 +261,8 @@ impl Trial {
         Ok(u32::try_from(found.len())?)
     }
 
-    // Offers all pages, and looks how many frames that leaves in use: as many as there are different pages, where the hash
-    // tells them apart and none was ever offered under another's; else no fewer.
+    /// Offers all pages, and checks how many frames that leaves in use: as many as there are different pages, if the
+    /// hash tells them apart and none was ever offered under another's; else no fewer.
     pub fn scan<H: PageHash>(&mut self, alloc: Global, hasher: &H, exactly: bool) -> Result<()> {
         ensure!(self.memory.has_few_pages(), "there are too many pages");
         let _ = scan_all(&mut self.memory, hasher);

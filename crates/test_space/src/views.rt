@@ -4,8 +4,8 @@ use crate::access::{Access, End};
 use crate::steps::{Begin, Case, Step};
 use crate::tables::take_each;
 use anyhow::Result;
-use wh_host_model::Tax;
 use wh_model::{Grown, MOST_WASM_PAGES};
+use wh_space_model::Tax;
 
 // Two instances that were promised all frames.
 const TWO: Begin = Begin {
@@ -76,7 +76,7 @@ const CASES: [Case; 1] = [Case {
     steps: THREE_FRAMES,
 }];
 
-/// All of them, with a line for each.
+/// Takes all cases, and prints a line for each.
 pub fn run(rt: &(impl Print + AllocGlobal)) -> Result<()> {
     take_each(rt, &CASES)
 }

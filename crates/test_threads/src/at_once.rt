@@ -16,8 +16,8 @@ use std::sync::{Arc, Mutex, Wait};
 use std::test::Fail;
 use std::thread::Threads;
 use wh_threads::{
-    Books, Equipment, Gate, Lender, Message, ReceivedTurns, SeriesRoom, Shares, Slip, TurnSender,
-    Turns, Worker, dispatch, left_over, open_channel, pass_for, start_worker,
+    Books, Equipment, Gate, Message, MessagePass, ReceivedTurns, SeriesRoom, Shares, ThreadCounts,
+    TurnSender, Turns, Worker, dispatch, left_over, open_channel, pass_for, start_worker,
 };
 
 // Books under a lock, how many series a worker runs at once, and how many there were each time: two digits for each.
@@ -72,8 +72,8 @@ impl<T: Ledger, C: Ledger, O: Ledger, E: Ledger> Turns<T, C> for Batches<T, C, O
     }
 }
 
-// So many series of two turns each, the last sign, and one series more.
-fn dispatch_all<R: Wait>(rt: &R, sender: &TurnSender, slip: &mut Slip, count: u64) -> bool
+// `count` series of two turns each, the last sign, and one series more.
+fn dispatch_all<R: Wait>(rt: &R, sender: &TurnSender, slip: &mut MessagePass, count: u64) -> bool
     requires channel { IsSeatAt (sends_on sender.now) slip.old }
     requires part { 0 < (view slip.old).parts }
     ensures channel { IsSeatAt (sends_on sender.now) slip.new }
@@ -90,8 +90,8 @@ fn dispatch_all<R: Wait>(rt: &R, sender: &TurnSender, slip: &mut Slip, count: u6
 // How many turns a worker has counted, how many series it ran each time, and what it has left.
 type Ran = (u64, u64, Option<Message>);
 
-// So many series wait before the thread of the worker of this seat is started, which runs at most so many at once. None where it
-// couldn't be started.
+// `count` series wait before the thread of the worker of this seat is started, which runs at most `most` at once. None
+// where it couldn't be started.
 fn run_waiting<
     T: Ledger + Send + 'static,
     C: Ledger + Send + 'static,
@@ -102,7 +102,7 @@ fn run_waiting<
     rt: R,
     alloc: Global,
     books: &Arc<Mutex<Books<T, C, O, E>>, Global>,
-    lender: &mut Lender<T, C, O, E>,
+    lender: &mut ThreadCounts<T, C, O, E>,
     seat: usize,
     most: usize,
     count: u64,
@@ -184,7 +184,7 @@ fn series_that_wait_are_run_at_once(rt: HostRuntime) -> Result<(), Fail> {
         evictions,
     )?;
 
-    // What was dispatched behind the last sign is left. No worker runs more than 64 at once.
+    // What was dispatched after the last sign is left. No worker runs more than 64 at once.
     assert_eq!(rt; ran[0], Some((10, 302, Some(series(5, 3)))));
     assert_eq!(rt; ran[1], Some((4, 101, Some(series(2, 3)))));
     assert_eq!(rt; ran[2], Some((132, 6402, Some(series(66, 3)))));

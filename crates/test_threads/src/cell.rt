@@ -14,10 +14,11 @@ use std::test::Fail;
 use std::thread::Threads;
 use wh_cell::{CellAgreements, CellParts, HostCell, Locked, Owner};
 use wh_host::{CallStatus, CallValue, Host};
-use wh_host_model::{InstId, Tax, TurnEnd};
+use wh_host_model::TurnEnd;
 use wh_kernels::FnvHash;
 use wh_model::ValType;
 use wh_scheduler::{OwnedHost, RunConfig, run_calls};
+use wh_space_model::{InstId, Tax};
 use wh_swap::MemSwap;
 use wh_threads::{
     Message, ReceivedTurns, Shares, Worker, dispatch, open_channel, pass_for, receive_turns,
@@ -314,8 +315,8 @@ fn all_run<
     run_begun(rt, alloc, &mut begun)
 }
 
-// That a call has returned 7.
-fn expect_seven(rt: &impl Abort, status: Option<CallStatus>, what: &str) {
+/// Expects that a call has returned 7.
+pub fn expect_seven(rt: &impl Abort, status: Option<CallStatus>, what: &str) {
     let Some(CallStatus::Returned { value, .. }) = status else {
         assert!(rt; false, "{what}");
         return;
@@ -341,12 +342,12 @@ fn workers_run_all_calls(rt: HostRuntime) -> Result<(), Fail> {
     }
     assert!(rt; are_counted);
 
-    // Six pages of 7 share a frame where they were offered in time; else they lay on four frames.
+    // Six pages of 7 share a frame where they were offered in time; else they were on four frames.
     assert!(rt; evictions < 1000);
     Ok(())
 }
 
-// A new host with 64 frames and 256 slots, in its owner's hand.
+/// Creates a host with 64 frames and 256 slots, which its owner has alone.
 pub fn begin_owned<T: Ledger, C: Ledger, O: Ledger, E: Ledger, B: CellAgreements>(
     alloc: Global,
     cell_parts: CellParts<MemSwap>,
@@ -360,7 +361,7 @@ pub fn begin_owned<T: Ledger, C: Ledger, O: Ledger, E: Ledger, B: CellAgreements
     Ok(OwnedHost::new(alloc, host, cell_parts)?)
 }
 
-// Whether each of so many workers has run a turn.
+// Whether each of `workers` workers has run a turn.
 fn each_has_worked<T: Ledger, C: Ledger, O: Ledger, E: Ledger>(
     shares: &Shares<T, C, O, E>,
     workers: usize,
@@ -426,7 +427,7 @@ fn run_rounds<
     Ok(None)
 }
 
-// Eight instances of one module on a host in its owner's hand.
+// Eight instances of one module on a host that its owner has alone.
 fn eight<T: Ledger, C: Ledger, O: Ledger, E: Ledger, B: CellAgreements>(
     alloc: Global,
     owned: &mut OwnedHost<MemSwap, T, C, O, E, B>,

@@ -7,6 +7,8 @@ mod at_once;
 #[cfg(test)]
 mod cell;
 #[cfg(test)]
+mod in_hand;
+#[cfg(test)]
 mod overlap;
 #[cfg(test)]
 mod passes;

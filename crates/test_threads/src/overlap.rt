@@ -15,9 +15,9 @@ use std::thread;
 use std::thread::Threads;
 use wh_cell::{CellAgreements, CellParts, HostCell, Locked, Owner};
 use wh_host::{CallStatus, Cancel, Host};
-use wh_host_model::{InstId, SwapError, Tax};
 use wh_kernels::FnvHash;
 use wh_scheduler::{HereEnd, OwnedHost, RunConfig, run_calls};
+use wh_space_model::{InstId, SwapError, Tax};
 use wh_swap::{MemSwap, SwapDev};
 use wh_threads::Shares;
 
@@ -35,7 +35,7 @@ const LOOPS: [u8; 36] = [
     0x0c, 0x00, 0x0b, 0x0b,
 ];
 
-/// So often a thread looks in vain before it gives up.
+/// How often a thread looks without success before it gives up.
 const MOST_LOOKS: u32 = 1_000_000_000;
 
 // What a device and the thread of a test tell each other.
@@ -197,7 +197,7 @@ struct Seen {
     returned: u32,
 }
 
-// All calls of these instances, by two workers, in turns of so many charges. Whether they ran.
+// All calls of these instances, by two workers, in turns of `quantum` charges. Whether they ran.
 fn run_all<
     T: Ledger + Send + 'static,
     C: Ledger + Send + 'static,
@@ -299,7 +299,7 @@ fn look_on_new<
     look_beside(rt, alloc, gate, &cell, &mut owner, shares, quantum)
 }
 
-// A device behind this gate.
+// A device after this gate.
 fn gated(alloc: Global, gate: &Arc<Gate, Global>) -> Result<GatedSwap, AllocError>
     ensures { IfOk result (λ d. memory_held d.memory ≡ replicate 64 []) }
 {
@@ -309,7 +309,7 @@ fn gated(alloc: Global, gate: &Arc<Gate, Global>) -> Result<GatedSwap, AllocErro
     })
 }
 
-// What is seen at this gate of a device, while calls run in turns of so many charges.
+// What is seen at this gate of a device, while calls run in turns of `quantum` charges.
 fn see<R: AllocGlobal + Threads + Wait + Copy + Send + Sync + 'static>(
     rt: R,
     gate: &Arc<Gate, Global>,

@@ -1,4 +1,4 @@
-//! A pass over all pages of a host in its owner's hand: what it counts, and what it leaves on frames.
+//! A pass over all pages of a host that its owner has alone: what it counts, and what it leaves on frames.
 
 ghost use Rattle.std.specs.Prelude.{◌≡◌, [], replicate};
 ghost use Rattle.wh_swap.specs.MemorySwaps.{memory_held};
@@ -41,8 +41,8 @@ fn store_apart<
     Ok(())
 }
 
-// How many pages a pass has offered; by how many the book of offers grew, and by how many what threads have counted; and how
-// many frames there are, and how many of these are in use, behind it.
+// How many pages a pass has offered; by how many the book of offers grew, and by how many what threads have counted;
+// and how many frames there are, and how many of these are in use, after it.
 #[derive(Debug, Drop)]
 struct Passed {
     offered: Option<u64>,

@@ -2,7 +2,7 @@
 
 use std::alloc::Global;
 use wh_host::{Admit, Invoke, Load, ModuleId, Params};
-use wh_host_model::InstId;
+use wh_space_model::InstId;
 
 /// Asks for the module that these bytes spell.
 pub fn loading(alloc: Global, bytes: &[u8]) -> Load<'_> {
@@ -28,7 +28,7 @@ pub fn admission(alloc: Global, of: ModuleId) -> Admit {
     Admit { alloc, of, params }
 }
 
-/// Asks for a call of the function of this name, with so much fuel.
+/// Asks for a call of the function of this name, with `fuel` charges.
 pub fn invocation<'a>(
     alloc: Global,
     id: InstId,

@@ -1,4 +1,4 @@
-//! What a host in its owner's hand shows of an instance, beside what was asked of it.
+//! What a host that its owner has alone shows of an instance, against what was asked of it.
 
 ghost use Rattle.std.specs.Prelude.{◌≡◌, [], replicate};
 ghost use Rattle.wh_swap.specs.MemorySwaps.{memory_held};
@@ -14,10 +14,10 @@ use std::test::Fail;
 use std::thread::Threads;
 use wh_cell::{CellAgreements, CellParts};
 use wh_host::{CallStatus, Transcript};
-use wh_host_model::InstId;
 use wh_journal::CallEnd;
 use wh_kernels::FnvHash;
 use wh_scheduler::{OwnedHost, RunConfig};
+use wh_space_model::InstId;
 use wh_swap::MemSwap;
 use wh_transcript::{Ending, RequestedCall, Requests, TranscriptFault, check_transcript};
 
@@ -36,7 +36,7 @@ fn call(
     })
 }
 
-// What was asked of an instance: nothing of its start, and these calls behind it.
+// What was asked of an instance: nothing of its start, and these calls after it.
 fn requests(alloc: Global, behind: [RequestedCall; 2]) -> Result<Requests, Fail> {
     let start = RequestedCall {
         func: None,
@@ -56,7 +56,7 @@ fn requests(alloc: Global, behind: [RequestedCall; 2]) -> Result<Requests, Fail>
     })
 }
 
-// A load at 4096 that has returned this byte after so many charges.
+// A load at 4096 that has returned this byte after `charges` charges.
 fn load_ended(charges: u64, byte: u64) -> Option<Ending> {
     Some(Ending {
         pieces: 0,
@@ -70,8 +70,8 @@ fn found(requests: &Requests, transcript: &Transcript) -> Option<TranscriptFault
     check_transcript(requests, transcript).err()
 }
 
-// Four comparisons of the same transcript, whose load took so many charges: with what was asked, with another argument of
-// the load, with another result of it, and without its last call.
+// Four comparisons of the same transcript, whose load took `charges` charges: with what was asked, with another
+// argument of the load, with another result of it, and without its last call.
 fn compare(
     alloc: Global,
     transcript: &Transcript,
@@ -141,7 +141,7 @@ fn run_two<
 // turns, offers and evictions as the threads have counted.
 type Shown = ([Option<TranscriptFault>; 4], usize, bool);
 
-// What the host shows of the instance behind such a run.
+// What the host shows of the instance after such a run.
 fn look<T: Ledger, C: Ledger, O: Ledger, E: Ledger, B: CellAgreements>(
     alloc: Global,
     owned: &OwnedHost<MemSwap, T, C, O, E, B>,

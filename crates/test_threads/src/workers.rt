@@ -13,20 +13,20 @@ use std::sync::{Arc, Barrier, Condvar, Mutex, Wait};
 use std::test::Fail;
 use std::thread;
 use std::thread::Threads;
-use wh_host_model::InstId;
+use wh_space_model::InstId;
 use wh_threads::{
     AgreedValue, AgreementHalf, AgreementId, BlankAgreement, Books, Change, Help, HelpOutcome,
-    Helper, Message, ReceivedTurns, Shares, Slip, Tally, TurnReceiver, Turns, Worker, dispatch,
-    left_over, open_channel, pass_for, put_back, receive, receive_turns,
+    Helper, Message, MessagePass, ReceivedTurns, Shares, Tally, TurnReceiver, Turns, Worker,
+    dispatch, left_over, open_channel, pass_for, put_back, receive, receive_turns,
 };
-use wh_workers::{Crew, Jobs, Next, Supply, serve};
+use wh_workers::{Jobs, Next, Supply, WorkerSetup, serve};
 
 // An instance by its number.
 fn instance(number: u64) -> InstId {
     InstId { place: 0, number }
 }
 
-// These turns are counted, each of which took so many charges.
+/// Counts these turns, each of which took `taken` charges.
 pub fn count_all<T: Ledger, C: Ledger, O: Ledger, E: Ledger>(
     books: &mut Books<T, C, O, E>,
     worker: &mut Worker<T, C>,
@@ -44,11 +44,11 @@ pub fn count_all<T: Ledger, C: Ledger, O: Ledger, E: Ledger>(
     order.finish();
 }
 
-// The turns that come next are counted, each of which took so many charges.
+// The turns that come next are counted, each of which took `taken` charges.
 fn count_next<T: Ledger, C: Ledger, O: Ledger, E: Ledger, R: Wait>(
     rt: &R,
     receiver: &TurnReceiver,
-    slip: &mut Slip,
+    slip: &mut MessagePass,
     books: &mut Books<T, C, O, E>,
     worker: &mut Worker<T, C>,
     taken: u32,
@@ -141,7 +141,7 @@ fn counts_are_kept(rt: HostRuntime) -> Result<(), Fail> {
     Ok(())
 }
 
-// So many turns from this number on, of the instance of this number.
+/// Returns a series of `count` turns, from number `first` on, of the instance of that number.
 pub fn series(first: u64, count: u32) -> Message {
     Message::Turns {
         first,
@@ -187,7 +187,7 @@ impl AgreedValue for NumberMatter {
     ghost nothing = { 0 };
 }
 
-// So much is added.
+// How much is added.
 #[derive(Clone, Copy)]
 struct Added {
     amount: u32,
@@ -239,7 +239,8 @@ fn two_holders_agree(rt: HostRuntime) -> Result<(), Fail> {
     Ok(())
 }
 
-// Books under a lock, a place where two workers meet in each of the last turns, so many, and a bell for whoever helps.
+// Books under a lock, a place where two workers meet in each of the last turns, how many these are, and a condition
+// variable for whoever helps.
 struct Desk<T: Ledger, C: Ledger, O: Ledger, E: Ledger> {
     met: u64,
     books: Arc<Mutex<Books<T, C, O, E>>, Global>,
@@ -323,8 +324,8 @@ fn evicted<T: Ledger, C: Ledger, O: Ledger, E: Ledger, R: Wait>(
     books.evictions.low()
 }
 
-// So many series: the next one has so many turns, and each so many times as many as the one before. Where so many series are left
-// it goes on once a page was evicted, for which it wants a reclaimer.
+// `left` further series: the next one has `count` turns, and each `factor` times as many as the one before. Where
+// `pause` series are left it goes on once a page was evicted, for which it wants a reclaimer.
 struct Several<T: Ledger, C: Ledger, O: Ledger, E: Ledger> {
     left: u64,
     pause: u64,
@@ -401,14 +402,14 @@ impl<T: Ledger, C: Ledger, O: Ledger, E: Ledger> Help<E> for Evicts<T, C, O, E> 
     }
 }
 
-// What two workers meet at, and a bell.
+// What two workers meet at, and a condition variable.
 fn make_tools(alloc: Global) -> Result<(Arc<Barrier, Global>, Arc<Condvar, Global>), AllocError> {
     let both = Arc::new(alloc, Barrier::new(2))?;
     let bell = Arc::new(alloc, Condvar::new())?;
     Ok((both, bell))
 }
 
-// A desk with these books, where two workers meet in each of so many last turns.
+// A desk with these books, where two workers meet in each of the last `met` turns.
 fn make_desk<T: Ledger, C: Ledger, O: Ledger, E: Ledger>(
     alloc: Global,
     books: Books<T, C, O, E>,
@@ -457,9 +458,9 @@ fn settle<T: Ledger, C: Ledger, O: Ledger, E: Ledger, R: Wait>(
 // How many turns there were, what the two workers counted, and how many offers and evictions there were.
 type Ran = (u64, Tally, Tally, (u64, u64));
 
-// So many series, the first of one turn, and each of so many times as many turns as the one before. They are run by two workers,
-// who meet in each of the last ones, so many; beside these a scanner that offers three pages at most, and a reclaimer that evicts
-// one, for which it is waited where so many series are left.
+// `left` series, the first of one turn, and each of `factor` times as many turns as the one before. They are run by two
+// workers, who meet in each of the last ones; meanwhile a scanner offers three pages at most, and a reclaimer evicts
+// one, for which it is waited where `pause` series are left.
 fn serve_at<
     T: Ledger + Send + 'static,
     C: Ledger + Send + 'static,
@@ -483,7 +484,7 @@ fn serve_at<
         factor,
         books: Arc::try_clone(&desk.books)?,
     };
-    let crew = Crew {
+    let crew = WorkerSetup {
         workers: 2,
         quantum: 5,
     };

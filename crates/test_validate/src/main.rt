@@ -1,8 +1,8 @@
 //! Validates and links modules that come as text on standard input, and prints how each comes out.
 //!
-//! A line is `NAME HEX`. What is printed is `NAME ok`, or the first fault: of the validator as `NAME V1 func 0 instr 4` or,
-//! where it lies in no function, as `NAME V6 module`; of the linker as `NAME L1 import 0`; or `NAME undecoded`, where the
-//! bytes are no module.
+//! A line is `NAME HEX`. What is printed is `NAME ok`, or the first fault: of the validator as `NAME V1 func 0 instr 4`
+//! or, where it is in no function, as `NAME V6 module`; of the linker as `NAME L1 import 0`; or `NAME undecoded`, where
+//! the bytes are no module.
 #![tactic(auto)]
 
 use anyhow::{Result, bail};

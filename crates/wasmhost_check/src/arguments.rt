@@ -15,6 +15,9 @@ pub enum Kind {
     Script,
 }
 
+/// The version of the program, and of the host that it tells of.
+const VERSION: &str = "0.1.0";
+
 static KINDS: [&str; 3] = ["module", "settings", "script"];
 
 /// What a command line asks for.
@@ -54,6 +57,7 @@ fn file_word<'a>(alloc: Global) -> Arg<'a> {
 /// What the program accepts.
 fn accepted<'a>(alloc: Global) -> Result<Command<'a>, AllocError> {
     Command::new(alloc, "wasmhost_check")
+        .version(VERSION)
         .about("Tells why wasmhost refuses a module, settings or lines of a script")
         .arg(json_option(alloc))?
         .arg(kind_word(alloc))?
@@ -79,10 +83,11 @@ fn arguments_of<'a>(matches: &ArgMatches<'a>) -> CheckArguments<'a> {
     }
 }
 
-/// What these words ask for. The first one is the program's name.
+/// Parses a command line, the first word of which is the program's name.
 ///
 /// # Errors
-/// Words that the program doesn't accept, `--help` among them, and out of memory to read them.
+/// Words that the program doesn't accept; a failed allocation; and `--help` and `--version`, whose text goes to
+/// standard output.
 pub fn read_args<'a>(alloc: Global, words: &'a [String]) -> Result<CheckArguments<'a>, Error> {
     let matches = matches_of(alloc, words)?;
     Ok(arguments_of(&matches))

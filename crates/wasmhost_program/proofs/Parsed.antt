@@ -161,7 +161,6 @@ module _ (words : List Text) (c : Command) (m : ArgMatches) (is : app_of c ≡ c
       where
         go : (o : Option MatchedArg) → matched_of found id ≡ o → first_value found id ≡ Some text → IsUnsignedIn 1 64 text
         go None e h =
-            let bad : None ≡ Some text = rw e at h in
             cc
         go (Some x) e h = first_is x.vals.items text (in_entry x e).1 (rw e at h)
 

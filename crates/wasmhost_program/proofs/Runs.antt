@@ -2,8 +2,8 @@
 use Rattle.std.proofs.Common.{◌≡◌, ◌≢◌, ◌∙◌, ℕ, Bool, true, false, ap, List, [], Option, Some, None, is_some, Result, Ok, Err, option_map, refl, subst, subst₂, sym, ◌++◌, map, zero, suc, MatchOption}
 use Rattle.std.specs.Prelude.{⊤}
 use Rattle.clap.specs.Words.{Text}
-use Rattle.wh_host_model.specs.declared.plain.SwapError.{SwapError}
-use Rattle.wh_script_model.specs.Answers.{Files}
+use Rattle.wh_space_model.specs.declared.plain.SwapError.{SwapError}
+use Rattle.wh_script_model.specs.{Files}
 use Rattle.wh_script_model.specs.Settings.{Settings}
 use Rattle.wh_script.specs.declared.fault.ScriptFault.TheVariants.{Memory, Output}
 use Rattle.wh_script.specs.declared.session.SessionConfig.{SessionConfig}
@@ -20,7 +20,7 @@ use Rattle.wh_script.proofs.Runs.{begins_nothing}
 use Rattle.wasmhost_program.specs.Accepted.{MeansArguments, line_faults}
 use Rattle.wasmhost_program.specs.declared.arguments.Arguments.{Arguments}
 use Rattle.wasmhost_program.specs.ProgramOutput.{HasServedSo, IsFaultOfDevice, IsFaultOfSettings, KnownFiles, RunsAsked, RunsScript, RunsWith, EndsSo, EndsWith, is_accepted, has_run, has_no_swap, has_no_settings, wants_memory, HoldsOver, RunClaim, has_settings, is_unread, outcome_of, runs_amid, ReadsSettings, RunsAsWords, RunsSo, RunsSoBy, StopsForOutput}
-use Rattle.wh_host_model.specs.SwapFaults.{swap_number}
+use Rattle.wh_space_model.specs.{swap_number}
 use Rattle.wh_script.specs.declared.fault.ScriptFault.{ScriptFault}
 use Rattle.wh_script.specs.Runs.{Runs}
 use Rattle.wh_script.specs.FailingRuns.{ScriptRunsAmid}
@@ -57,13 +57,6 @@ pub holds_back : {P : Type 0} (first : List SwapError) (o : Option (PageSwap P))
 holds_back first None Q R e so holds = so [] holds
 holds_back first (Some device) Q R e so holds = λ right.
     let h = holds right in (h.0, subst (λ xs. page_faults device ≡ h.0 ++ xs) e h.1, so (map swap_number h.0) h.2)
-
--- whatever device
-pub matched_map : {D : Type 0} (honest : D → Type 0) (faults : D → List SwapError) (device : D) (o : Option D) (Q R : List ℕ → Type 0)
-    → MatchOption o (Q []) (λ after. HoldsAmid (honest after) (faults device) (faults after) Q) → ((met : List ℕ) → Q met → R met)
-    → MatchOption o (R []) (λ after. HoldsAmid (honest after) (faults device) (faults after) R)
-matched_map honest faults device None Q R holds so = so [] holds
-matched_map honest faults device (Some after) Q R holds so = λ right. let h = holds right in (h.0, h.1, so (map swap_number h.0) h.2)
 
 -- the run of a file, from that of its bytes
 pub matched_file : {D : Type 0} (honest : D → Type 0) (faults : D → List SwapError) (device : D) (o : Option D)

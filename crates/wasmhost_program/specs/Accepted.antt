@@ -1,7 +1,8 @@
 -- Which words of a command line the program accepts, and what they ask for.
-use Rattle.std.specs.Prelude.{◌≡◌, ◌≢◌, ℕ, List, Option, Some, None, codes, option_map, ⊤}
+use Rattle.std.specs.Prelude.{◌≡◌, ◌≢◌, ℕ, true, List, Option, Some, None, codes, option_map, ⊤}
 use Rattle.std.specs.Str.Parse.{digits_value, without_leading_plus}
 use Rattle.clap.specs.Words.{App, IsAmong, IsUnsignedIn, Kinds, Rule, Text, fault_of, first_of, kind_of, matches_of, new_app, new_rule, with_rule}
+use Rattle.clap.specs.Simple.{on_top}
 use Rattle.clap.specs.declared.builder.value_parser.ValueParser.TheVariants.{Unsigned}
 use Rattle.clap.specs.declared.error.Error.{Error}
 use Rattle.clap.specs.declared.error.kind.ErrorKind.TheVariants.{OutOfMemory}
@@ -25,9 +26,14 @@ workers_rule = record (new_rule (codes "workers")) {
 abbrev pub script_rule : Rule
 script_rule = new_rule (codes "SCRIPT")
 
--- each of them once at most, and `--help`
+-- a command that tells its version
+abbrev pub with_version : App → App
+with_version app = on_top (λ shape. record shape { has_version = true }) app
+
+-- each of them once at most; `--help`, and `--version`
 abbrev pub command_line : App
-command_line = with_rule (with_rule (with_rule (new_app (codes "wasmhost")) settings_rule) workers_rule) script_rule
+command_line =
+    with_rule (with_rule (with_rule (with_version (new_app (codes "wasmhost"))) settings_rule) workers_rule) script_rule
 
 -- what stands in these words for an option, or for `SCRIPT`; the first of the words is the program's name
 abbrev pub given_in : List Text → (option : Text) → Option Text

@@ -4,15 +4,14 @@ use Rattle.clap.specs.Words.{Kinds, Text}
 use Rattle.clap.specs.declared.error.kind.ErrorKind.TheVariants.{ArgumentConflict, UnknownArgument, ValueValidation}
 use Rattle.wasmhost_program.specs.Accepted.{given_in, line_faults}
 
--- the words behind the program's name are accepted, and this stands in them for the settings, the number of workers and
--- the script
+-- the words after the program's name are accepted, and this stands in them for the settings, the number of workers and the script
 pub record AreReadAs (words : List Text) (settings workers script : Option Text) : Type 0 where
   pub accepted : line_faults (codes "wasmhost" ∷ words) ≡ []
   pub settings_are : given_in (codes "wasmhost" ∷ words) (codes "settings") ≡ settings
   pub workers_are : given_in (codes "wasmhost" ∷ words) (codes "workers") ≡ workers
   pub script_is : given_in (codes "wasmhost" ∷ words) (codes "SCRIPT") ≡ script
 
--- the words behind the program's name aren't
+-- the words after the program's name aren't
 abbrev pub AreNoLine : List Text → Kinds → Type 0
 AreNoLine words kinds = line_faults (codes "wasmhost" ∷ words) ≡ kinds
 

@@ -112,8 +112,8 @@ EndsWith claim known files words input left before after (suc (suc n)) =
 
 -- ---- how calls are run
 
--- A script was begun: its calls were run as the settings say, by so many workers, and a device over a file has come back
--- where the settings name one, and none else. Or it wasn't begun, and the program hasn't ended well.
+-- A script was begun: its calls were run as the settings say, by `workers` workers, and a device over a file has come back where
+-- the settings name one, and none else. Or it wasn't begun, and the program hasn't ended well.
 abbrev pub RunsSo : Settings → (workers : ℕ) → Result Unit ProgramFault → (over_file : Bool) → Option SessionConfig → Type 0
 RunsSo settings workers ended over_file None = ended ≢ Ok tt
 RunsSo settings workers ended over_file (Some config) =

@@ -1,8 +1,8 @@
 //! The command line.
 
 ghost use Rattle.std.specs.Prelude.{◌≡◌, IfErr, IfOk, List, OnOk, [], codes, false, map, string_bytes};
-ghost use Rattle.clap.specs.Words.{FailsBy, Text, app_of, found_of, one_text, rule_of};
-ghost use Rattle.wasmhost_program.specs.Accepted.{MeansArguments, CountsWorkers, IsRefusedBy, RefusesBy, command_line, line_faults, script_rule, settings_rule, workers_rule};
+ghost use Rattle.clap.specs.Words.{FailsBy, Text, app_of, found_of, new_app, one_text, rule_of};
+ghost use Rattle.wasmhost_program.specs.Accepted.{MeansArguments, CountsWorkers, IsRefusedBy, RefusesBy, command_line, line_faults, script_rule, settings_rule, with_version, workers_rule};
 ghost use Rattle.wasmhost_program.specs.ParsedArguments.{FindsIn};
 
 use clap::builder::ValueParser;
@@ -11,12 +11,15 @@ use clap::{Arg, ArgMatches, Command, Error};
 use std::alloc::{AllocError, Global};
 use wh_settings::Workers;
 
+/// The version of the program.
+const VERSION: &str = "0.1.0";
+
 /// Why a command line isn't accepted.
 #[derive(Debug, Drop)]
 pub enum ArgumentsError {
     /// There was no memory to read it.
     Memory,
-    /// It isn't one of this program, or asks for help: the parser's text.
+    /// It isn't one of this program, or asks for help or the version: the parser's text.
     Line(Error),
 }
 
@@ -82,11 +85,18 @@ fn script_word<'a>(alloc: Global) -> Arg<'a>
     Arg::new(alloc, "SCRIPT").help("A file of requests; standard input without it")
 }
 
+/// A command of this name that tells its version.
+fn named<'a>(alloc: Global, name: &'a str) -> Command<'a>
+    ensures { app_of result ≡ with_version (new_app name.entry.now) }
+{
+    Command::new(alloc, name).version(VERSION)
+}
+
 /// What the program accepts.
 fn accepted<'a>(alloc: Global) -> Result<Command<'a>, AllocError>
     ensures { IfOk result (λ command. app_of command ≡ command_line) }
 {
-    Command::new(alloc, "wasmhost")
+    named(alloc, "wasmhost")
         .about("Runs WebAssembly modules as a script of requests asks for it")
         .arg(settings_option(alloc))?
         .arg(workers_option(alloc))?
@@ -112,10 +122,11 @@ fn arguments_of<'a>(matches: &ArgMatches<'a>) -> Arguments<'a>
     }
 }
 
-/// What these words ask for. The first one is the program's name.
+/// Parses a command line, the first word of which is the program's name.
 ///
 /// # Errors
-/// `Line` for words that the program doesn't accept, `--help` among them; `Memory` where there is none to read them.
+/// `Line` for words that the program doesn't accept, `--help` and `--version` among them; `Memory` if an allocation
+/// fails.
 pub fn read_args<'a>(alloc: Global, words: &'a [String]) -> Result<Arguments<'a>, ArgumentsError>
     ensures accepts { OnOk result (line_faults (map string_bytes words.entry.now) ≡ []) }
     ensures asks { IfOk result (MeansArguments (map string_bytes words.entry.now)) }

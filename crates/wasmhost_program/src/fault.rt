@@ -20,7 +20,7 @@ pub enum ProgramFault {
     Script(ScriptFault),
 }
 
-/// Returns what becomes of the program where this became of its script.
+/// Returns the outcome of the program whose script had this one.
 pub fn outcome_of(script: Result<(), ScriptFault>) -> Result<(), ProgramFault>
     ensures { result ≡ outcome_of script }
 {

@@ -4,8 +4,9 @@ ghost use Rattle.std.specs.Io.KnownBytes.{Keeps};
 ghost use Rattle.std.specs.Prelude.{IfOk, IfSome, List, None, Option, option_map, take, true, unwrap_or, ◌≡◌, ℕ};
 
 use std::alloc::Global;
+use std::fs;
 use std::fs::File;
-use std::io::{ErrorKind, Read, Result as IoResult};
+use std::io::{Error, ErrorKind, Read, Result as IoResult};
 use std::rt::Files;
 use wh_script::{FileError, Source};
 
@@ -64,11 +65,28 @@ impl<F: Files> Folder for SystemFiles<'_, F> {
     }
 }
 
+/// Reads the regular file at this path, and of a longer one its first `most` bytes alone. What else may stand at a path isn't
+/// opened: a pipe or a device may have no end, keep whoever reads it waiting, or give its bytes once.
+///
+/// # Errors
+/// Where there is no regular file, or it can't be opened or read, and `OutOfMemory` where there is no room for its bytes.
+fn read_regular<F: Files>(
+    alloc: Global,
+    system: &SystemFiles<'_, F>,
+    path: &str,
+    most: u64,
+) -> IoResult<Vec<u8>> {
+    if !fs::metadata(system.rt, path)?.is_file() {
+        return Err(Error::from(ErrorKind::InvalidInput));
+    }
+    read_at_most(alloc, system, path, most)
+}
+
 impl<F: Files> Source for SystemFiles<'_, F> {
     ghost files = { λ system path bytes. true };
 
     fn read(&self, alloc: Global, path: &str) -> Result<Vec<u8>, FileError> {
-        match read_at_most(alloc, self, path, MOST_MODULE_BYTES) {
+        match read_regular(alloc, self, path, MOST_MODULE_BYTES) {
             Ok(bytes) => Ok(bytes),
             Err(error) if error.kind() == ErrorKind::OutOfMemory => Err(FileError::Memory),
             Err(_) => Err(FileError::Unreadable),

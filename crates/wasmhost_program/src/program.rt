@@ -11,10 +11,11 @@ ghost use Rattle.wh_swap.specs.Written.{HasReadRight, page_faults, page_held};
 ghost use Rattle.wasmhost_program.specs.ProgramOutput.{EndsWith, HasServedSo, HoldsOver, IsFaultOfDevice, IsFaultOfSettings, ReadsSettings, RunsAsWords, RunsAsked, RunsScript, RunsSo, RunsSoBy, RunsWith, StopsForOutput, runs_amid};
 
 use crate::arguments::{Arguments, ArgumentsError, read_args};
-use crate::errors::Errors;
+use crate::errors::{Errors, keep_failure, keep_reason, note};
 use crate::fault::{ProgramFault, outcome_of};
 use crate::files::{Folder, LateFile, LateInput, SystemFiles, read_at_most};
 use crate::swap_file::{Lockable, SwapFile, open_swap_file};
+use clap::Error;
 use std::alloc::Global;
 use std::fs::OpenFile;
 use std::io::{ErrorKind, Read, Seek, Write};
@@ -37,6 +38,9 @@ pub const STOPPED: u8 = 1;
 /// The status where the command line isn't accepted.
 pub const NOT_ACCEPTED: u8 = 2;
 
+/// What the program stops for where it has no memory.
+const MEMORY: ProgramFault = ProgramFault::Script(ScriptFault::Memory);
+
 /// How many bytes a file of settings may have.
 const MOST_SETTINGS_BYTES: u32 = 65536;
 
@@ -49,16 +53,27 @@ fn words(rt: &(impl Env + AllocGlobal)) -> io::Result<Vec<String>> {
 ///
 /// # Errors
 /// `Settings` where it can't be opened or read, or has too many; `Memory` where there is none for them.
-fn settings_bytes<S: Folder>(alloc: Global, folder: &S, path: &str) -> Result<Vec<u8>, ProgramFault>
+fn settings_bytes<S: Folder>(
+    alloc: Global,
+    folder: &S,
+    path: &str,
+    reason: &mut String,
+) -> Result<Vec<u8>, ProgramFault>
     ensures bytes { IfOk result (λ bytes. Keeps (S.known folder.now path.now) (Some bytes.items)) }
     ensures err { IfErr result IsFaultOfSettings }
 {
-    match read_at_most(alloc, folder, path, u64::from(MOST_SETTINGS_BYTES) + 1) {
+    let read = read_at_most(alloc, folder, path, u64::from(MOST_SETTINGS_BYTES) + 1);
+    note(&read, path, reason);
+    match read {
         Ok(bytes) if bytes.len() <= MOST_SETTINGS_BYTES as usize => Ok(bytes),
         Err(error) if error.kind() == ErrorKind::OutOfMemory => Err(ProgramFault::Script(
             ScriptFault::Memory,
         )),
-        Ok(_) | Err(_) => Err(ProgramFault::Settings),
+        Ok(_) => {
+            keep_reason(reason, path, "more than 65536 bytes");
+            Err(ProgramFault::Settings)
+        }
+        Err(_) => Err(ProgramFault::Settings),
     }
 }
 
@@ -70,6 +85,7 @@ fn settings_of_file<S: Folder>(
     alloc: Global,
     folder: &S,
     path: Option<&str>,
+    reason: &mut String,
 ) -> Result<Settings, ProgramFault>
     ensures settings { IfOk result (λ settings. ReadsSettings (S.known folder.now)
         (option_map (λ p. p.now) path.entry) (settings_of settings)) }
@@ -79,11 +95,18 @@ fn settings_of_file<S: Folder>(
     let Some(path) = path else {
         return Ok(Settings::default());
     };
-    let bytes = settings_bytes(alloc, folder, path)?;
+    let bytes = settings_bytes(alloc, folder, path, reason)?;
     match read_settings(alloc, &bytes) {
         Ok(settings) => Ok(settings),
         Err(SettingsError::Memory) => Err(ProgramFault::Script(ScriptFault::Memory)),
-        Err(SettingsError::Invalid) => Err(ProgramFault::Settings),
+        Err(SettingsError::Invalid) => {
+            keep_reason(
+                reason,
+                path,
+                "no settings, as `wasmhost_check settings` explains",
+            );
+            Err(ProgramFault::Settings)
+        }
     }
 }
 
@@ -103,12 +126,15 @@ fn device_over<F: OpenFile + Read + Write + Seek + Drop>(
     alloc: Global,
     own: &SwapFile<'_, F>,
     slots: u32,
+    reason: &mut String,
 ) -> Result<StreamSwap<F>, ProgramFault>
     ensures held { IfOk result (λ device. page_held device ≡ replicate slots []) }
     ensures faults { IfOk result (λ device. page_faults device ≡ []) }
     ensures err { IfErr result IsFaultOfDevice }
 {
-    let Ok(file) = own.handle() else {
+    let handle = own.handle();
+    note(&handle, own.path(), reason);
+    let Ok(file) = handle else {
         return Err(ProgramFault::Swap);
     };
     let Ok(device) = StreamSwap::new(alloc, file, slots) else {
@@ -117,8 +143,8 @@ fn device_over<F: OpenFile + Read + Write + Seek + Drop>(
     Ok(device)
 }
 
-/// Runs a script with these settings and so many workers, from the input where it has no path. Pages are swapped to the
-/// device, which comes back.
+/// Runs a script with these settings and this number of workers, from the input where it has no path. Pages are swapped
+/// to the device, which comes back.
 fn run_over<
     E: AllocGlobal + Threads + Wait + Copy + Send + Sync + 'static,
     S: Folder + Source,
@@ -133,6 +159,7 @@ fn run_over<
     device: D,
     input: &mut WatchedRead<R>,
     output: &mut WatchedWrite<W>,
+    reason: &mut String,
 ) -> (Result<(), ScriptFault>, Option<D>, Option<SessionConfig>)
     requires { IsEmptyDevice settings.now.slots (D.held device) }
     ensures amid { let holds = λ (met : List ℕ). RunsScript (runs_amid met) (S.known folder.now) (S.files folder.now)
@@ -154,9 +181,15 @@ fn run_over<
         path,
         file: None,
     });
-    run_script(
+    let ended = run_script(
         *rt, alloc, settings, workers, folder, device, &mut file, output,
-    )
+    );
+    if let Some(error) = file.failure()
+        && ended.0 == Err(ScriptFault::Script)
+    {
+        keep_reason(reason, path, error);
+    }
+    ended
 }
 
 /// Runs a script with these settings, in which no file for swap is named. Pages are swapped to memory.
@@ -172,6 +205,7 @@ fn run_in_memory<
     given: Arguments<'_>,
     input: &mut WatchedRead<R>,
     output: &mut WatchedWrite<W>,
+    reason: &mut String,
 ) -> (Result<(), ScriptFault>, Option<SessionConfig>)
     ensures amid { RunsScript (runs_amid []) (S.known folder.now) (S.files folder.now)
         (settings_of settings.now) (option_map (λ p. p.now) given.entry.script)
@@ -184,7 +218,7 @@ fn run_in_memory<
     let Ok(device) = MemSwap::new(rt.alloc(), settings.slots) else {
         return (Err(ScriptFault::Memory), None);
     };
-    let (outcome, _, config) = run_over(rt, folder, settings, given, device, input, output);
+    let (outcome, _, config) = run_over(rt, folder, settings, given, device, input, output, reason);
     (outcome, config)
 }
 
@@ -203,6 +237,7 @@ fn run_on_file<
     own: &SwapFile<'_, E::File>,
     input: &mut WatchedRead<R>,
     output: &mut WatchedWrite<W>,
+    reason: &mut String,
 ) -> (
     Result<(), ProgramFault>,
     Option<StreamSwap<E::File>>,
@@ -219,10 +254,10 @@ where
         (is_some result.1) result.2 }
     ensures output { StopsForOutput output.new.has_failed result.0 }
 {
-    match device_over(rt.alloc(), own, settings.slots) {
+    match device_over(rt.alloc(), own, settings.slots, reason) {
         Ok(device) => {
             let (outcome, device, config) = run_over(
-                rt, folder, settings, given, device, input, output,
+                rt, folder, settings, given, device, input, output, reason,
             );
             (outcome_of(outcome), device, config)
         }
@@ -244,6 +279,7 @@ fn run_with<
     given: Arguments<'_>,
     input: &mut WatchedRead<R>,
     output: &mut WatchedWrite<W>,
+    reason: &mut String,
 ) -> (
     Result<(), ProgramFault>,
     Option<StreamSwap<E::File>>,
@@ -260,13 +296,15 @@ where
     ensures output { StopsForOutput output.new.has_failed result.0 }
 {
     let Some(path) = &settings.swap else {
-        let (outcome, config) = run_in_memory(rt, folder, settings, given, input, output);
+        let (outcome, config) = run_in_memory(rt, folder, settings, given, input, output, reason);
         return (outcome_of(outcome), None, config);
     };
-    let Ok(own) = open_swap_file(rt, path) else {
+    let opened = open_swap_file(rt, path);
+    note(&opened, path, reason);
+    let Ok(own) = opened else {
         return (Err(ProgramFault::Swap), None, None);
     };
-    let ended = run_on_file(rt, folder, settings, given, &own, input, output);
+    let ended = run_on_file(rt, folder, settings, given, &own, input, output, reason);
     // That nothing could be taken out of the file has nobody to be told: what was answered stays so.
     let _ = own.empty();
     ended
@@ -285,6 +323,7 @@ fn run_given<
     given: Arguments<'_>,
     input: &mut WatchedRead<R>,
     output: &mut WatchedWrite<W>,
+    reason: &mut String,
 ) -> (
     Result<(), ProgramFault>,
     Option<StreamSwap<E::File>>,
@@ -300,18 +339,32 @@ where
         given.entry.workers.number result.0 (is_some result.1) result.2 }
     ensures output { StopsForOutput output.new.has_failed result.0 }
 {
-    match settings_of_file(rt.alloc(), folder, given.settings) {
-        Ok(settings) => run_with(rt, folder, &settings, given, input, output),
+    match settings_of_file(rt.alloc(), folder, given.settings, reason) {
+        Ok(settings) => run_with(rt, folder, &settings, given, input, output, reason),
         Err(fault) => (Err(fault), None, None),
     }
 }
 
-/// Says why the program stops. A failed write of that has nobody to be told.
-fn stop(errors: &mut impl Write, fault: ProgramFault) -> u8
+/// Says why the program stops: the kind of fault, and after it what is kept of it, which begins with a colon, or
+/// nothing. A failed write of that has nobody to be told.
+fn stop(errors: &mut impl Write, fault: ProgramFault, reason: &str) -> u8
     ensures { result ≡ 1 }
 {
-    let _ = writeln!(errors, "wasmhost: {fault}");
+    let _ = writeln!(errors, "wasmhost: {fault}{reason}");
     STOPPED
+}
+
+/// Says where threads were refused: the calling thread has done what they should have. A failed write of that has nobody to be
+/// told.
+fn warn(errors: &mut impl Write, config: Option<SessionConfig>) {
+    if let Some(config) = config
+        && config.lacked_threads()
+    {
+        let _ = writeln!(
+            errors,
+            "wasmhost: threads: refused, so that calls ran in one"
+        );
+    }
 }
 
 /// Answers the script that the words of a command line name, the first of them being the program's. The script comes from
@@ -338,7 +391,8 @@ where
     ensures ends { HasServedSo result.swap → EndsWith Runs (S.known folder.now) (S.files folder.now)
         (map string_bytes words.now) (R.remaining input.old.inner) (R.remaining input.new.inner)
         (W.contents output.old.inner) (W.contents output.new.inner) result.status }
-    // Where calls of it did fail, so it is still, but that a call may stand for such a fault until it is tried again.
+    // Where calls of it did fail, so it is still, except that a call may be blocked on such a fault until it is
+    // retried.
     ensures amid { HoldsOver result.swap (λ met. EndsWith (runs_amid met) (S.known folder.now)
         (S.files folder.now) (map string_bytes words.now) (R.remaining input.old.inner)
         (R.remaining input.new.inner) (W.contents output.old.inner) (W.contents output.new.inner) result.status) }
@@ -347,8 +401,9 @@ where
     ensures config { RunsAsWords (S.known folder.now) (map string_bytes words.now) result.status
         (is_some result.swap) result.config }
 {
+    let mut reason = String::new(rt.alloc());
     let (outcome, swap, config) = match read_args(rt.alloc(), words) {
-        Ok(given) => run_given(rt, folder, given, input, output),
+        Ok(given) => run_given(rt, folder, given, input, output, &mut reason),
         Err(ArgumentsError::Memory) => (Err(ProgramFault::Script(ScriptFault::Memory)), None, None),
         Err(ArgumentsError::Line(error)) => {
             let _ = write!(errors, "{error}");
@@ -361,8 +416,12 @@ where
     };
     let status = match outcome {
         Ok(()) => ANSWERED,
-        Err(fault) => stop(errors, fault),
+        Err(fault) => {
+            keep_failure(&mut reason, fault, input.failure(), output.failure());
+            stop(errors, fault, &reason)
+        }
     };
+    warn(errors, config);
     ProgramOutcome {
         status,
         swap,
@@ -370,7 +429,32 @@ where
     }
 }
 
-/// Runs the program, with the words, the streams and the files of this process.
+/// Writes help or the version to standard output, and gives the status.
+fn show<E: Print + AllocGlobal>(rt: &E, errors: &mut impl Write, shown: &Error) -> u8 {
+    let Err(error) = print!(rt; "{shown}") else {
+        return ANSWERED;
+    };
+    let mut reason = String::new(rt.alloc());
+    keep_reason(&mut reason, "standard output", error);
+    stop(errors, ProgramFault::Script(ScriptFault::Output), &reason)
+}
+
+/// Writes help or the version to standard output where these words ask for it, and gives the status then; and where there is no
+/// memory to read them.
+fn show_asked<E: Print + AllocGlobal>(
+    rt: &E,
+    errors: &mut impl Write,
+    words: &[String],
+) -> Option<u8> {
+    match read_args(rt.alloc(), words) {
+        Err(ArgumentsError::Line(shown)) if !shown.use_stderr() => Some(show(rt, errors, &shown)),
+        Err(ArgumentsError::Memory) => Some(stop(errors, MEMORY, "")),
+        _ => None,
+    }
+}
+
+/// Runs the program, with the words, the streams and the files of this process. Where the words ask for help or the version,
+/// that is written to standard output, and nothing else is done.
 pub fn run<
     E: Env
         + Files
@@ -392,13 +476,16 @@ where
     let words = match words(&rt) {
         Ok(words) => words,
         Err(error) if error.kind() == ErrorKind::OutOfMemory => {
-            return ExitCode::from(stop(&mut errors, ProgramFault::Script(ScriptFault::Memory)));
+            return ExitCode::from(stop(&mut errors, MEMORY, ""));
         }
         Err(error) => {
-            let _ = writeln!(errors, "error: {error}");
+            let _ = writeln!(errors, "error: the command line: {error}");
             return ExitCode::from(NOT_ACCEPTED);
         }
     };
+    if let Some(status) = show_asked(&rt, &mut errors, &words) {
+        return ExitCode::from(status);
+    }
     let folder = SystemFiles { rt: &rt };
     let mut input = WatchedRead::new(LateInput {
         rt: &rt,

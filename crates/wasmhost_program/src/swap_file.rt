@@ -34,10 +34,17 @@ pub struct SwapFile<'a, F> {
 }
 
 impl<'a, F: OpenFile> SwapFile<'a, F> {
-    /// Another handle of the file.
+    /// Returns the path under which it was opened.
+    pub fn path(&self) -> &'a str
+        ensures { result.now ≡ self.now.path.now }
+    {
+        self.path
+    }
+
+    /// Returns another handle of the file.
     ///
     /// # Errors
-    /// Where the system gives none.
+    /// That of the system, if it gives none.
     pub fn handle(&self) -> IoResult<F> {
         self.file.try_clone()
     }
@@ -54,10 +61,10 @@ impl<'a, F: OpenFile> SwapFile<'a, F> {
     }
 }
 
-/// Opens the file at this path for swap, and empties it. One that isn't there is made, for its owner alone.
+/// Opens the file at this path for swap, and empties it. One that isn't there is created, for its owner alone.
 ///
 /// # Errors
-/// Where it can't be opened or emptied, and where another host has it.
+/// That of the system, if it can't be opened or emptied; `WouldBlock` if another program has it locked.
 pub fn open_swap_file<'a, E: Files>(rt: &E, path: &'a str) -> IoResult<SwapFile<'a, E::File>>
 where
     E::File: Lockable,
@@ -72,7 +79,7 @@ where
     let kind = file.metadata()?.file_type();
     let is_regular = kind.is_file();
     if (is_regular || kind.is_block_device()) && !file.lock_alone() {
-        return Err(Error::from(ErrorKind::WouldBlock));
+        return Err(Error::new(ErrorKind::WouldBlock, "another program has it locked"));
     }
     let own = SwapFile {
         file,

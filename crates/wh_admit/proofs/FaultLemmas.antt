@@ -1,10 +1,10 @@
 -- Faults of an admission by what it is given alone, one after the other.
 use Rattle.std.proofs.Common.{◌≡◌, ◌∙◌, ℕ, ◌+◌, ◌-◌, ◌<◌, ◌≤◌, ◌⊎◌, ⊎_elim, [], ◌∷◌, get_or, Option, Some, None, refl, sym, ap, subst, arith}
 use Rattle.std.proofs.lemmas.Bool.{cases_lt}
-use Rattle.wh_model.specs.Format.Syntax.{Module}
-use Rattle.wh_model.specs.Execution.Instance.{Beginning, IsInitial, memory_min, segment_bounds, begins}
+use Rattle.wh_model.specs.Format.{Module}
+use Rattle.wh_model.specs.Execution.{Beginning, IsInitial, memory_min, segment_bounds, begins}
 use Rattle.wh_model.proofs.Instance.{one_beginning}
-use Rattle.wh_host_model.specs.Owners.{Params, given_of, AdmitFault, no_module, shares, min_max, frames, swap, instances, memory, segments, admit_rank, most_instances}
+use Rattle.wh_host_model.specs.{Params, given_of, AdmitFault, no_module, shares, min_max, frames, swap, instances, memory, segments, admit_rank, most_instances}
 use Rattle.wh_admit.specs.declared.room.Room.{Room}
 use Rattle.wh_admit.specs.declared.error.AdmitError.{AdmitError}
 use Rattle.wh_admit.specs.declared.error.AdmitError.TheVariants.{NoModule, Shares, MinMax, Frames, Swap, Instances, MemoryMin, SegmentBounds, Memory}
@@ -114,9 +114,8 @@ module _ (m : Module) (room : Room) (p : Params) where
 
   past_numbers : HasNumbers p room → NoneBelow (Some m) room p 7
   past_numbers h =
-      let few = h.few in
       one_more (Some m) room p instances 6 refl (past_slots h.shares h.range h.frames h.slots)
-      (λ met. absurd (omega (arith, few, met)))
+      (λ met. absurd (omega (arith, h.few, met)))
 
   pub refuses_numbers : (e : AdmitError) → RefusesNumbers p room e → RefusesHere (Some m) room p (fault_of e)
   refuses_numbers NoModule is = absurd is

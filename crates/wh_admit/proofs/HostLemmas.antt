@@ -1,11 +1,10 @@
 -- From what an admission is given to any host for which it stands.
 use Rattle.std.proofs.Common.{◌≡◌, ◌∙◌, ℕ, Option, Some, None, Result, Ok, Err, OnOk, IfOk, IfErr, refl, sym, ap, subst, arith}
 use Rattle.std.specs.Result.{IsErrAnd}
-use Rattle.wh_model.specs.Format.Syntax.{Module}
-use Rattle.wh_model.specs.Execution.Instance.{Beginning, IsInitial, memory_min, segment_bounds, begins, fragments}
-use Rattle.wh_host_model.specs.Host.Worlds.{Loaded, World, loaded_of}
-use Rattle.wh_host_model.specs.Owners.{Params, given_of, AdmitFault, no_module, shares, min_max, frames, swap, instances, memory, segments}
-use Rattle.wh_host_model.specs.Host.Admission.{MeetsFault}
+use Rattle.wh_model.specs.Format.{Module}
+use Rattle.wh_model.specs.Execution.{Beginning, IsInitial, memory_min, segment_bounds, begins, fragments}
+use Rattle.wh_host_model.specs.Host.{Loaded, World, loaded_of, MeetsFault}
+use Rattle.wh_host_model.specs.{Params, given_of, AdmitFault, no_module, shares, min_max, frames, swap, instances, memory, segments}
 use Rattle.wh_initial.specs.Begins.{first_store}
 use Rattle.wh_admit.specs.declared.room.Room.{Room}
 use Rattle.wh_admit.specs.declared.outcome.Admitted.{Admitted}

@@ -1,12 +1,10 @@
--- Whatever an admission is given stands for some host.
+-- Whatever an admission is given represents some host.
 use Rattle.std.proofs.Common.{◌≡◌, ℕ, zero, suc, ◌+◌, List, [], ◌∷◌, length, replicate, Option, Some, None, false, refl, sym, arith}
 use Rattle.std.proofs.lemmas.List.{length-replicate}
-use Rattle.wh_host_model.specs.declared.Tax.{Tax}
-use Rattle.wh_host_model.specs.declared.states.Slot.TheVariants.{Vacant}
-use Rattle.wh_host_model.specs.Pages.{zero_page}
-use Rattle.wh_host_model.specs.Space.Parts.{empty_space}
-use Rattle.wh_host_model.specs.Host.Worlds.{Tenant, World, Loaded, resting}
-use Rattle.wh_host_model.specs.Host.Admission.{live_count}
+use Rattle.wh_space_model.specs.declared.Tax.{Tax}
+use Rattle.wh_space_model.specs.declared.states.Slot.TheVariants.{Vacant}
+use Rattle.wh_space_model.specs.{zero_page, empty_space}
+use Rattle.wh_host_model.specs.Host.{Tenant, World, Loaded, resting, live_count}
 use Rattle.wh_admit.specs.declared.room.Room.{Room}
 use Rattle.wh_admit.specs.RepresentedHost.{IsRoomLeft, RepresentsSome}
 
@@ -29,7 +27,7 @@ someone = record {
   dead = false;
 }
 
--- so many of them
+-- n of them
 crowd : ℕ → List (Option Tenant)
 crowd zero = []
 crowd (suc n) = Some someone ∷ crowd n

@@ -1,7 +1,7 @@
 -- For which host, and for which of its modules, what an admission is given stands.
 use Rattle.std.specs.Prelude.{◌≡◌, ℕ, ◌+◌, length, Option, Some, None}
 use Rattle.wh_model.specs.Format.Syntax.{Module}
-use Rattle.wh_host_model.specs.Space.Parts.{minima, spreads}
+use Rattle.wh_space_model.specs.Parts.{minima, spreads}
 use Rattle.wh_host_model.specs.Host.Worlds.{Loaded, World, loaded_of}
 use Rattle.wh_host_model.specs.Host.Admission.{live_count}
 use Rattle.wh_admit.specs.declared.room.Room.{Room}
@@ -22,6 +22,6 @@ pub record RepresentsHost (w : World) (k : ℕ) (m : Option Module) (room : Room
   pub is_module : IsModuleAt w k m
   pub room_left : IsRoomLeft w room
 
--- whatever is given stands for some host and some number
+-- whatever is given represents some host and some number
 abbrev pub RepresentsSome : Type 0
 RepresentsSome = (m : Option Module) (room : Room) → (w : World) × (k : ℕ) × RepresentsHost w k m room

@@ -41,7 +41,8 @@ pub enum AdmitError {
 }
 
 impl AdmitError {
-    /// The number by which replies name the fault, behind an A: 1 to 9. Faults are looked at in its order.
+    /// Returns the number by which replies name the fault, after an A: 1 to 9. An admission is checked for faults in
+    /// this order.
     pub fn number(self) -> u8
         ensures { result ≡ admit_number self }
     {

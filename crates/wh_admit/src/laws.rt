@@ -2,8 +2,8 @@
 
 ghost use Rattle.wh_admit.specs.RepresentedHost.{RepresentsSome};
 
-/// Whatever an admission is given stands for some host, so its clauses say something of every one. The function does
-/// nothing; what it ensures is the law.
+/// States that whatever an admission is given represents some host, so that its clauses say something of every one.
+/// Does nothing when run: its contract is the law.
 pub fn standing_holds()
     ensures { RepresentsSome }
 {}

@@ -2,10 +2,9 @@
 use Rattle.std.proofs.Common.{◌≡◌, ℕ, ◌*◌, List, [], ◌∷◌, length, map, replicate, refl, sym, ap, subst, ◌∙◌}
 use Rattle.std.proofs.lemmas.List.{length-replicate}
 use Rattle.wh_model.specs.Format.Syntax as model
-use Rattle.wh_model.specs.Validity.Typing.{Context}
+use Rattle.wh_model.specs.Validity.{Context}
 use Rattle.wh_model.specs.Execution.Store.{Instance, Store}
-use Rattle.wh_model.specs.Execution.Instance.{Parameters, Within, fragments, first_size}
-use Rattle.wh_model.specs.Execution.Replay.{with_pieces}
+use Rattle.wh_model.specs.Execution.{Parameters, Within, fragments, first_size, with_pieces}
 use Rattle.wh_model.proofs.Fragments.{fragments_write}
 use Rattle.wh_syntax.specs.declared.module.Data.{Data}
 use Rattle.wh_syntax.specs.View.{view_module, view_data}
@@ -50,7 +49,7 @@ other_bytes flat2 st = record {
   room = st.room;
 }
 
--- with the data segments written it stands for the store that instantiation ends with
+-- with the data segments written it represents the store that instantiation ends with
 pub stands_written : (l : LinkedState) (sound : IsChecked (view_module l.valid.decoded) (map view_side l.valid.tables)) → IsResolved (view_module l.valid.decoded) l.funcs l.globals → (p : Parameters) (i : Instantiated) (b : Instantiates (view_module l.valid.decoded) p i) (flat flat2 : List ℕ)
     → flat ≡ replicate (i.pages * 65536) 0 → flat2 ≡ written_over flat b.segments
     → RepresentsInstance (linked_parts l) i.store flat2 i.page_limit sound.context b.inst (with_pieces (first_store (view_module l.valid.decoded) p b.globals b.elements) (fragments b.segments))

@@ -2,8 +2,7 @@
 use Rattle.std.proofs.Common.{◌≡◌, ℕ, ◌+◌, Option, sym, subst, arith}
 use Rattle.wh_model.specs.declared.ValType.{ValType}
 use Rattle.wh_model.specs.Execution.Store.{Instance, Store}
-use Rattle.wh_model.specs.Execution.Configuration.{Config}
-use Rattle.wh_model.specs.Execution.Reduction.{After}
+use Rattle.wh_model.specs.Execution.{Config, After}
 use Rattle.wh_model.proofs.Chains.{after_joins}
 use Rattle.wh_model.proofs.Taken.{takes_after}
 use Rattle.wh_machine.specs.CallStates.{CallState, Setting}

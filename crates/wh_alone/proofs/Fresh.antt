@@ -1,12 +1,9 @@
 -- Where an instance is first: at its start function, or behind a start that has none.
 use Rattle.std.proofs.Common.{◌≡◌, ◌<◌, ◌^◌, ℕ, suc, get_or, List, [], ◌∷◌, length, Option, Some, None, refl, sym}
 use Rattle.std.specs.List.{AllByRecursion}
-use Rattle.wh_model.specs.Format.Syntax.{nothing, Module, FuncType, Body}
+use Rattle.wh_model.specs.Format.{nothing, Module, FuncType, Body}
 use Rattle.wh_model.specs.Execution.Store.{Instance, Store}
-use Rattle.wh_model.specs.Execution.Configuration.{called, config}
-use Rattle.wh_model.specs.Execution.Instance.{Parameters, AreGiven, Piece, IsInitial, begins}
-use Rattle.wh_model.specs.Execution.Histories.{none_yet, one_more}
-use Rattle.wh_model.specs.Execution.Replay.{Call, with_pieces, has_written, Standing, idle, running}
+use Rattle.wh_model.specs.Execution.{called, config, Parameters, AreGiven, Piece, IsInitial, begins, none_yet, one_more, Call, with_pieces, has_written, Standing, idle, running}
 use Rattle.wh_syntax.specs.View.{view_module}
 use Rattle.wh_machine.specs.Opening.{IsOwnCall}
 use Rattle.wh_alone.specs.InstanceStates.{Kept, HasStore}

@@ -1,8 +1,7 @@
 -- Pieces that are written.
 use Rattle.std.proofs.Common.{◌≡◌, ℕ, zero, suc, ◌+◌, ◌≤◌, List, [], ◌∷◌, length, drop, Some, slice_get, refl, ap, subst}
-use Rattle.wh_model.specs.Execution.Store.{Store, written}
-use Rattle.wh_model.specs.Execution.Instance.{Piece, Within}
-use Rattle.wh_model.specs.Execution.Replay.{with_pieces}
+use Rattle.wh_model.specs.Execution.Store.{Store}
+use Rattle.wh_model.specs.Execution.{written, Piece, Within, with_pieces}
 use Rattle.wh_model.proofs.Fragments.{length-written}
 use Rattle.wh_call.proofs.Lists.{drop_at}
 use Rattle.wh_alone.specs.ModuleCalls.{written_over}

@@ -2,15 +2,11 @@
 use Rattle.std.proofs.Common.{◌≡◌, ◌⊎◌, inl, inr, Bool, true, false, ℕ, ◌+◌, List, [], ◌∷◌, ◌++◌, length, append-nil, Option, Some, None, slice_get, map, reverse, refl, sym, ap, subst, ◌∙◌, arith}
 use Rattle.std.specs.List.{AllByRecursion}
 use Rattle.wh_model.specs.declared.ValType.{ValType}
-use Rattle.wh_model.specs.Format.Syntax.{nothing, FuncType, Module}
-use Rattle.wh_model.specs.Validity.Typing.{Context, operand}
-use Rattle.wh_model.specs.Execution.Store.{Value, type_of, own, Instance, Store}
-use Rattle.wh_model.specs.Execution.Configuration.{code, called, Config, config, store_of}
-use Rattle.wh_model.specs.Execution.Reduction.{After}
-use Rattle.wh_model.specs.Execution.Instance.{Parameters, AreGiven, Piece, IsInitial, begins}
-use Rattle.wh_model.specs.Execution.Histories.{Past, none_yet, one_more}
+use Rattle.wh_model.specs.Format.{nothing, FuncType, Module}
+use Rattle.wh_model.specs.Validity.{Context, operand}
+use Rattle.wh_model.specs.Execution.Store.{Instance, Store}
+use Rattle.wh_model.specs.Execution.{Value, type_of, own, code, called, Config, config, store_of, After, Parameters, AreGiven, Piece, IsInitial, begins, Past, none_yet, one_more, Call, returned, stopped, cancelled, pending, dead, with_pieces, Invocation, Stands, is_invoked, is_under_way, Ends, has_returned, has_trapped, Standing, idle, running, store_at}
 use Rattle.wh_model.specs.Execution.Replay as model
-use Rattle.wh_model.specs.Execution.Replay.{Call, returned, stopped, cancelled, pending, dead, with_pieces, Invocation, Stands, is_invoked, is_under_way, Ends, has_returned, has_trapped, was_cancelled, Standing, idle, running, store_at, Replays, at_rest, at_work, Replay}
 use Rattle.wh_model.proofs.Histories.{past_then}
 use Rattle.wh_model.proofs.Journals.{functions_same, cancelled_stays}
 use Rattle.wh_syntax.specs.View.{view_module}
@@ -223,8 +219,7 @@ under_way_on : {k k2 : Kept} {stage : Stage} {m : Module} {p : Parameters} {ende
 under_way_on {k} {k2} {call = call} fuel n outcome starting at linked begun way goes =
     let out = result_of way.invocation.type in
     let x = goes out at.inst way.at way.machine way.after.1 in
-    let spent = way.spent in
-    let ends = ends_from k2 out at.inst way.first way.at call.charges fuel (call.fuel + fuel) n (call.charges + n) outcome x.0 (omega (arith, spent)) refl way.after x.1 in
+    let ends = ends_from k2 out at.inst way.first way.at call.charges fuel (call.fuel + fuel) n (call.charges + n) outcome x.0 (omega (arith, way.spent)) refl way.after x.1 in
     comes_further (before_at at linked way.all_written) starting (call.fuel + fuel) (call.charges + n) outcome x.0 way.first begun way.invocation ends x.2
 
 pub starting_on : (k k2 : Kept) (fuel n : ℕ) (outcome : Outcome) → k2.linked ≡ k.linked → ContinuesTo k fuel outcome n k2 → GoesOnWith (record { kept = k; stage = stages.Starting }) fuel outcome n (record { kept = k2; stage = after_start outcome })
@@ -251,9 +246,7 @@ start_comes k k2 func fuel n outcome linked start comes m p ended call z at =
     let x = comes at.store.0 at.inst w i.type i.body call.args at.store.1 suits in
     let invoked = config w [] (called i.type i.body (reverse call.args) [] nothing) in
     let j : Invocation at.inst (with_pieces at.s at.ps) call invoked = record { index = i.index; type = i.type; body = i.body; calls = i.calls; is_own = i.is_own; types = i.types; fit = i.fit; begins = ap (λ v. config v [] (called i.type i.body (reverse call.args) [] nothing)) store_is } in
-    let no_fuel = face.no_fuel in
-    let no_charges = face.no_charges in
-    let ends = ends_total k2 (result_of i.type) at.inst invoked fuel (call.fuel + fuel) n (call.charges + n) outcome x.0 (omega (arith, no_fuel)) (omega (arith, no_charges)) x.1 in
+    let ends = ends_total k2 (result_of i.type) at.inst invoked fuel (call.fuel + fuel) n (call.charges + n) outcome x.0 (omega (arith, face.no_fuel)) (omega (arith, face.no_charges)) x.1 in
     comes_further (before_at at linked face.all_written) true (call.fuel + fuel) (call.charges + n) outcome x.0 invoked st.0 j ends x.2
   where
     index_of : {x y : ℕ} → Some x ≡ Some y → x ≡ y

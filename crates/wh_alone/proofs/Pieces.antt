@@ -1,7 +1,6 @@
 -- Which piece is written at a time.
 use Rattle.std.proofs.Common.{◌≡◌, ℕ, ◌+◌, ◌≤◌, List, length, map, drop, Some, slice_get, sym, ap, ◌∙◌, arith}
-use Rattle.wh_model.specs.Execution.Store.{written}
-use Rattle.wh_model.specs.Execution.Instance.{Piece, Within}
+use Rattle.wh_model.specs.Execution.{written, Piece, Within}
 use Rattle.wh_syntax.specs.declared.module.Data.{Data}
 use Rattle.wh_alone.specs.ModuleCalls.{ArePieces, written_over}
 use Rattle.wh_call.proofs.Lists.{mapped_from, mapped_to}
@@ -23,8 +22,7 @@ piece_fits bytes now ps places segments i place d h within size at_p at_s =
     let x = piece_at ps places segments i place d h at_p at_s in
     let low = within_at (length bytes) ps i x.0 within x.1 in
     let items = ap length x.3 in
-    let at = x.2 in
-    omega (arith, low, items, at, size)
+    omega (arith, low, items, x.2, size)
 
 -- and once it is written the others are left
 pub piece_written : (now : List ℕ) (ps : List Piece) (places : List ℕ) (segments : List Data) (i place : ℕ) (d : Data) → ArePieces ps places segments → slice_get places i ≡ Some place → slice_get segments i ≡ Some d

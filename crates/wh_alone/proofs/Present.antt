@@ -1,9 +1,8 @@
 -- What is known of an instance by its stage.
 use Rattle.std.proofs.Common.{◌≡◌, ℕ, List, [], ◌∷◌, ◌++◌, Some, None, slice_get, map, sym, ap, subst, ◌∙◌}
-use Rattle.wh_model.specs.Format.Syntax.{Module}
-use Rattle.wh_model.specs.Execution.Store.{own, Instance, Store}
-use Rattle.wh_model.specs.Execution.Instance.{Piece}
-use Rattle.wh_model.specs.Execution.Replay.{Call, Standing, store_at}
+use Rattle.wh_model.specs.Format.{Module}
+use Rattle.wh_model.specs.Execution.Store.{Instance, Store}
+use Rattle.wh_model.specs.Execution.{own, Piece, Call, Standing, store_at}
 use Rattle.wh_syntax.specs.View.{view_module}
 use Rattle.wh_control.specs.Represents.{bits_of, result_of}
 use Rattle.wh_alone.specs.declared.outcome.Stage.{Stage}

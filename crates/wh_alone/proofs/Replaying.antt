@@ -1,12 +1,12 @@
 -- One call of a module, as a journal.
 use Rattle.std.proofs.Common.{◌≡◌, ◌≤◌, false, ℕ, List, [], ◌∷◌, ◌++◌, Option, Some, None, refl, sym, ap, subst, arith}
 use Rattle.std.specs.List.{AllByRecursion}
-use Rattle.wh_model.specs.Format.Syntax.{Module}
+use Rattle.wh_model.specs.Format.{Module}
 use Rattle.wh_model.specs.Execution.Store.{Instance, Store}
-use Rattle.wh_model.specs.Execution.Instance.{Parameters, AreGiven, Piece, IsInitial, begins}
+use Rattle.wh_model.specs.Execution.{Parameters, AreGiven, Piece, IsInitial, begins, Call, returned, stopped, cancelled, dead, pending, is_invoked, is_under_way, Standing, Stands, Replays, at_rest, at_work}
 use Rattle.wh_model.specs.Execution.Replay as model
-use Rattle.wh_model.specs.Execution.Replay.{Call, returned, stopped, cancelled, dead, pending, with_pieces, is_invoked, is_under_way, Standing, store_at, Stands, Replays, at_rest, at_work, Replay}
-use Rattle.wh_model.specs.Laws.ReplayLaws.{WithinFuel}
+use Rattle.wh_model.specs.Execution.Replay.{Replay}
+use Rattle.wh_model.specs.Laws.{WithinFuel}
 use Rattle.wh_model.proofs.Histories.{replays_then}
 use Rattle.wh_model.proofs.Journals.{fuel_suffices}
 use Rattle.wh_alone.specs.declared.outcome.Outcome.{Outcome}
@@ -16,7 +16,7 @@ use Rattle.wh_alone.specs.declared.outcome.Stage.{Stage}
 use Rattle.wh_alone.specs.declared.outcome.Stage.TheVariants as stages
 use Rattle.wh_alone.specs.declared.outcome.CallRefusal.{CallRefusal}
 use Rattle.wh_alone.specs.declared.outcome.CallRefusal.TheVariants as refusals
-use Rattle.wh_model.specs.Linking.Accepting.{IsAccepted}
+use Rattle.wh_model.specs.Linking.{IsAccepted}
 use Rattle.wh_call.specs.Arguments.{HasCall}
 use Rattle.wh_alone.specs.InstanceStates.{Kept, HasStore}
 use Rattle.wh_alone.specs.Journal.{InstanceState, IsOutcome, HasResults, ended_as, open_as, listed, IsStage, IsJournalOf, IsAtStanding, further, called_so, GoesOnWith, CallEnds}

@@ -6,7 +6,7 @@ use Rattle.wh_model.specs.Execution.Replay.{Call, returned, pending, Standing}
 use Rattle.wh_model.specs.Linking.Accepting.{IsAccepted}
 use Rattle.wh_alone.specs.Journal.{InstanceState, IsAtStanding}
 
--- the start that has written so many fragments, where there is no start function
+-- the start that has written n fragments, where there is no start function
 abbrev pub written_start : ℕ → Call
 written_start n = record { func = None; args = []; fuel = 0; fragments = n; charges = 0; outcome = returned [] }
 

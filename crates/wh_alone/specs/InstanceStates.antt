@@ -1,4 +1,4 @@
--- What is kept of an instance, and what a run over it comes to.
+-- What is kept of an instance, and the outcome of a run over it.
 use Rattle.std.specs.Prelude.{◌≡◌, ℕ, List, [], Option, reverse}
 use Rattle.wh_model.specs.declared.ValType.{ValType}
 use Rattle.wh_model.specs.Format.Syntax.{nothing, FuncType, Body}
@@ -32,7 +32,7 @@ abbrev pub kept_of : LinkedState → stored.Store → FlatMemoryState → Machin
 kept_of linked store memory machine =
     record { linked = linked; store = store; memory = memory; machine = machine }
 
--- the setting and the state in which a call runs: all bytes of a flat memory are always at hand
+-- the setting and the state in which a call runs: all bytes of a flat memory are always ready
 abbrev pub flat_setting : LinkedState → ℕ → Setting FlatMemoryState
 flat_setting linked limit =
     setting_of linked (λ m. m.bytes) (λ m need. Unit {0}) (λ m m2. m2.limit ≡ m.limit) limit
@@ -51,7 +51,7 @@ HasStore k = HasStoreIn (setting_in k) (state_in k)
 abbrev pub RepresentsAt : Kept → Option ValType → Instance → Config → Type 0
 RepresentsAt k = RepresentsConfig (setting_in k) (state_in k)
 
--- it stands for some configuration
+-- it represents some configuration
 abbrev pub RepresentsSomewhere : Kept → Type 0
 RepresentsSomewhere k = HasConfiguration (setting_in k) (state_in k)
 

@@ -98,8 +98,8 @@ abbrev pub HasFailed : List Call → Type 0
 HasFailed [] = ⊥
 HasFailed (start ∷ rest) = (fails start.outcome ≡ true) × (rest ≡ [])
 
--- The stage is that of an instance behind these calls that have ended, with this store and these pieces to write, an
--- open call, if there is one, and where that stands.
+-- The stage is that of an instance after these calls that have ended, with this store and these pieces to write, an open call, if
+-- there is one, and where that stands.
 abbrev pub IsStage : Stage → Kept → Instance → Store → List Piece → List Call → Option Call → Standing → Type 0
 IsStage Fresh k inst s ps ended current z =
     (ended ≡ []) × (call : Call) × (current ≡ Some call) × IsInvoked inst s ps call z
@@ -115,8 +115,8 @@ abbrev pub IsJournalOf : Module → List Call → Type 0
 IsJournalOf m [] = ⊥
 IsJournalOf m (start ∷ rest) = IsJournal m start rest
 
--- The instance is one of this module with these parameters, and it is where its journal leads: behind calls that have
--- ended, and an open one, if there is one.
+-- The instance is one of this module with these parameters, and it is where its journal leads: after calls that have ended, and
+-- an open one, if there is one.
 pub record IsAtStanding (i : InstanceState) (m : Module) (p : Parameters) (ended : List Call) (current : Option Call)
     (z : Standing)
     : Type 0 where
@@ -145,12 +145,11 @@ pub record IsSomewhere (i : InstanceState) : Type 0 where
 
 -- ---- what calls do
 
--- the open call has come so much further, to this outcome
+-- the open call was given more fuel and has taken more charges, with this outcome
 abbrev pub further : Call → ℕ → ℕ → model.Outcome → Call
 further call fuel charges o = record call { fuel = call.fuel + fuel; charges = call.charges + charges; outcome = o }
 
--- Whatever its journal is, the open call goes on with so much more fuel: it comes to that outcome after so many more
--- charges.
+-- Whatever its journal is, the open call is run with more fuel: it has that outcome after n more charges.
 abbrev pub GoesOnWith : InstanceState → ℕ → Outcome → ℕ → InstanceState → Type 0
 GoesOnWith i fuel outcome n i2 =
     (m : Module) (p : Parameters) (ended : List Call) (call : Call) (z : Standing)
@@ -163,7 +162,7 @@ abbrev pub called_so : ℕ → List Value → ℕ → ℕ → model.Outcome → 
 called_so func vs fuel charges o =
     record { func = Some func; args = vs; fuel = fuel; fragments = 0; charges = charges; outcome = o }
 
--- Whatever its journal is, the call is its next one: it comes to that outcome after so many charges.
+-- Whatever its journal is, the call is its next one: it has that outcome after n charges.
 abbrev pub CallEnds : InstanceState → ℕ → List ℕ → ℕ → Outcome → ℕ → InstanceState → Type 0
 CallEnds i func args fuel outcome n i2 =
     (m : Module) (p : Parameters) (ended : List Call) (z : Standing) → IsAtStanding i m p ended None z

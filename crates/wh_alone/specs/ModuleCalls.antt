@@ -1,4 +1,4 @@
--- What a call of a module comes to, from its bytes.
+-- The outcome of a call of a module, from its bytes.
 use Rattle.std.specs.Prelude.{◌≡◌, ⊤, ℕ, List, [], ◌∷◌, map}
 use Rattle.wh_model.specs.Format.Syntax.{Module}
 use Rattle.wh_model.specs.Execution.Instance.{Parameters, Piece}

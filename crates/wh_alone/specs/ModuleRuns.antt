@@ -1,4 +1,4 @@
--- One call of a module, from its bytes to what it comes to.
+-- One call of a module, from its bytes to its outcome.
 use Rattle.std.specs.Prelude.{◌≡◌, ℕ, ◌≤◌, List, [], ◌∷◌, Option, Some, map}
 use Rattle.wh_model.specs.Format.Syntax.{Module}
 use Rattle.wh_model.specs.Execution.Instance.{Parameters, Piece, IsInitial, begins}
@@ -14,7 +14,7 @@ use Rattle.wh_model.specs.Linking.Accepting.{IsAccepted}
 use Rattle.wh_call.specs.Arguments.{HasCall}
 use Rattle.wh_alone.specs.Journal.{InstanceState, IsOutcome, HasResults}
 
--- the journal's call came to this answer after so many charges, within this fuel
+-- the journal's call had this outcome after these charges, within this fuel
 pub record CameTo (call : Call) (fuel : ℕ) (outcome : Outcome) (charges : ℕ) : Type 0 where
   pub is_outcome : IsOutcome outcome call.outcome
   pub charges_are : call.charges ≡ charges

@@ -1,4 +1,4 @@
-//! One call of a module, from its bytes to what it comes to.
+//! One call of a module, from its bytes to its outcome.
 
 ghost use Rattle.std.specs.Prelude.{IfOk, IfErr};
 ghost use Rattle.wh_initial.specs.Given.{view_parameters};
@@ -10,9 +10,9 @@ use crate::outcome::{CallError, CallResult, Outcome};
 use std::alloc::Global;
 use wh_initial::Parameters;
 
-/// Decodes, validates and links a module, makes an instance of it with these parameters, runs its start function, if
-/// there is one, and then calls the function of this index with these arguments, each of the two with this fuel. It gives
-/// what came of it, and the instance as it is then.
+/// Decodes, validates and links a module, creates an instance of it with these parameters, runs its start function, if
+/// there is one, and then calls the function of this index with these arguments, each of the two with this fuel.
+/// Returns the outcome, and the instance as it is then.
 ///
 /// # Errors
 /// Why the bytes aren't accepted, or the module has no instance with these parameters.

@@ -24,7 +24,7 @@ fn outcome_of(end: RunEnd) -> Outcome
     }
 }
 
-/// Lets the call that a machine represents run with this fuel; how it has ended, and how many charges were taken.
+/// Runs the call that a machine represents with this fuel; returns the outcome, and how many charges were taken.
 pub fn run_on(
     linked: &Linked,
     store: &mut Store,
@@ -40,7 +40,7 @@ pub fn run_on(
     (outcome_of(end), charges)
 }
 
-/// Calls a function and lets it run with this fuel; how it has ended, and how many charges were taken.
+/// Calls a function with this fuel; returns the outcome, and how many charges were taken.
 pub fn call(
     linked: &Linked,
     store: &mut Store,
@@ -61,7 +61,7 @@ pub fn call(
     (outcome_of(end), charges)
 }
 
-/// Where an instance is first, with this start function or none.
+/// Returns the initial stage of an instance with this start function, or without one.
 pub fn first_stage(start: Option<u32>) -> Stage
     ensures { result ≡ stage_at_first start }
 {
@@ -71,7 +71,7 @@ pub fn first_stage(start: Option<u32>) -> Stage
     }
 }
 
-/// Where an instance is once its start function came to this.
+/// Returns the stage of an instance once its start function has had this outcome.
 pub fn stage_after_start(outcome: Outcome) -> Stage
     ensures { result ≡ after_start outcome }
 {
@@ -82,7 +82,7 @@ pub fn stage_after_start(outcome: Outcome) -> Stage
     }
 }
 
-/// Where an instance is once a call came to this.
+/// Returns the stage of an instance once a call has had this outcome.
 pub fn stage_after_call(outcome: Outcome) -> Stage
     ensures { result ≡ after_call outcome }
 {

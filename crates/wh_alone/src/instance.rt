@@ -92,8 +92,7 @@ impl Instance {
         })
     }
 
-    /// Calls the function of this index, and lets it run with this fuel: how it has ended, and how many charges were
-    /// taken.
+    /// Calls the function of this index with this fuel; returns the outcome, and how many charges were taken.
     ///
     /// # Errors
     /// `Busy` while the start function or another call hasn't ended; `Dead` where the start function has failed; `NoCall`
@@ -130,8 +129,8 @@ impl Instance {
         Ok((outcome, charges))
     }
 
-    /// Lets the start function begin, or the call that ran out of fuel go on, with so much more fuel: how it has ended,
-    /// and how many charges were taken now. `None` where no call is open.
+    /// Runs the start function, or the call that ran out of fuel, with `fuel` further charges; returns its outcome, and
+    /// the charges that were taken now. `None` if no call is open.
     pub fn run(&mut self, fuel: u64) -> Option<(Outcome, u64)>
         ensures some { IfSome result
             (λ r. IsOpen self.old.stage × GoesOnWith self.old fuel r.0 r.1 self.new) }
@@ -180,8 +179,8 @@ impl Instance {
         }
     }
 
-    /// Gives up the call that is open, if there is one; whether there was. What it has written stays. An instance whose
-    /// start function is given up is dead.
+    /// Gives up the call that is open; tells whether there was one. What it has written stays. An instance whose start
+    /// function is given up is dead.
     pub fn cancel(&mut self) -> bool
         ensures some { result ≡ true → IsOpen self.old.stage × GivenUp self.old self.new }
         ensures none { result ≡ false → (¬ (IsOpen self.old.stage)) × (self.new ≡ self.old) }
@@ -199,14 +198,14 @@ impl Instance {
         }
     }
 
-    /// Where it is.
+    /// Returns its stage.
     pub fn stage(&self) -> Stage
         ensures { result ≡ self.now.stage }
     {
         self.stage
     }
 
-    /// The index of the function that is exported by this name.
+    /// Returns the index of the function that is exported under this name, if there is one.
     pub fn func(&self, name: &str) -> Option<u32>
         ensures some { IfSome result
             (Exports self.now.kept.linked.valid.decoded.exports.items name.now) }
@@ -216,14 +215,14 @@ impl Instance {
         exported(&self.linked.module().exports, name)
     }
 
-    /// The bytes that the host functions `put` and `emit` have written.
+    /// Returns the bytes that the host functions `put` and `emit` have written.
     pub fn output(&self) -> &[u8]
         ensures { result.now ≡ self.now.kept.store.output.items }
     {
         self.store.output.as_slice()
     }
 
-    /// The bytes of its memory.
+    /// Returns the bytes of its memory.
     pub fn bytes(&self) -> &[u8]
         ensures { result.now ≡ self.now.kept.memory.bytes }
     {

@@ -1,4 +1,4 @@
-//! What a call comes to, and why there is no instance.
+//! The outcome of a call, and why there is no instance.
 
 ghost use Rattle.std.specs.Prelude.{◌≡◌};
 ghost use Rattle.wh_alone.specs.declared.outcome.CallError.TheVariants.{Load};
@@ -53,7 +53,7 @@ pub enum CallRefusal {
 pub enum CallResult {
     /// The start function hasn't returned: how it has ended, and its charges. Nothing else was called.
     Start(Outcome, u64),
-    /// The start function, if there is one, has returned after so many charges; the module has no function of its own
+    /// The start function, if there is one, has returned after this many charges; the module has no function of its own
     /// with this index, or these words aren't arguments of it.
     NoCall(u64),
     /// The start function, if there is one, has returned, and the call has come to this.

@@ -3,10 +3,8 @@ use Rattle.std.proofs.Common.{◌≡◌, ℕ, ◌+◌, ◌≤◌, max, List, [],
 use Rattle.std.specs.Prelude.{slice_get}
 use Rattle.wh_model.specs.declared.ValType.{ValType}
 use Rattle.wh_model.specs.declared.Open.TheVariants.{Other}
-use Rattle.wh_model.specs.Format.Syntax.{Op, unreachable, Code, nothing, plain, block, loop, if_then, if_else, Instr, end_mark, flatten, expression, FuncType, Body}
-use Rattle.wh_model.specs.Validity.Typing.{Context, operand}
-use Rattle.wh_model.specs.Validity.Valid.{ValidBody}
-use Rattle.wh_model.specs.Validity.Heights.{operands, lowered, height_behind, greatest, body_height}
+use Rattle.wh_model.specs.Format.{Op, unreachable, Code, nothing, plain, block, loop, if_then, if_else, Instr, end_mark, flatten, expression, FuncType, Body}
+use Rattle.wh_model.specs.Validity.{Context, operand, ValidBody, operands, lowered, height_behind, greatest, body_height}
 use Rattle.wh_bodies.specs.declared.fault.BodyFault.{BodyFault}
 use Rattle.wh_bodies.specs.declared.table.BranchEntry.{BranchEntry}
 use Rattle.wh_bodies.specs.declared.marks.ConstructEnd.{ConstructEnd}

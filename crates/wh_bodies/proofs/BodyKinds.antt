@@ -7,8 +7,8 @@ use Rattle.wh_model.specs.declared.Mutability.{Mutability}
 use Rattle.wh_model.specs.declared.Mutability.TheVariants.{Const, Var}
 use Rattle.wh_model.specs.declared.Open.{Open}
 use Rattle.wh_model.specs.declared.Open.TheVariants.{Then, Other}
-use Rattle.wh_model.specs.Format.Syntax.{Op, unreachable, nop, br, br_if, br_table, return, call, call_indirect, drop_operand, select, local_get, local_set, local_tee, global_get, global_set, load, store, memory_size, memory_grow, i32_const, i64_const, test, comparison, unary, binary, conversion, Instr, single, block_start, loop_start, if_start, else_mark, end_mark}
-use Rattle.wh_model.specs.Validity.Typing.{Context, operand, load_type, store_type}
+use Rattle.wh_model.specs.Format.{Op, unreachable, nop, br, br_if, br_table, return, call, call_indirect, drop_operand, select, local_get, local_set, local_tee, global_get, global_set, load, store, memory_size, memory_grow, i32_const, i64_const, test, comparison, unary, binary, conversion, Instr, single, block_start, loop_start, if_start, else_mark, end_mark}
+use Rattle.wh_model.specs.Validity.{Context, operand, load_type, store_type}
 use Rattle.wh_model.specs.declared.faults.ValidKind.{ValidKind}
 use Rattle.wh_model.specs.declared.faults.ValidKind.TheVariants.{BadType, Align, Arity, Height}
 use Rattle.wh_bodies.specs.declared.fault.BodyFault.{BodyFault}

@@ -2,9 +2,8 @@
 use Rattle.std.proofs.Common.{◌≡◌, ℕ, ◌+◌, ◌≤◌, max, List, [], ◌∷◌, ◌++◌, length, Option, Some, None, Result, Ok, true, refl, sym, ap, subst, ◌∙◌, arith, append_assoc}
 use Rattle.wh_model.specs.declared.ValType.{ValType}
 use Rattle.wh_model.specs.declared.Open.TheVariants.{Then, Other}
-use Rattle.wh_model.specs.Format.Syntax.{Op, Code, nothing, plain, block, loop, if_then, if_else, Instr, single, block_start, loop_start, if_start, else_mark, end_mark, flatten}
-use Rattle.wh_model.specs.Validity.Typing.{Context, OpType, operand, under, HasType, no_more, then_op, then_block, then_loop, then_if, then_if_else}
-use Rattle.wh_model.specs.Validity.Heights.{operands, height_behind, lowered, greatest}
+use Rattle.wh_model.specs.Format.{Op, Code, nothing, plain, block, loop, if_then, if_else, Instr, single, block_start, loop_start, if_start, else_mark, end_mark, flatten}
+use Rattle.wh_model.specs.Validity.{Context, OpType, operand, under, HasType, no_more, then_op, then_block, then_loop, then_if, then_if_else, operands, height_behind, lowered, greatest}
 use Rattle.wh_model.proofs.Heights.{begins_within}
 use Rattle.wh_model.specs.declared.faults.ValidKind.{ValidKind}
 use Rattle.wh_bodies.specs.declared.fault.BodyFault.{BodyFault}

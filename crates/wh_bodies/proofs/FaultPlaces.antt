@@ -1,7 +1,7 @@
 -- The instruction at which a fault lies.
 use Rattle.std.proofs.Common.{◌≡◌, ℕ, suc, ◌+◌, ◌<◌, List, [], ◌∷◌, length, Result, Ok, Err, ap, subst, arith}
-use Rattle.wh_model.specs.Format.Syntax.{Instr, expression, Body}
-use Rattle.wh_model.specs.Validity.Typing.{Context}
+use Rattle.wh_model.specs.Format.{Instr, expression, Body}
+use Rattle.wh_model.specs.Validity.{Context}
 use Rattle.wh_model.specs.declared.faults.ValidKind.{ValidKind}
 use Rattle.wh_bodies.specs.declared.fault.BodyFault.{BodyFault}
 use Rattle.wh_bodies.specs.BodyFaults.{follow, HasInstr}

@@ -1,6 +1,6 @@
 -- Lists that are taken from behind.
-use Rattle.std.proofs.Common.{◌≡◌, ℕ, ◌+◌, ◌-◌, ◌<◌, List, [], ◌∷◌, ◌++◌, reverse, length, take, drop, get_or, sym, ap, ◌∙◌, arith, length-drop}
-use Rattle.std.proofs.lemmas.List.{reverse-append, length-reverse, take-append-drop, take_more}
+use Rattle.std.proofs.Common.{◌≡◌, ℕ, ◌-◌, List, ◌++◌, reverse, length, take, drop, sym, ap, ◌∙◌, arith, length-drop}
+use Rattle.std.proofs.lemmas.List.{reverse-append, length-reverse, take-append-drop}
 use Rattle.std.proofs.Math.Seq.{drop-append_seam}
 
 drop_front : {A : Type 0} (n : ℕ) (front back : List A) → n ≡ length front → drop n (front ++ back) ≡ back
@@ -12,7 +12,3 @@ reverse-take {A} n xs =
     let parts : reverse xs ≡ reverse (drop n xs) ++ reverse (take n xs) = ap reverse (sym (take-append-drop n xs)) ∙ reverse-append (take n xs) (drop n xs) in
     let here : length (reverse xs) - n ≡ length (reverse (drop n xs)) = omega (arith, length-reverse xs, length-reverse (drop n xs), length-drop n xs) in
     sym (ap (drop (length (reverse xs) - n)) parts ∙ drop_front (length (reverse xs) - n) (reverse (drop n xs)) (reverse (take n xs)) here)
-
--- the last one of the first ones comes first
-pub reverse-take_more : {A : Type 0} (xs : List A) (n : ℕ) (d : A) → n < length xs → reverse (take (n + 1) xs) ≡ get_or xs n d ∷ reverse (take n xs)
-reverse-take_more xs n d h = ap reverse (take_more xs n d h) ∙ reverse-append (take n xs) (get_or xs n d ∷ [])

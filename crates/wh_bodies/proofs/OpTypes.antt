@@ -16,9 +16,8 @@ use Rattle.wh_model.specs.declared.CompareOp.{CompareOp}
 use Rattle.wh_model.specs.declared.UnaryOp.{UnaryOp}
 use Rattle.wh_model.specs.declared.BinaryOp.{BinaryOp}
 use Rattle.wh_model.specs.declared.ConvertOp.{ConvertOp}
-use Rattle.wh_model.specs.Format.Syntax.{Op, nop, call, local_get, local_set, local_tee, global_get, global_set, load, store, memory_size, memory_grow, i32_const, i64_const, test, comparison, unary, binary, conversion, FuncType}
-use Rattle.wh_model.specs.Validity.Typing.{Context, OpType, load_type, store_type, conversion_type}
-use Rattle.wh_model.specs.Validity.Heights.{taken, given, no_type}
+use Rattle.wh_model.specs.Format.{Op, nop, call, local_get, local_set, local_tee, global_get, global_set, load, store, memory_size, memory_grow, i32_const, i64_const, test, comparison, unary, binary, conversion, FuncType}
+use Rattle.wh_model.specs.Validity.{Context, OpType, load_type, store_type, conversion_type, taken, given, no_type}
 use Rattle.wh_model.specs.declared.faults.ValidKind.{ValidKind}
 use Rattle.wh_model.specs.declared.faults.ValidKind.TheVariants.{Align}
 use Rattle.wh_bodies.specs.CheckSteps.{fixed, typed, load_exponent, store_exponent, aligned, type_to_write}

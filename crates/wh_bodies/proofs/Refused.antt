@@ -3,10 +3,8 @@ use Rattle.std.proofs.Common.{◌≡◌, ℕ, ◌+◌, ◌≤◌, List, [], ◌�
 use Rattle.std.specs.Prelude.{slice_get}
 use Rattle.wh_model.specs.declared.ValType.{ValType}
 use Rattle.wh_model.specs.declared.Open.TheVariants.{Other}
-use Rattle.wh_model.specs.Format.Syntax.{Code, Instr, end_mark, flatten, expression, FuncType, Body}
-use Rattle.wh_model.specs.Validity.Typing.{Context, operand, HasType}
-use Rattle.wh_model.specs.Validity.Valid.{ValidBody}
-use Rattle.wh_model.specs.Validity.Heights.{operands, greatest, body_height}
+use Rattle.wh_model.specs.Format.{Code, Instr, end_mark, flatten, expression, FuncType, Body}
+use Rattle.wh_model.specs.Validity.{Context, operand, HasType, ValidBody, operands, greatest, body_height}
 use Rattle.wh_bodies.specs.declared.fault.BodyFault.{BodyFault}
 use Rattle.wh_bodies.specs.declared.marks.ConstructEnd.{ConstructEnd}
 use Rattle.wh_bodies.specs.ConstructEnds.{all_marks}

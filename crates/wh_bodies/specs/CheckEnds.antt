@@ -16,7 +16,7 @@ use Rattle.wh_bodies.specs.CheckSteps.{State, run}
 abbrev pub nothing_known : Known
 nothing_known = record { types = []; floor = 0; dead = false }
 
--- the label of a body of so many instructions
+-- the label of a body of `count` instructions
 abbrev pub body_label : Option ValType → ℕ → Label
 body_label of count =
     record { kind = Other; result = of; carries = of; place = count; height = 0; outer_floor = 0; outer_dead = false }

@@ -24,7 +24,7 @@ use std::alloc::Global;
 use wh_model::{MOST_LOCALS, Open, ValType, ValidKind};
 use wh_syntax::{Body, FuncType, Instr};
 
-/// An empty table with room for so many entries.
+/// An empty table with room for `count` entries.
 fn room(alloc: Global, count: u32) -> Result<Vec<BranchEntry>, ValidKind>
     ensures ok { IfOk result (λ entries. entries.items ≡ []) }
     ensures err { IfErr result (λ k. k ≡ ValidKind.Memory) }
@@ -35,7 +35,7 @@ fn room(alloc: Global, count: u32) -> Result<Vec<BranchEntry>, ValidKind>
     }
 }
 
-/// What is known before the first of so many instructions.
+/// What is known before the first of `count` instructions.
 fn start(
     alloc: Global,
     of: Option<ValType>,
@@ -69,7 +69,7 @@ fn start(
     })
 }
 
-/// All instructions, one behind the other.
+/// All instructions, one after the other.
 fn check_all(
     around: &Around,
     instrs: &[Instr],
@@ -113,7 +113,7 @@ fn prepare(alloc: Global, instrs: &[Instr], of: Option<ValType>) -> Result<Check
     Ok(checker)
 }
 
-/// What is known behind all instructions of a body.
+/// What is known after all instructions of a body.
 fn run_body(
     alloc: Global,
     around: &Around,

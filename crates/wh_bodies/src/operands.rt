@@ -15,7 +15,7 @@ pub struct Operands {
     pub dead: bool,
 }
 
-/// Whether two types are one.
+/// Tells whether two types are the same.
 #[inline(always)]
 pub fn same_type(found: ValType, wanted: ValType) -> bool
     ensures { result ≡ same_type found wanted }
@@ -27,7 +27,10 @@ pub fn same_type(found: ValType, wanted: ValType) -> bool
     }
 }
 
-/// Takes the topmost operand, whatever its type, and gives the type.
+/// Takes the topmost operand, whatever its type, and returns the type, if it is known.
+///
+/// # Errors
+/// `Arity` if there is none.
 #[inline(always)]
 pub fn take_any(operands: &mut Operands) -> Result<Option<ValType>, ValidKind>
     ensures { Yields result (known operands.new) (take_any (known operands.old)) }
@@ -46,6 +49,9 @@ pub fn take_any(operands: &mut Operands) -> Result<Option<ValType>, ValidKind>
 }
 
 /// Takes an operand of this type.
+///
+/// # Errors
+/// `Arity` if there is none; `BadType` if it has another type.
 #[inline(always)]
 pub fn take(operands: &mut Operands, wanted: ValType) -> Result<(), ValidKind>
     ensures { Checks result (known operands.new) (take_one (known operands.old) wanted) }
@@ -63,6 +69,9 @@ pub fn take(operands: &mut Operands, wanted: ValType) -> Result<(), ValidKind>
 }
 
 /// Gives an operand of this type, where `None` is a type that isn't known.
+///
+/// # Errors
+/// `Height` if there are more than 256 operands then; `Memory` if an allocation fails.
 #[inline(always)]
 pub fn give(operands: &mut Operands, of: Option<ValType>) -> Result<(), ValidKind>
     ensures { Checks result (known operands.new) (give_one (known operands.old) of) }
@@ -75,7 +84,7 @@ pub fn give(operands: &mut Operands, of: Option<ValType>) -> Result<(), ValidKin
     }
 }
 
-/// What follows isn't reached.
+/// Makes the operands those of code that is never reached.
 pub fn fall(operands: &mut Operands)
     ensures { known operands.new ≡ fall (known operands.old) }
 {
@@ -143,7 +152,11 @@ fn agreed(first: Option<ValType>, second: Option<ValType>) -> Result<Option<ValT
     }
 }
 
-/// `select` (3.3.2): a condition and two operands of one type, and one of this type.
+/// Checks a `select` (3.3.2): takes a condition and two operands of one type, and gives one of this type.
+///
+/// # Errors
+/// `Arity` or `BadType` if an operand is missing or of another type; `Height` if there are more than 256 operands then;
+/// `Memory` if an allocation fails.
 pub fn select(operands: &mut Operands) -> Result<(), ValidKind>
     ensures { Checks result (known operands.new) (selected (known operands.old)) }
 {

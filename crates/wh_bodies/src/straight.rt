@@ -243,7 +243,12 @@ fn convert(operands: &mut Operands, op: ConvertOp) -> Result<(), ValidKind>
     pass(operands, &[from], &[to])
 }
 
-/// An instruction that names no label.
+/// Checks an instruction that names no label.
+///
+/// # Errors
+/// `Index` if what it names isn't there; `Arity` or `BadType` if an operand is missing or of another type; `Align` if
+/// its alignment is above the access width; `ConstImmutable` if it writes an immutable global; `Height` if there are
+/// more than 256 operands then; `Memory` if an allocation fails.
 #[inline(always)]
 pub fn straight(around: &Around, operands: &mut Operands, instr: Instr) -> Result<(), ValidKind>
     requires { AllByRecursion (λ x. x < length around.now.context.types.now)

@@ -5,10 +5,10 @@ use Rattle.std.specs.List.{AllByRecursion}
 use Rattle.std.proofs.lemmas.Option.{slice_get_within}
 use Rattle.std.proofs.lemmas.List.{length-map}
 use Rattle.wh_model.specs.Format.Syntax as model
-use Rattle.wh_model.specs.Format.Syntax.{Body}
-use Rattle.wh_model.specs.Validity.Typing.{Context}
-use Rattle.wh_model.specs.Validity.Heights.{no_type}
-use Rattle.wh_model.specs.Execution.Store.{own, Instance}
+use Rattle.wh_model.specs.Format.{Body}
+use Rattle.wh_model.specs.Validity.{Context, no_type}
+use Rattle.wh_model.specs.Execution.Store.{Instance}
+use Rattle.wh_model.specs.Execution.{own}
 use Rattle.wh_syntax.specs.declared.module.FuncType.{FuncType}
 use Rattle.wh_syntax.specs.View.{view_module, view_type}
 use Rattle.wh_bodies.specs.SideTables.{Table}
@@ -69,18 +69,16 @@ checked_at c types (z ∷ xs) bs ts (suc y) x (b, rest, f, more, eb, et, at, val
 pub refused_low : (l : LinkedState) (func : ℕ) → func < length l.funcs → LacksOwn l func
 refused_low l func low c inst is type body at =
     let o = own_index (linked_parts l) c inst func type body is at in
-    let index = o.index in
-    absurd (omega (arith, low, index))
+    absurd (omega (arith, low, o.index))
 
 -- and none behind the last one
 pub refused_high : (l : LinkedState) (func : ℕ) → length l.valid.decoded.funcs.items ≤ func - length l.funcs
     → LacksOwn l func
 refused_high l func high c inst is type body at =
     let o = own_index (linked_parts l) c inst func type body is at in
-    let index = o.index in
     let parts = parts_of _ _ _ _ o.y o.g o.at in
     let within = slice_get_within l.valid.decoded.funcs.items o.y parts.x parts.x_at in
-    absurd (omega (arith, high, index, within))
+    absurd (omega (arith, high, o.index, within))
 
 pub type_there : (l : LinkedState) (sound : IsChecked (view_module l.valid.decoded) (map view_side l.valid.tables)) (place x : ℕ) → slice_get l.valid.decoded.funcs.items place ≡ Some x → x < length l.valid.decoded.types.items
 type_there l sound place x at =

@@ -2,11 +2,12 @@
 use Rattle.std.proofs.Common.{◌≡◌, ℕ, List, [], Option, None, false, cond, slice_get, refl, sym, ap, subst, ◌∙◌}
 use Rattle.std.specs.List.{AllByRecursion}
 use Rattle.wh_model.specs.declared.ValType.{ValType}
-use Rattle.wh_model.specs.Format.Syntax.{nothing}
-use Rattle.wh_model.specs.Validity.Typing.{Context}
-use Rattle.wh_model.specs.Execution.Store.{Value, Instance, Store}
-use Rattle.wh_model.specs.Execution.Configuration.{code, Config, config, store_of}
-use Rattle.wh_model.specs.Focus.Focused.{Focused, running, finished, stopped, plug}
+use Rattle.wh_model.specs.Format.{nothing}
+use Rattle.wh_model.specs.Validity.{Context}
+use Rattle.wh_model.specs.Execution.Store.{Instance, Store}
+use Rattle.wh_model.specs.Execution.{Value, code, Config, config, store_of}
+use Rattle.wh_model.specs.Focus.Focused.{Focused}
+use Rattle.wh_model.specs.Focus.{running, finished, stopped, plug}
 use Rattle.wh_control.specs.Represents.{Func, InRange, CallsState, RepresentsCalls}
 use Rattle.wh_control.specs.declared.store.Store as stored
 use Rattle.wh_control.specs.Parts.{ProgramParts, funcs_in}

@@ -2,8 +2,7 @@
 use Rattle.std.proofs.Common.{◌≡◌, ℕ, zero, suc, ◌+◌, ◌^◌, ◌<◌, ◌≤◌, List, [], ◌∷◌, length, map, drop, Some, slice_get, refl, sym, ap, subst, ◌∙◌, arith}
 use Rattle.std.specs.List.{AllByRecursion}
 use Rattle.wh_model.specs.declared.ValType.{ValType}
-use Rattle.wh_model.specs.Execution.Numbers.{bits}
-use Rattle.wh_model.specs.Execution.Store.{Value, value, type_of}
+use Rattle.wh_model.specs.Execution.{bits, Value, value, type_of}
 use Rattle.wh_control.specs.Represents.{bits_of, InRange}
 use Rattle.wh_call.specs.Arguments.{Arguments}
 

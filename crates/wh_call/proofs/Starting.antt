@@ -1,10 +1,10 @@
 -- The start function can be called.
 use Rattle.std.proofs.Common.{◌≡◌, ℕ, [], Some, slice_get, refl, sym, ap, subst, ◌∙◌}
 use Rattle.wh_model.specs.declared.host.HostFunc.TheVariants.{Input, Put, Emit}
-use Rattle.wh_model.specs.Format.Syntax.{FuncType, Body, Module}
-use Rattle.wh_model.specs.Validity.Typing.{Context}
-use Rattle.wh_model.specs.Validity.Valid.{IsValidIn, ValidStart}
-use Rattle.wh_model.specs.Execution.Store.{FuncInst, own, host, signature, Instance}
+use Rattle.wh_model.specs.Format.{FuncType, Body, Module}
+use Rattle.wh_model.specs.Validity.{Context, IsValidIn, ValidStart}
+use Rattle.wh_model.specs.Execution.Store.{Instance}
+use Rattle.wh_model.specs.Execution.{FuncInst, own, host, signature}
 use Rattle.wh_control.specs.Parts.{ProgramParts, IsInstance}
 use Rattle.wh_machine.specs.Opening.{IsOwnCall}
 use Rattle.wh_call.proofs.Lists.{mapped_from}

@@ -1,4 +1,4 @@
--- What a run of a call comes to, over any linear memory.
+-- The outcome of a run of a call, over any linear memory.
 use Rattle.std.specs.Prelude.{◌≡◌, ℕ, ◌<◌, ◌≤◌, List, [], Option, slice_get, map, reverse, true}
 use Rattle.std.specs.List.{AllByRecursion}
 use Rattle.wh_model.specs.declared.ValType.{ValType}
@@ -32,7 +32,7 @@ pub record CanCall {M : Type 0} (w : Setting M) (state : CallState M) (func : �
   pub vs : List Value
   pub suits : IsOwnCall inst func args type body vs
 
--- so many charges lead to a configuration with this store, of which this holds, and the state represents it
+-- n charges lead to a configuration with this store, of which this holds, and the state represents it
 abbrev pub StopsAt : {M : Type 0} → Setting M → CallState M → Option ValType → Instance → (ℕ → Config → Type 0) → ℕ
     → Store → (Config → Type 0) → Type 0
 StopsAt w after out inst leads n s Is =
@@ -43,10 +43,9 @@ StopsAt w after out inst leads n s Is =
 abbrev pub AreResults : Option ValType → List Value → Type 0
 AreResults out us = (map type_of us ≡ operand out) × AllByRecursion InRange us
 
--- To what a call with this result comes within this fuel, where `leads` says to which configuration so many charges
--- lead. It is done, with values of the result's type, of which the topmost is the answer; or it traps; or all fuel is
--- taken, and a charged reduction is next; or there is fuel left, and the next reduction reads or writes these bytes,
--- which aren't ready.
+-- The outcome of a call with this result within this fuel, where `leads` says to which configuration n charges lead. It is done,
+-- with values of the result's type, of which the topmost is the answer; or it traps; or all fuel is taken, and a charged
+-- reduction is next; or there is fuel left, and the next reduction reads or writes these bytes, which aren't ready.
 abbrev pub EndsWithin : {M : Type 0} → Setting M → CallState M → Option ValType → Instance
     → (ℕ → Config → Type 0) → ℕ → RunEnd → ℕ → Store → Type 0
 EndsWithin w after out inst leads fuel (Returned result) n s =
@@ -59,7 +58,7 @@ EndsWithin w after out inst leads fuel (NotReady need) n s =
     (n < fuel) × (¬ (w.ready after.memory need))
     × StopsAt w after out inst leads n s (λ c. IsNext inst c × Asks inst c need)
 
--- so many charges lead there from this configuration, the bytes of each being ready when it is taken
+-- n charges lead there from this configuration, the bytes of each being ready when it is taken
 abbrev pub TakesTo : {M : Type 0} → Setting M → Instance → M → Config → M → ℕ → Config → Type 0
 TakesTo w inst memory c memory2 n c2 = Takes w.bytes w.ready w.keeps inst memory c n memory2 c2
 

@@ -66,7 +66,7 @@ fn func_type_at(types: &[FuncType], at: usize) -> &FuncType
     &types[at]
 }
 
-/// The type of the function of this index, where it is one of the module's own.
+/// Returns the type of the function of this index, if it is one of the module's own.
 pub fn own_type(linked: &Linked, func: u32) -> Option<&FuncType>
     ensures some { IfSome result
         (λ found. IsOwnType linked.now func (view_type found.now)) }
@@ -80,7 +80,7 @@ pub fn own_type(linked: &Linked, func: u32) -> Option<&FuncType>
     Some(func_type_at(&module.types, index_at(&module.funcs, place)))
 }
 
-/// Whether the function of this index is one of the module's own, and these words are arguments of it.
+/// Tells whether the function of this index is one of the module's own, and these words are arguments of it.
 pub fn can_call(linked: &Linked, func: u32, args: &[u64]) -> bool
     ensures { (c : Context) (inst : Instance) → IsInstanceOf linked.now c inst
         → MatchBool result (HasCall inst func args.now) (¬ (HasCall inst func args.now)) }

@@ -17,13 +17,13 @@ pub enum RunEnd {
     Trapped(Trap),
     /// All fuel was taken, and the call runs on.
     OutOfFuel,
-    /// Its next reduction reads or writes bytes of the memory that aren't at hand. There is fuel left, and nothing of
+    /// Its next reduction reads or writes bytes of the memory that aren't ready. There is fuel left, and nothing of
     /// that reduction has been done.
     NotReady(Need),
 }
 
-/// Lets the call that a machine represents run with this fuel: how the run has ended, and how many charges were taken,
-/// that of a trap included.
+/// Runs the call that a machine represents with this fuel; returns how the run has ended, and how many charges were
+/// taken, that of a trap included.
 pub fn run_on<M: LinearMem>(
     linked: &Linked,
     store: &mut Store,
@@ -51,8 +51,8 @@ pub fn run_on<M: LinearMem>(
     (end, charges)
 }
 
-/// Calls one of the module's own functions and lets it run with this fuel: how the run has ended, and how many charges
-/// were taken. Whatever the machine did before is given up.
+/// Calls one of the module's own functions with this fuel; returns how the run has ended, and how many charges were
+/// taken. Whatever the machine did before is given up.
 pub fn call<M: LinearMem>(
     linked: &Linked,
     store: &mut Store,

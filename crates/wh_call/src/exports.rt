@@ -22,7 +22,7 @@ fn is_func_of(export: &Export, name: &str) -> bool
     }
 }
 
-/// The index of the function that is exported by this name.
+/// Returns the index of the function that is exported under this name, if there is one.
 pub fn exported(exports: &[Export], name: &str) -> Option<u32>
     ensures some { IfSome result (Exports exports.now name.now) }
     ensures none { IfNone result (LacksFunc exports.now name.now) }

@@ -1,9 +1,9 @@
--- The charges of a host are the same in whatever host of the definitions it stands for.
+-- The charges of a host are the same in whatever host of the definitions it represents.
 use Rattle.std.proofs.Common.{◌≡◌, ℕ, zero, suc, ◌+◌, List, [], ◌∷◌, ◌++◌, drop, length, get_or, Option, Some, None, refl, sym, ap, subst, ◌∙◌, arith}
 use Rattle.std.specs.List.{sum_by}
 use Rattle.std.proofs.lemmas.List.Sums.{sum_by-cons}
-use Rattle.wh_host_model.specs.Host.Worlds.{Tenant, World, journal, own_calls, tenant}
-use Rattle.wh_host_model.specs.Owners.{Entry}
+use Rattle.wh_host_model.specs.Host.{Tenant, World, journal, own_calls, tenant}
+use Rattle.wh_host_model.specs.{Entry}
 use Rattle.wh_journal.specs.Calls.{JournalCallState}
 use Rattle.wh_instance.specs.Tenancy.{RepresentsEach}
 use Rattle.wh_host.specs.declared.parts.InstanceEntry.{InstanceEntry}
@@ -92,12 +92,12 @@ pub fits_on : (h h2 : HostState) (w : World) (total total2 : ℕ) → IsHost h w
     → (w2 : World) × IsHost h2 w2 × (FitsBook w total → FitsBook w2 total2) → FitsHost h2 total2
 fits_on h h2 w total total2 st f then = fits_each h2 then.0 total2 then.1 (then.2 (f w st))
 
-taken_on : (a b c d : World) (n : ℕ) → HasTaken a 0 b → HasTaken b n c → HasTaken c 0 d → HasTaken a n d
-taken_on a b c d n x y z = record {
+taken_alike : (a b c d : World) (n : ℕ) → HasTaken a 0 b → HasTaken b n c → HasTaken c 0 d → HasTaken a n d
+taken_alike a b c d n x y z = record {
   charges = omega (arith, x.charges, y.charges, z.charges);
   live = z.live ∙ y.live ∙ x.live;
   admitted = z.admitted ∙ y.admitted ∙ x.admitted;
 }
 
 pub taken_each : (h h2 : HostState) (w w2 : World) (n : ℕ) → IsHost h w → IsHost h2 w2 → HasTaken w n w2 → HasTakenOn h n h2
-taken_each h h2 w w2 n st st2 t v v2 sv sv2 = taken_on v w w2 v2 n (charged_alike h v w sv st) t (charged_alike h2 w2 v2 st2 sv2)
+taken_each h h2 w w2 n st st2 t v v2 sv sv2 = taken_alike v w w2 v2 n (charged_alike h v w sv st) t (charged_alike h2 w2 v2 st2 sv2)

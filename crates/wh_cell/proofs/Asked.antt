@@ -1,21 +1,17 @@
 -- The book still fits a host of which something was asked, and one that had a turn.
-use Rattle.std.proofs.Common.{ℕ, ◌+◌, ◌<◌, ◌^◌, Option, arith}
-use Rattle.wh_host_model.specs.declared.plain.InstId.{InstId}
+use Rattle.std.proofs.Common.{ℕ, ◌+◌, arith}
+use Rattle.wh_space_model.specs.declared.plain.InstId.{InstId}
 use Rattle.wh_host_model.specs.declared.plain.TurnEnd.{TurnEnd}
-use Rattle.wh_host_model.specs.Host.Worlds.{World}
-use Rattle.wh_host_model.specs.Host.Events.{Event, load, admit, invoke, refuel, cancel, retry, release, fork, unload, epoch}
-use Rattle.wh_host_model.specs.Host.Happens.{Happens, IsTurn}
-use Rattle.wh_host.specs.TicketsOut.{IsPresentCall}
+use Rattle.wh_host_model.specs.Host.{World, Event, load, admit, invoke, refuel, cancel, retry, release, fork, unload, epoch, IsTurn}
+use Rattle.wh_host_model.specs.Host.Happens.{Happens}
 use Rattle.wh_host.specs.Hosting.{HostState, IsHost}
 use Rattle.wh_host.specs.Requests.{IsRequest, LeadsByRequest}
-use Rattle.wh_host.specs.Telling.{TellsChargesOf}
+use Rattle.wh_host.specs.Series.{HasSpent}
 use Rattle.wh_cell.specs.Charging.{FitsBook}
-use Rattle.wh_cell.specs.Counted.{charges_between}
 use Rattle.wh_cell.specs.LeftByOwner.{FitsHost, HasNoCharge, HasTakenOn}
 use Rattle.wh_cell.proofs.Alike.{fits_each, fits_on, taken_each}
-use Rattle.wh_cell.proofs.Counted.{fits_taken}
+use Rattle.wh_cell.proofs.Counted.{fits_taken, turn_taken}
 use Rattle.wh_cell.proofs.Requested.{HasCopiedEnded, admit_fits, cancel_fits, fork_fits, invoke_fits, load_fits, moves_fit, refuel_fits, release_fits, retry_fits, unload_fits}
-use Rattle.wh_cell.proofs.Turned.{turn_taken}
 use Rattle.wh_host_model.proofs.Host.Copied.{copied_stay_ended}
 
 -- the calls that were copied have ended
@@ -24,14 +20,12 @@ copied_ended h w st = copied_stay_ended w st.comes
 
 -- ---- a turn
 
-pub turned_taken : (h h2 : HostState) (id : InstId) (q call : ℕ) (answer : TurnEnd) (before after : Option ℕ) → (w : World) × IsHost h w
-    → ((w : World) → IsHost h w → (w2 : World) × IsTurn w id q answer w2 × IsHost h2 w2) → q < 2 ^ 32
-    → IsPresentCall h id call → TellsChargesOf h id call before → TellsChargesOf h2 id call after → HasTakenOn h (charges_between before after) h2
-turned_taken h h2 id q call answer before after some turns few present told told2 =
+pub turned_taken : (h h2 : HostState) (id : InstId) (q n : ℕ) (answer : TurnEnd) → (w : World) × IsHost h w
+    → ((w : World) → IsHost h w → (w2 : World) × IsTurn w id q answer w2 × HasSpent w id n w2 × IsHost h2 w2) → HasTakenOn h n h2
+turned_taken h h2 id q n answer some turns =
     let w = some.0 in
-    let x = turns w some.1 in
-    let taken = turn_taken w x.0 id q call answer before after x.1 (λ t live. present w some.1 t live) (λ t live. copied_ended h w some.1 id.number t live.0) few (told w some.1) (told2 x.0 x.2) in
-    taken_each h h2 w x.0 (charges_between before after) some.1 x.2 taken
+    let (w2, turn, spent, st2) = turns w some.1 in
+    taken_each h h2 w w2 n some.1 st2 (turn_taken w w2 id q n answer turn spent (λ t live. copied_ended h w some.1 id.number t live.0))
 
 pub fits_turned : (h h2 : HostState) (total n : ℕ) → (w : World) × IsHost h w → (w : World) × IsHost h2 w → FitsHost h total → HasTakenOn h n h2 → FitsHost h2 (total + n)
 fits_turned h h2 total n some some2 f taken =

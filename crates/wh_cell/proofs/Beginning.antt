@@ -3,13 +3,9 @@ use Rattle.std.proofs.Common.{◌≡◌, ◌≢◌, ◌∙◌, ◌<◌, ◌⊎�
 use Rattle.std.proofs.lemmas.Option.{same_Some, slice_get_within}
 use Rattle.std.specs.Prelude.{Result, Ok, Err, IsErr}
 use Rattle.wh_model.specs.declared.memory.Need.{Need}
-use Rattle.wh_host_model.specs.declared.plain.InstId.{InstId}
-use Rattle.wh_host_model.specs.Space.Errands.{Errand, Pass, pass_of, to_read, to_write}
-use Rattle.wh_host_model.specs.Space.Parts.{Space, wants}
-use Rattle.wh_host_model.specs.Space.Sound.{IsSound}
-use Rattle.wh_host_model.specs.Space.States.{page_at}
-use Rattle.wh_host_model.specs.Space.Tickets.{BeginsEvict, BeginsFetch}
-use Rattle.wh_host_model.specs.Host.Worlds.{World}
+use Rattle.wh_space_model.specs.declared.plain.InstId.{InstId}
+use Rattle.wh_space_model.specs.{Errand, Pass, pass_of, to_read, to_write, Space, wants, IsSound, page_at, BeginsEvict, BeginsFetch}
+use Rattle.wh_host_model.specs.Host.{World}
 use Rattle.wh_host_model.proofs.Host.Lasting.{memory_stays_sound}
 use Rattle.wh_reclaim.proofs.Sending.{slot_whole}
 use Rattle.wh_host.specs.declared.transit.Eviction.{Eviction}
@@ -78,14 +74,12 @@ module _ {D : Type 0} (held : D → List (List ℕ)) (s s2 : Space) (known known
       ap (λ (p : Pass). p.out) passes.pass ∙ ap (λ (xs : List (Option Errand)). slice_set xs slot (Some errand)) (out_is held s known d a) ∙ ap (λ (k : KnownState D). k.out) (sym is) in
       let less = slice_get_within (pass_of s2).out slot (Some errand) out in
       let many = as_many s2.slots.uses in
-      let same = passes.whole.slots in
-      let long = sound.slots.held in
       record {
         after = is;
         out = ap (λ (xs : List (Option Errand)). slice_get xs slot) (sym outs) ∙ out;
         there = λ d2 has. (
             let there : s.slots.held ≡ held d2 = held_is held s known d a ∙ ap held (same_device d2 a has) in
-            subst (λ (xs : List (List ℕ)). slot < length xs) there (omega (arith, less, many, same, long)));
+            subst (λ (xs : List (List ℕ)). slot < length xs) there (omega (arith, less, many, passes.whole.slots, sound.slots.held)));
       }
 
   pub has_content : AgreesWith held s known d → get_or s.slots.held slot [] ≢ [] → HasContent held known slot

@@ -1,11 +1,10 @@
 -- A cell begins in step.
 use Rattle.std.proofs.Common.{◌≡◌, ℕ, List, [], Option, Some, replicate, refl, sym, ap, subst, ◌∙◌}
 use Rattle.std.specs.List.{sum_by}
-use Rattle.wh_host_model.specs.declared.Tax.{Tax}
-use Rattle.wh_host_model.specs.declared.plain.SwapError.{SwapError}
-use Rattle.wh_host_model.specs.Host.Worlds.{Tenant}
-use Rattle.wh_host_model.specs.Space.Errands.{Errand, Pass, pass_of}
-use Rattle.wh_host_model.specs.Space.Parts.{Space}
+use Rattle.wh_space_model.specs.declared.Tax.{Tax}
+use Rattle.wh_space_model.specs.declared.plain.SwapError.{SwapError}
+use Rattle.wh_host_model.specs.Host.{Tenant}
+use Rattle.wh_space_model.specs.{Errand, Pass, pass_of, Space}
 use Rattle.wh_reclaim.specs.Together.{AreTogether}
 use Rattle.wh_reclaim.proofs.Together.{new_together}
 use Rattle.wh_host.specs.Hosting.{HostState, IsNewHost}
@@ -46,9 +45,6 @@ begun_in_step {D} held keeps honest faults l device none together led zero known
       led = led;
       came = subst (λ z. ComesFrom keeps honest faults z device l.host) (sym left) (left_now keeps honest faults l.host device);
     }
-
-pub same_left : {D : Type 0} (h h2 : HostState) (d d2 : D) → h ≡ h2 → d ≡ d2 → left_as h d ≡ left_as h2 d2
-same_left h h2 d d2 a b = ap (λ z. left_as z d) a ∙ ap (λ z. left_as h2 z) b
 
 pub begins_as : {D : Type 0} (h h2 : HostState) (d d2 : D) → h ≡ h2 → d ≡ d2 → known_of (backs h.space d) ≡ known_of (backs h2.space d2)
 begins_as h h2 d d2 a b = ap (λ (z : HostState). known_of (backs z.space d)) a ∙ ap (λ z. known_of (backs h2.space z)) b

@@ -1,17 +1,16 @@
 -- What each event makes of the charges of a host, and of the book that fits them.
-use Rattle.std.proofs.Common.{◌≡◌, ℕ, zero, suc, ◌+◌, ◌≤◌, List, [], ◌∷◌, ◌++◌, drop, take, length, map, get_or, slice_get, slice_set, Option, Some, None, refl, sym, ap, ◌∙◌, arith, append_assoc, length-append}
+use Rattle.std.proofs.Common.{◌≡◌, ℕ, zero, suc, ◌+◌, ◌≤◌, List, [], ◌∷◌, ◌++◌, drop, take, length, map, get_or, slice_set, Option, Some, None, refl, sym, ap, subst, ◌∙◌, arith, length-append}
 use Rattle.std.specs.List.{sum_by}
 use Rattle.std.proofs.lemmas.List.Sums.{sum_by-cons, sum_by-append}
-use Rattle.wh_model.specs.declared.memory.Need.{Need}
-use Rattle.wh_model.specs.Execution.Store.{Instance}
-use Rattle.wh_model.specs.Execution.Replay.{Call, dead}
+use Rattle.std.proofs.lemmas.List.{get_or-set_same}
+use Rattle.wh_model.specs.Execution.{dead}
+use Rattle.wh_space_model.specs.declared.plain.InstId.{InstId}
 use Rattle.wh_host_model.specs.declared.plain.TurnEnd.{TurnEnd}
-use Rattle.wh_host_model.specs.Space.Parts.{Space}
-use Rattle.wh_host_model.specs.Host.Worlds.{Rest, Doing, Tenant, World, journal, own_calls, tenant, with_tenant}
-use Rattle.wh_host_model.specs.Owners.{Entry}
-use Rattle.wh_host_model.specs.Host.Turns.{Upshot, Proceeds, returns, traps, writes_all, uses_fuel, waits, waits_to_write, has_had_its_turn}
-use Rattle.wh_host_model.specs.Host.CallAnswers.{gone_further, ended_by, Closes, faces_next, is_dead, Turn, is_idle, has_ended, has_no_fuel, has_no_frame, can_go_on, keeps_its_fault}
-use Rattle.wh_host_model.specs.Host.Admission.{live_count}
+use Rattle.wh_space_model.specs.{Space}
+use Rattle.wh_host_model.specs.Host.{IsLive, IsTurn, of_none, of_one, Rest, Tenant, World, journal, own_calls, tenant, with_tenant, ended_by, Closes, faces_next, is_dead, Turn, is_idle, has_ended, has_no_fuel, has_no_frame, can_go_on, keeps_its_fault, live_count}
+use Rattle.wh_host_model.specs.{Entry}
+use Rattle.wh_host.specs.Series.{HasSpent, Spends, charges_each}
+use Rattle.wh_host.proofs.Hosts.{some_within, turn_stays}
 use Rattle.wh_cell.specs.Charging.{charges_in, charges_by, FitsBook, HasTaken}
 
 abbrev pub charges_at : Entry → ℕ
@@ -19,18 +18,9 @@ charges_at e = e.call.charges
 
 -- ---- journals
 
-dead_charges : (es : List Entry) → charges_in (map (λ (w : Entry). ended_by w dead) es) ≡ charges_in es
-dead_charges [] = refl
-dead_charges (e ∷ es) =
-    omega (arith, dead_charges es, sum_by-cons charges_at (ended_by e dead) (map (λ (w : Entry). ended_by w dead) es), sum_by-cons charges_at e es)
-
 -- a call in the middle of a journal
-pub middle : (xs ys : List Entry) (e : Entry) → charges_in (xs ++ e ∷ ys) ≡ charges_in xs + e.call.charges + charges_in ys
+middle : (xs ys : List Entry) (e : Entry) → charges_in (xs ++ e ∷ ys) ≡ charges_in xs + e.call.charges + charges_in ys
 middle xs ys e = omega (arith, sum_by-append charges_at xs (e ∷ ys), sum_by-cons charges_at e ys)
-
-pub at_seam : (xs ys : List Entry) (e : Entry) → slice_get (xs ++ e ∷ ys) (length xs) ≡ Some e
-at_seam [] ys e = refl
-at_seam (x ∷ xs) ys e = at_seam xs ys e
 
 -- ---- an instance's own calls
 
@@ -59,84 +49,32 @@ copy_has_none ended open_calls none = ap charges_in (none_dropped ended open_cal
 
 -- ---- a turn
 
--- in a turn of q charges the present call has taken so many more, and no other one any
-pub record Spends (q : ℕ) (t t2 : Tenant) : Type 0 where
-  pub taken : ℕ
-  pub few : taken ≤ q
-  pub all : charges_in (journal t2) ≡ charges_in (journal t) + taken
-  pub own : t.copied ≤ length t.ended → charges_in (own_calls t2) ≡ charges_in (own_calls t) + taken
-  pub idle : t.open_calls ≡ [] → taken ≡ 0
-  pub present : (e : Entry) (es : List Entry) → t.open_calls ≡ e ∷ es
-      → (e2 : Entry) × (slice_get (journal t2) (length t.ended) ≡ Some e2) × (e2.call.charges ≡ e.call.charges + taken)
+same_sum : (xs ys : List Entry) → charges_each xs ≡ charges_each ys → charges_in xs ≡ charges_in ys
+same_sum [] [] same = refl
+same_sum [] (y ∷ ys) same = absurd (cc same)
+same_sum (x ∷ xs) [] same = absurd (cc same)
+same_sum (x ∷ xs) (y ∷ ys) same =
+    let first : x.call.charges ≡ y.call.charges = cc same in
+    let others : charges_each xs ≡ charges_each ys = cc same in
+    omega (arith, first, same_sum xs ys others, sum_by-cons charges_at x xs, sum_by-cons charges_at y ys)
 
-within_turn : {M : Type 0} {bytes : M → List ℕ} {ready : M → Need → Type 0} {keeps : M → M → Type 0} {inst : Instance} {q k n : ℕ} {call : Call} {m m2 : M} {r r2 : Rest} {d d2 : Doing} {to : Upshot}
-    → Proceeds bytes ready keeps inst q call m r d to k n m2 r2 d2 → n ≤ q
-within_turn (returns x y) = x.in_turn
-within_turn (traps x) = x.in_turn
-within_turn (writes_all d f w) = omega arith
-within_turn (uses_fuel x n u) = x.in_turn
-within_turn (waits x n u a v) = x.in_turn
-within_turn (waits_to_write d w v) = omega arith
-within_turn (has_had_its_turn x n u v y) = x.in_turn
-
-head_there : (e f : Entry) (es fs : List Entry) → e ∷ es ≡ f ∷ fs → e ≡ f
-head_there e f es fs h = cc h
-
-none_open : (xs es : List Entry) (e : Entry) → xs ≡ [] → xs ≡ e ∷ es → ⊥
-none_open xs es e a b = let no : [] ≡ e ∷ es = sym a ∙ b in cc no
-
--- the present call goes further, and may end
-goes_further : (q : ℕ) (t t2 : Tenant) (e f : Entry) (es fs : List Entry) (n : ℕ) → n ≤ q → t.open_calls ≡ e ∷ es
-    → f.call.charges ≡ e.call.charges + n → charges_in fs ≡ charges_in es → journal t2 ≡ t.ended ++ f ∷ fs → t2.copied ≡ t.copied → Spends q t t2
-goes_further q t t2 e f es fs n few there more rest now copied = record {
-  taken = n;
-  few = few;
-  all = all;
-  own = λ had. own_more t t2 n (f ∷ fs) copied had now all;
-  idle = λ none. absurd (none_open t.open_calls es e none there);
-  present = λ g gs here.
-      let same : e ≡ g = head_there e g es gs (sym there ∙ here) in
-      (f, ap (λ (xs : List Entry). slice_get xs (length t.ended)) now ∙ at_seam t.ended fs f, more ∙ ap (λ (x : Entry). x.call.charges + n) same);
-} where
-  all : charges_in (journal t2) ≡ charges_in (journal t) + n
-  all =
+-- what a turn took its own calls took
+pub own_spent : (n : ℕ) (t t2 : Tenant) → Spends n t t2 → t2.copied ≡ t.copied → t.copied ≤ length t.ended → charges_in (own_calls t2) ≡ charges_in (own_calls t) + n
+own_spent n t t2 spends same few = by_calls t.open_calls refl where
+  by_calls : (es : List Entry) → t.open_calls ≡ es → charges_in (own_calls t2) ≡ charges_in (own_calls t) + n
+  by_calls [] none =
+      let (nothing, journals) = spends.idle none in
+      let own : charges_in (own_calls t2) ≡ charges_in (own_calls t) = ap (λ k. charges_in (drop k (journal t2))) same ∙ ap (λ (xs : List Entry). charges_in (drop t.copied xs)) journals in
+      omega (arith, own, nothing)
+  by_calls (e ∷ es) there =
+      let (f, fs, now, more, rest) = spends.present e es there in
       let was : charges_in (journal t) ≡ charges_in (t.ended ++ e ∷ es) = ap (λ (xs : List Entry). charges_in (t.ended ++ xs)) there in
       let is : charges_in (journal t2) ≡ charges_in (t.ended ++ f ∷ fs) = ap charges_in now in
-      omega (arith, was, is, more, rest, middle t.ended es e, middle t.ended fs f)
-
-pub closed_journal : {s : Space} {t t2 : Tenant} {e : Entry} {es : List Entry} {r : Rest} → Closes s t e es r t2
-    → (fs : List Entry) × (charges_in fs ≡ charges_in es) × (journal t2 ≡ t.ended ++ e ∷ fs)
-closed_journal {t = t} {e = e} {es = es} (faces_next alive f) = (es, refl, append_assoc t.ended (e ∷ []) es)
-closed_journal {t = t} {e = e} {es = es} (is_dead died) =
-    let fs = map (λ (w : Entry). ended_by w dead) es in
-    (fs ++ [], omega (arith, sum_by-append charges_at fs [], dead_charges es), append_assoc t.ended (e ∷ fs) [])
+      own_more t t2 n (f ∷ fs) same few now (omega (arith, was, is, more, same_sum fs es rest, middle t.ended es e, middle t.ended fs f))
 
 pub closed_copied : {s : Space} {t t2 : Tenant} {e : Entry} {es : List Entry} {r : Rest} → Closes s t e es r t2 → t2.copied ≡ t.copied
 closed_copied (faces_next alive f) = refl
 closed_copied (is_dead died) = refl
-
-stays : (q : ℕ) (t : Tenant) → Spends q t t
-stays q t = record {
-  taken = 0;
-  few = omega arith;
-  all = omega arith;
-  own = λ had. omega arith;
-  idle = λ none. refl;
-  present = λ e es there. (e, ap (λ (xs : List Entry). slice_get (t.ended ++ xs) (length t.ended)) there ∙ at_seam t.ended es e, omega arith);
-}
-
-pub turn_spends : (q : ℕ) (s s2 : Space) (t t2 : Tenant) (answer : TurnEnd) → Turn q s t answer s2 t2 → Spends q t t2
-turn_spends q s s2 t t2 answer (is_idle none) = stays q t
-turn_spends q s s2 t t2 answer (has_ended {e = e} {es = es} {o = o} {k = k} {n = n} there g leaves pins c) =
-    let j = closed_journal c in
-    goes_further q t t2 e (ended_by (gone_further e k n) o) es j.0 n (within_turn g) there refl j.1 j.2 (closed_copied c)
-turn_spends q s s2 t t2 answer (has_no_fuel {e = e} {es = es} {k = k} {n = n} there g leaves pins) =
-    goes_further q t t2 e (gone_further e k n) es es n (within_turn g) there refl refl refl refl
-turn_spends q s s2 t t2 answer (has_no_frame {e = e} {es = es} {k = k} {n = n} there g leaves pins) =
-    goes_further q t t2 e (gone_further e k n) es es n (within_turn g) there refl refl refl refl
-turn_spends q s s2 t t2 answer (can_go_on {e = e} {es = es} {k = k} {n = n} there g leaves pins fault) =
-    goes_further q t t2 e (gone_further e k n) es es n (within_turn g) there refl refl refl refl
-turn_spends q s s2 t t2 answer (keeps_its_fault there stands doing none next fuel ready) = stays q t
 
 -- the calls that were copied with an instance have ended still
 more_ended : (n : ℕ) (es fs : List Entry) → n ≤ length es → n ≤ length (es ++ fs)
@@ -201,7 +139,7 @@ live_most (Some t ∷ ts) = let few = live_most ts in omega (arith, few)
 pub taken_none : (w : World) → HasTaken w 0 w
 taken_none w = record { charges = omega arith; live = refl; admitted = refl }
 
--- one instance has taken so many more
+-- one instance has taken n more
 pub taken_by_one : (w : World) (i n : ℕ) (t t2 : Tenant) (s : Space) → tenant w i ≡ Some t → charges_in (own_calls t2) ≡ charges_in (own_calls t) + n
     → HasTaken w n (with_tenant w i (Some t2) s)
 taken_by_one w i n t t2 s there more = record {
@@ -209,6 +147,15 @@ taken_by_one w i n t t2 s there more = record {
   live = set_live w.tenants i t t2 there;
   admitted = set_length w.tenants i (Some t2);
 }
+
+-- a turn has taken what it spent
+pub turn_taken : (w w2 : World) (id : InstId) (q n : ℕ) (end : TurnEnd) → IsTurn w id q end w2 → HasSpent w id n w2 → ((t : Tenant) → IsLive w id t → t.copied ≤ length t.ended) → HasTaken w n w2
+turn_taken w w2 id q n end (of_none none) spent had = let nothing = spent.0 none in subst (λ i. HasTaken w i w) (sym nothing) (taken_none w)
+turn_taken w w2 id q n end (of_one {t = t} {t2 = t2} {s2 = s2} live turn) spent had =
+    let stays = turn_stays q w.space s2 t t2 end turn in
+    let within = some_within w.tenants id.number t live.0 in
+    let live2 : IsLive (with_tenant w id.number (Some t2) s2) id t2 = (get_or-set_same w.tenants id.number (Some t2) None within, stays.place ∙ live.1) in
+    taken_by_one w id.number n t t2 s2 live.0 (own_spent n t t2 (spent.1 t t2 live live2) stays.copied (had t live))
 
 pub fits_taken : (w w2 : World) (n total : ℕ) → HasTaken w n w2 → FitsBook w total → FitsBook w2 (total + n)
 fits_taken w w2 n total h f = record {

@@ -2,14 +2,11 @@
 use Rattle.std.proofs.Common.{◌≡◌, ℕ, List, [], ◌++◌, Option, refl, sym, subst, ◌∙◌}
 use Rattle.std.proofs.lemmas.Option.{same_Some}
 use Rattle.std.specs.Prelude.{Result, Ok, Err}
-use Rattle.wh_host_model.specs.declared.plain.InstId.{InstId}
-use Rattle.wh_host_model.specs.declared.plain.SwapError.{SwapError}
+use Rattle.wh_space_model.specs.declared.plain.InstId.{InstId}
+use Rattle.wh_space_model.specs.declared.plain.SwapError.{SwapError}
 use Rattle.wh_host_model.specs.declared.plain.TurnEnd.{TurnEnd}
-use Rattle.wh_host_model.specs.Space.Parts.{Space}
-use Rattle.wh_host_model.specs.Host.Worlds.{Tenant, World}
-use Rattle.wh_host_model.specs.Host.Events.{Event, evict_commit, fetch_commit, offer, provide, turn}
-use Rattle.wh_host_model.specs.Host.Happens.{AwaitsFrame, AwaitsFrameFor}
-use Rattle.wh_host_model.specs.Host.Misreading.{by_event, by_misreading}
+use Rattle.wh_space_model.specs.{Space}
+use Rattle.wh_host_model.specs.Host.{Tenant, World, Event, evict_commit, fetch_commit, offer, provide, turn, AwaitsFrame, AwaitsFrameFor, by_event, by_misreading}
 use Rattle.wh_swap.specs.DeviceCalls.{ServesOn, call_faults}
 use Rattle.wh_reclaim.specs.Whole.{IsAsWhole}
 use Rattle.wh_reclaim.proofs.DeviceCalls.{serves_still, serves_then}

@@ -1,17 +1,11 @@
 -- Work leads on.
 use Rattle.std.proofs.Common.{◌≡◌, inl, inr, List, [], ◌∷◌, ◌++◌, refl, sym, ap, subst, ◌∙◌, append_assoc, append-nil}
-use Rattle.wh_host_model.specs.declared.plain.SwapError.{SwapError}
-use Rattle.wh_host_model.specs.Host.Worlds.{World}
-use Rattle.wh_host_model.specs.Host.Events.{Event}
-use Rattle.wh_host_model.specs.Host.Happens.{AllHappen, Happens}
-use Rattle.wh_host_model.specs.Host.Misreading.{Step, by_event, Befalls}
+use Rattle.wh_space_model.specs.declared.plain.SwapError.{SwapError}
+use Rattle.wh_host_model.specs.Host.{World, Event, AllHappen, Step, by_event, Befalls}
+use Rattle.wh_host_model.specs.Host.Happens.{Happens}
 use Rattle.wh_cell.specs.Going.{IsPartOf, IsWork, IsWorkOrMisread, AllWork, AllWorkAnyhow, fault_in, faults_in, WorksTo, WorksAnyhowTo}
 
 -- ---- a part of a list
-
-pub part_nothing : {X : Type 0} (xs : List X) → IsPartOf xs [] → xs ≡ []
-part_nothing [] is = refl
-part_nothing (x ∷ xs) is = absurd is
 
 part_more : {X : Type 0} (xs ys : List X) (y : X) → IsPartOf xs ys → IsPartOf xs (y ∷ ys)
 part_more [] ys y is = tt

@@ -1,9 +1,7 @@
 -- Events that lead on from a host to which events alone led.
 use Rattle.std.proofs.Common.{List, [], ◌∷◌, refl}
-use Rattle.wh_host_model.specs.declared.plain.SwapError.{SwapError}
-use Rattle.wh_host_model.specs.Host.Events.{Event}
-use Rattle.wh_host_model.specs.Host.Happens.{AllHappen}
-use Rattle.wh_host_model.specs.Host.Worlds.{World, empty_world}
+use Rattle.wh_space_model.specs.declared.plain.SwapError.{SwapError}
+use Rattle.wh_host_model.specs.Host.{Event, AllHappen, World, empty_world}
 use Rattle.wh_host.specs.Hosting.{HostState, IsReached}
 use Rattle.wh_host.specs.Requests.{LeadsByRequest}
 use Rattle.wh_host.specs.Showing.{RepresentsReached}

@@ -9,5 +9,4 @@ pub mod Led
 pub mod Passing
 pub mod Requested
 pub mod Steps
-pub mod Turned
 pub mod RoundTurns

@@ -2,14 +2,11 @@
 use Rattle.std.proofs.Common.{◌≡◌, ◌∙◌, zero, suc, arith, ◌∷◌, ℕ, List, [], Bool, cond, Option, Some, None, length, map, slice_set, inl, inr, refl, sym, ap, subst}
 use Rattle.std.proofs.lemmas.List.{length-set, map-set}
 use Rattle.wh_model.specs.declared.memory.Need.{Need}
-use Rattle.wh_host_model.specs.declared.states.EvictEnd.{EvictEnd}
-use Rattle.wh_host_model.specs.declared.states.FetchEnd.{FetchEnd}
-use Rattle.wh_host_model.specs.declared.states.Slot.{Slot}
-use Rattle.wh_host_model.specs.declared.states.Slot.TheVariants.{Evicting, EvictVoid, Fetching, FetchVoid, Taken, Vacant}
-use Rattle.wh_host_model.specs.Frames.{tally}
-use Rattle.wh_host_model.specs.Space.Errands.{Errand, Pass, errand_for, is_ticket, pass_of, to_read, to_write}
-use Rattle.wh_host_model.specs.Space.Parts.{Slots, Space}
-use Rattle.wh_host_model.specs.Space.Tickets.{BeginsEvict, BeginsFetch, CommitsEvict, CommitsFetch, Reserves}
+use Rattle.wh_space_model.specs.declared.states.EvictEnd.{EvictEnd}
+use Rattle.wh_space_model.specs.declared.states.FetchEnd.{FetchEnd}
+use Rattle.wh_space_model.specs.declared.states.Slot.{Slot}
+use Rattle.wh_space_model.specs.declared.states.Slot.TheVariants.{Evicting, EvictVoid, Fetching, FetchVoid, Taken, Vacant}
+use Rattle.wh_space_model.specs.{tally, Errand, Pass, errand_for, is_ticket, pass_of, to_read, to_write, Slots, Space, BeginsEvict, BeginsFetch, CommitsEvict, CommitsFetch, Reserves}
 use Rattle.wh_reclaim.specs.Together.{AreTogether}
 use Rattle.wh_reclaim.specs.Whole.{IsAsWhole}
 use Rattle.wh_host.specs.TicketsOut.{EndsEvict}

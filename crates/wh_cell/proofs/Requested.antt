@@ -1,24 +1,19 @@
 -- What requests, and pages that move, make of the book that fits the charges of a host.
 use Rattle.std.proofs.Common.{◌≡◌, ◌≢◌, ℕ, ◌+◌, ◌≤◌, length, List, [], ◌∷◌, ◌++◌, Option, Some, refl, sym, ap, subst, ◌∙◌, arith, ℤ}
 use Rattle.std.proofs.lemmas.List.Sums.{sum_by-cons, sum_by-append}
-use Rattle.wh_model.specs.Format.Syntax.{Module}
+use Rattle.wh_model.specs.Format.{Module}
 use Rattle.wh_model.specs.Execution.Store.{Instance, Store}
-use Rattle.wh_model.specs.Execution.Instance.{Piece}
-use Rattle.wh_model.specs.Execution.Replay.{cancelled}
-use Rattle.wh_host_model.specs.declared.plain.InstId.{InstId}
-use Rattle.wh_host_model.specs.declared.plain.SwapError.{SwapError}
-use Rattle.wh_host_model.specs.Space.Parts.{Space}
-use Rattle.wh_host_model.specs.Host.Worlds.{Doing, Tenant, World, journal, own_calls, tenant, for_device}
-use Rattle.wh_host_model.specs.Owners.{Entry, new_entry}
-use Rattle.wh_host_model.specs.Owners.{Params, Quota, call_open}
-use Rattle.wh_host_model.specs.Host.Forking.{Forks}
-use Rattle.wh_host_model.specs.Host.OwnerCalls.{TakesCall, more_fuel, Refuels, has_more, Cancels, Retries, may_try}
+use Rattle.wh_model.specs.Execution.{Piece, cancelled}
+use Rattle.wh_space_model.specs.declared.plain.InstId.{InstId}
+use Rattle.wh_space_model.specs.declared.plain.SwapError.{SwapError}
+use Rattle.wh_space_model.specs.{Space}
+use Rattle.wh_host_model.specs.Host.{Doing, Tenant, World, journal, own_calls, tenant, for_device, Forks, TakesCall, more_fuel, Refuels, has_more, Cancels, Retries, may_try, StartsAs, writes, runs, IsFork, ForkAnswer, is_forked, isnt_forked, no_memory_to_fork, no_one_to_fork, IsLoad, is_loaded, isnt_loaded, no_memory_to_load, LoadAnswer, IsAdmit, is_admitted, isnt_admitted, no_memory_to_admit, AdmitAnswer, IsInvoke, is_invoked, has_no_instance, isnt_invoked, no_memory_to_invoke, InvokeAnswer, CallAnswer, IsRefuel, is_refueled, no_one_to_refuel, no_call_to_refuel, IsCancel, is_cancelled, no_one_to_cancel, no_call_to_cancel, IsRetry, is_retried, no_one_to_retry, no_fault_to_retry, IsRelease, is_released, no_one_to_release, MovesPages, moved, has_failed, OnlyMoves, UnloadAnswer, IsUnload, is_unloaded, no_module_to_unload, is_in_use, IsMisread}
+use Rattle.wh_host_model.specs.{Entry, new_entry, Params, Quota, call_open}
 use Rattle.wh_host_model.specs.Host.OwnerCalls as calls
-use Rattle.wh_host_model.specs.Host.Admission.{StartsAs, writes, runs, ends}
-use Rattle.wh_host_model.specs.Host.Happens.{IsFork, ForkAnswer, is_forked, isnt_forked, no_memory_to_fork, no_one_to_fork, IsLoad, is_loaded, isnt_loaded, no_memory_to_load, LoadAnswer, IsAdmit, is_admitted, isnt_admitted, no_memory_to_admit, AdmitAnswer, IsInvoke, is_invoked, has_no_instance, isnt_invoked, no_memory_to_invoke, InvokeAnswer, CallAnswer, IsRefuel, is_refueled, no_one_to_refuel, no_call_to_refuel, IsCancel, is_cancelled, no_one_to_cancel, no_call_to_cancel, IsRetry, is_retried, no_one_to_retry, no_fault_to_retry, IsRelease, is_released, no_one_to_release, MovesPages, moved, has_failed, OnlyMoves, UnloadAnswer, IsUnload, is_unloaded, no_module_to_unload, is_in_use}
-use Rattle.wh_host_model.specs.Host.Misreading.{IsMisread}
+use Rattle.wh_host_model.specs.Host.Admission.{ends}
+use Rattle.wh_host.proofs.Spending.{spends_closed, spends_on}
 use Rattle.wh_cell.specs.Charging.{charges_in, FitsBook, HasTaken}
-use Rattle.wh_cell.proofs.Counted.{charges_at, middle, closed_copied, closed_journal, copy_has_none, own_more, taken_by_one, fits_taken, fits_new, fits_gone}
+use Rattle.wh_cell.proofs.Counted.{charges_at, closed_copied, copy_has_none, own_more, own_spent, taken_by_one, fits_taken, fits_new, fits_gone}
 
 -- the calls that were copied with an instance have ended
 abbrev pub HasCopiedEnded : World → Type 0
@@ -66,15 +61,10 @@ invoke_fits w w2 id name given fuel answer total had (has_no_instance none) f = 
 invoke_fits w w2 id name given fuel answer total had (isnt_invoked live is first) f = f
 invoke_fits w w2 id name given fuel answer total had (no_memory_to_invoke live is none) f = f
 
--- the present call is another one that has taken as many
-like_first : (t t2 : Tenant) (e f : Entry) (es : List Entry) → t.open_calls ≡ e ∷ es → f.call.charges ≡ e.call.charges → journal t2 ≡ t.ended ++ f ∷ es → charges_in (journal t2) ≡ charges_in (journal t) + 0
-like_first t t2 e f es there same now =
-    let was : charges_in (journal t) ≡ charges_in (t.ended ++ e ∷ es) = ap (λ (xs : List Entry). charges_in (t.ended ++ xs)) there in
-    let is : charges_in (journal t2) ≡ charges_in (t.ended ++ f ∷ es) = ap charges_in now in
-    omega (arith, was, is, same, middle t.ended es e, middle t.ended es f)
-
 refuels_none : {t : Tenant} {n : ℕ} {t2 : Tenant} → Refuels t n t2 → t.copied ≤ length t.ended → charges_in (own_calls t2) ≡ charges_in (own_calls t) + 0
-refuels_none {t = t} {n = n} {t2 = t2} (has_more {e = e} {es = es} there stands) had = own_more t t2 0 (more_fuel e n ∷ es) refl had refl (like_first t t2 e (more_fuel e n) es there refl refl)
+refuels_none {t = t} {n = n} {t2 = t2} (has_more {e = e} {es = es} there stands) had =
+    let same : (more_fuel e n).call.charges ≡ e.call.charges = refl in
+    own_spent 0 t t2 (spends_on 0 t t2 e (more_fuel e n) es es there refl (omega (arith, same)) refl) refl had
 
 pub refuel_fits : (w w2 : World) (id : InstId) (n : ℕ) (answer : CallAnswer) (total : ℕ) → HasCopiedEnded w → IsRefuel w id n answer w2 → FitsBook w total → FitsBook w2 total
 refuel_fits w w2 id n answer total had (is_refueled {t = t} {t2 = t2} live has) f = fits_still w w2 total (taken_by_one w id.number 0 t t2 w.space live.0 (refuels_none has (had id.number t live.0))) f
@@ -83,11 +73,9 @@ refuel_fits w w2 id n answer total had (no_call_to_refuel live none) f = f
 
 cancels_none : {s s2 : Space} {t t2 : Tenant} → Cancels s t s2 t2 → t.copied ≤ length t.ended → charges_in (own_calls t2) ≡ charges_in (own_calls t) + 0
 cancels_none {t = t} {t2 = t2} (calls.ends {e = e} {es = es} there stands pins closes) had =
-    let j = closed_journal closes in
-    let was : charges_in (journal t) ≡ charges_in (t.ended ++ e ∷ es) = ap (λ (xs : List Entry). charges_in (t.ended ++ xs)) there in
-    let is = ap charges_in j.2 in
-    let all : charges_in (journal t2) ≡ charges_in (journal t) + 0 = omega (arith, was, is, j.1, middle t.ended es e, middle t.ended j.0 (record e { call = record e.call { outcome = cancelled } })) in
-    own_more t t2 0 _ (closed_copied closes) had j.2 all
+    let f : Entry = record e { call = record e.call { outcome = cancelled } } in
+    let same : f.call.charges ≡ e.call.charges = refl in
+    own_spent 0 t t2 (spends_closed 0 t t2 e f es there closes (omega (arith, same))) (closed_copied closes) had
 
 pub cancel_fits : (w w2 : World) (id : InstId) (answer : CallAnswer) (total : ℕ) → HasCopiedEnded w → IsCancel w id answer w2 → FitsBook w total → FitsBook w2 total
 cancel_fits w w2 id answer total had (is_cancelled {t = t} {t2 = t2} {s2 = s2} live has) f = fits_still w w2 total (taken_by_one w id.number 0 t t2 s2 live.0 (cancels_none has (had id.number t live.0))) f

@@ -4,23 +4,18 @@ use Rattle.std.proofs.Math.Nat.{mul-le-mul_left, one-mul, suc-mul}
 use Rattle.std.proofs.lemmas.Bool.{cases_eq, cases_lt}
 use Rattle.std.proofs.lemmas.List.{get_or-set_same}
 use Rattle.std.proofs.lemmas.List.Sums.{sum_by-append, sum_by-cons}
-use Rattle.wh_host_model.specs.declared.plain.InstId.{InstId}
+use Rattle.wh_space_model.specs.declared.plain.InstId.{InstId}
 use Rattle.wh_host_model.specs.declared.plain.TurnEnd.{TurnEnd}
 use Rattle.wh_host_model.specs.declared.plain.TurnEnd.TheVariants.{Again}
-use Rattle.wh_host_model.specs.Host.Events.{turn}
-use Rattle.wh_host_model.specs.Host.CallAnswers.{Turn, can_go_on, has_ended, has_no_frame, has_no_fuel, is_idle, keeps_its_fault}
-use Rattle.wh_host_model.specs.Host.Happens.{IsLive, IsTurn, of_none, of_one}
-use Rattle.wh_host_model.specs.Host.Suspensions.{CanGoOn}
-use Rattle.wh_host_model.specs.Host.Worlds.{Tenant, World, for_device, for_frame, with_tenant}
-use Rattle.wh_host_model.specs.Owners.{Entry}
-use Rattle.wh_host_model.specs.Space.Parts.{Space}
-use Rattle.wh_host_model.proofs.Space.Putting.{set_other, set_same, there_of}
+use Rattle.wh_host_model.specs.Host.{turn, Turn, can_go_on, has_ended, has_no_frame, has_no_fuel, is_idle, keeps_its_fault, IsLive, IsTurn, of_none, of_one, CanGoOn, Tenant, World, for_device, for_frame, with_tenant}
+use Rattle.wh_space_model.specs.{Space}
+use Rattle.wh_space_model.proofs.Putting.{set_other, set_same, there_of}
 use Rattle.wh_host.specs.declared.rounds.Runner.{Runner}
 use Rattle.wh_host.specs.declared.rounds.SeriesEnd.{SeriesEnd}
 use Rattle.wh_host.specs.Hosting.{HostState, IsHost}
 use Rattle.wh_host.specs.Paging.{IsGoing}
 use Rattle.wh_host.specs.Rounds.{AllTurn, RunnersStay, TakesTurns}
-use Rattle.wh_host.specs.Series.{HasSpent, IsWholeOrCut, SeriesOf, Spends as SpendsIn, last_turn, turn_before}
+use Rattle.wh_host.specs.Series.{HasSpent, IsWholeOrCut, SeriesOf, last_turn, turn_before}
 use Rattle.wh_host.proofs.Hosts.{at_place, some_within, turn_stays}
 use Rattle.wh_threads.specs.Working.{ReceivedTurnsState}
 use Rattle.wh_cell.specs.Charging.{HasTaken}
@@ -28,10 +23,9 @@ use Rattle.wh_cell.specs.Going.{WorksTo}
 use Rattle.wh_cell.specs.LeftByOwner.{HasTakenOn, WorksOn}
 use Rattle.wh_cell.specs.RoundCounts.{AreFewEach, AreReceived, charges_by_turns, charges_of_round, turns_by, turns_of_round}
 use Rattle.wh_cell.proofs.Alike.{taken_each}
-use Rattle.wh_cell.proofs.Counted.{Spends, taken_by_one, taken_none, turn_lasts, turn_spends}
+use Rattle.wh_cell.proofs.Counted.{taken_none, turn_lasts, turn_taken}
 use Rattle.wh_cell.proofs.Asked.{copied_ended}
 use Rattle.wh_cell.proofs.Requested.{HasCopiedEnded}
-use Rattle.wh_host_model.specs.Space.Parts.{Space}
 use Rattle.wh_cell.proofs.Going.{works_by, works_on, works_to_itself}
 
 -- ---- charges
@@ -43,25 +37,9 @@ taken_then w mid w2 a b x y = record {
   admitted = y.admitted ∙ x.admitted;
 }
 
--- both say how many charges it took
-same_spent : (few n : ℕ) (t t2 : Tenant) → (s : Spends few t t2) → SpendsIn n t t2 → s.taken ≡ n
-same_spent few n t t2 s spends = by_calls t.open_calls refl where
-  by_calls : (es : List Entry) → t.open_calls ≡ es → s.taken ≡ n
-  by_calls [] is = s.idle is ∙ sym (spends.idle is)
-  by_calls (e ∷ es) is =
-      let a = s.present e es is in
-      let b = spends.present e es is in
-      let both : Some a.0 ≡ Some b.0 = sym a.1 ∙ b.1 in
-      let same : a.0 ≡ b.0 = cc both in
-      let charges = ap (λ (x : Entry). x.call.charges) same in
-      let first = a.2 in
-      let then = b.2 in
-      omega (arith, charges, first, then)
-
-record Took (w : World) (few n : ℕ) (w2 : World) : Type 0 where
+record Took (w : World) (n : ℕ) (w2 : World) : Type 0 where
   taken : HasCopiedEnded w → HasTaken w n w2
   ended : HasCopiedEnded w → HasCopiedEnded w2
-  least : n ≤ few
 
 turn_ended : (w : World) (id : InstId) (t t2 : Tenant) (s : Space) → IsLive w id t → (t.copied ≤ length t.ended → t2.copied ≤ length t2.ended) → HasCopiedEnded w → HasCopiedEnded (with_tenant w id.number (Some t2) s)
 turn_ended w id t t2 s live lasts had j u there = elim (at_place w.tenants id.number j (Some t2) t u live.0 there) [
@@ -69,22 +47,15 @@ turn_ended w id t t2 s live lasts had j u there = elim (at_place w.tenants id.nu
   | inr (other, was) ↦ had j u was
 ]
 
-turn_took : (w w2 : World) (id : InstId) (few n : ℕ) (end : TurnEnd) → IsTurn w id few end w2 → HasSpent w id n w2 → Took w few n w2
-turn_took w w2 id few n end (of_none none) spent =
-    let is = spent.0 none in
-    record { taken = λ had. subst (λ i. HasTaken w i w) (sym is) (taken_none w); ended = λ had. had; least = omega (arith, is) }
-turn_took w w2 id few n end (of_one {t = t} {t2 = t2} {s2 = s2} live happens) spent =
-    let s = turn_spends few w.space s2 t t2 end happens in
-    let within = some_within w.tenants id.number t live.0 in
-    let stays = turn_stays few w.space s2 t t2 end happens in
-    let live2 : IsLive (with_tenant w id.number (Some t2) s2) id t2 = (get_or-set_same w.tenants id.number (Some t2) None within, stays.place ∙ live.1) in
-    let same = same_spent few n t t2 s (spent.1 t t2 live live2) in
-    let f = s.few in
-    record {
-      taken = λ had. subst (λ i. HasTaken w i (with_tenant w id.number (Some t2) s2)) same (taken_by_one w id.number s.taken t t2 s2 live.0 (s.own (had id.number t live.0)));
-      ended = turn_ended w id t t2 s2 live (turn_lasts few w.space s2 t t2 end happens);
-      least = omega (arith, same, f);
-    }
+still_ended : (w w2 : World) (id : InstId) (q : ℕ) (end : TurnEnd) → IsTurn w id q end w2 → HasCopiedEnded w → HasCopiedEnded w2
+still_ended w w2 id q end (of_none none) had = had
+still_ended w w2 id q end (of_one {t = t} {t2 = t2} {s2 = s2} live happens) had = turn_ended w id t t2 s2 live (turn_lasts q w.space s2 t t2 end happens) had
+
+turn_took : (w w2 : World) (id : InstId) (q n : ℕ) (end : TurnEnd) → IsTurn w id q end w2 → HasSpent w id n w2 → Took w n w2
+turn_took w w2 id q n end happens spent = record {
+  taken = λ had. turn_taken w w2 id q n end happens spent (λ t live. had id.number t live.0);
+  ended = still_ended w w2 id q end happens;
+}
 
 -- ---- who can go on still can behind a turn that says so
 
@@ -120,27 +91,25 @@ at_most q few n end (inl same) = omega (arith, same)
 at_most q few n end (inr (least, taken, again)) = least
 
 series_took : (q : ℕ) (id : InstId) (w w2 : World) (turns n : ℕ) (end : TurnEnd) → IsGoing w id → SeriesOf q id w turns n end w2 → SeriesTook q w turns n w2
-series_took q id w w2 turns n end goes (last_turn {few = few} whole happens spent) =
+series_took q id w w2 turns n end goes (last_turn {few = few} whole least happens spent) =
     let t = turn_took w w2 id few n end happens spent in
     let one = one-mul q in
-    let least = t.least in
     let most = at_most q few n end whole in
     record { taken = t.taken; ended = t.ended; few = omega (arith, one, least, most); works = works_by w w2 (turn id few) goes (end, happens) }
 series_took q id w w2 turns n end goes (turn_before {mid = mid} {turns = rest} {more = more} happens spent series) =
     let t = turn_took w mid id q q Again happens spent in
     let r = series_took q id mid w2 rest more end (going_again w mid id q Again happens refl goes) series in
     let grows = suc-mul rest q in
-    let left = r.few in
     record {
       taken = λ had. taken_then w mid w2 q more (t.taken had) (r.taken (t.ended had));
       ended = λ had. r.ended (t.ended had);
-      few = omega (arith, grows, left);
+      few = omega (arith, grows, r.few);
       works = works_on w mid w2 [] [] (works_by w mid (turn id q) goes (Again, happens)) r.works;
     }
 
 -- ---- rounds
 
--- so many charges were taken, and the calls that were copied have ended still
+-- n charges were taken, and the calls that were copied have ended still
 abbrev TakesOn : World → ℕ → World → Type 0
 TakesOn w n w2 = HasCopiedEnded w → HasTaken w n w2 × HasCopiedEnded w2
 
@@ -193,10 +162,8 @@ are_few q many w w2 ys ys2 orders few least received stay all k y there =
     let o = received k was.0 was.1 in
     let f = few_each q many w w2 ys2 all k y there in
     let turns = f.turns in
-    let charges = f.charges in
-    let enough = o.4 in
     let grows : turns_by y.answer * q ≤ turns_by y.answer * 2 ^ 32 = mul-le-mul_left (turns_by y.answer) (omega (arith, few)) in
-    (o.0, o.1, omega (arith, turns, enough), omega (arith, turns, least), omega (arith, charges, grows))
+    (o.0, o.1, omega (arith, turns, o.4), omega (arith, turns, least), omega (arith, f.charges, grows))
 
 -- ---- they are counted one after the other
 

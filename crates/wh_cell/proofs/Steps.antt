@@ -2,18 +2,15 @@
 use Rattle.std.proofs.Common.{◌≡◌, ◌∙◌, inl, ℕ, ◌+◌, [], cond, get_or, length, slice_set, List, Option, Some, None, refl, sym, ap, subst}
 use Rattle.std.proofs.lemmas.Option.{same_Some}
 use Rattle.std.specs.Prelude.{Result, Ok, Err, OnOk, is_ok}
-use Rattle.wh_host_model.specs.declared.plain.InstId.{InstId}
-use Rattle.wh_host_model.specs.declared.plain.SwapError.{SwapError}
+use Rattle.wh_space_model.specs.declared.plain.InstId.{InstId}
+use Rattle.wh_space_model.specs.declared.plain.SwapError.{SwapError}
 use Rattle.wh_host_model.specs.declared.plain.TurnEnd.{TurnEnd}
-use Rattle.wh_host_model.specs.declared.states.EvictEnd.{EvictEnd}
-use Rattle.wh_host_model.specs.declared.states.EvictEnd.TheVariants.{Evicted, Void, Failed}
-use Rattle.wh_host_model.specs.declared.states.FetchEnd.{FetchEnd}
-use Rattle.wh_host_model.specs.declared.states.FetchEnd.TheVariants.{Fetched, Void as FetchIsVoid, Failed as FetchHasFailed}
-use Rattle.wh_host_model.specs.Host.Happens.{AwaitsFrame, AwaitsFrameFor}
-use Rattle.wh_host_model.specs.Host.Worlds.{World}
-use Rattle.wh_host_model.specs.Space.Errands.{Errand, Pass, pass_of, tickets}
-use Rattle.wh_host_model.specs.Space.Parts.{Space}
-use Rattle.wh_host_model.specs.Space.Tickets.{CommitsFetch}
+use Rattle.wh_space_model.specs.declared.states.EvictEnd.{EvictEnd}
+use Rattle.wh_space_model.specs.declared.states.EvictEnd.TheVariants.{Evicted, Void, Failed}
+use Rattle.wh_space_model.specs.declared.states.FetchEnd.{FetchEnd}
+use Rattle.wh_space_model.specs.declared.states.FetchEnd.TheVariants.{Fetched, Void as FetchIsVoid, Failed as FetchHasFailed}
+use Rattle.wh_host_model.specs.Host.{AwaitsFrame, AwaitsFrameFor, World}
+use Rattle.wh_space_model.specs.{Errand, Pass, pass_of, tickets, Space, CommitsFetch}
 use Rattle.wh_reclaim.specs.Whole.{IsAsWhole}
 use Rattle.wh_host.specs.Backing.{KeepsBacking}
 use Rattle.wh_host.specs.TicketsOut.{EndsEvict, evict_fault, fetch_fault}
@@ -62,7 +59,7 @@ on_ok_always H P (Ok done) p h = p h
 on_ok_always H P (Err fault) p h = tt
 
 module _ {D : Type 0} (held : D → List (List ℕ)) (keeps honest : D → Type 0) (faults : D → List SwapError) where
-  -- work without a call of the device leads on, and takes so many charges
+  -- work without a call of the device leads on, and takes n charges
   pub worked_in_step : (l : LockedState D) (h2 : HostState) (books2 : BooksState) (taken : ℕ) → IsInStep held keeps honest faults l → (w : World) × IsHost h2 w
       → WorksOn l.host [] h2 → HasTakenOn l.host taken h2 → KeepsBacking l.host.space h2.space
       → books2.charges ≡ l.books.charges + taken → IsInStep held keeps honest faults (record l { host = h2; books = books2 })

@@ -1,10 +1,10 @@
 -- What a call of the swap device makes of it, and what is begun before one.
 use Rattle.std.specs.Prelude.{◌≡◌, ◌≢◌, ◌<◌, ℕ, cond, List, [], length, get_or, slice_get, slice_set, Some, Result, OnOk, is_ok}
 use Rattle.wh_model.specs.declared.memory.Need.{Need}
-use Rattle.wh_host_model.specs.declared.plain.InstId.{InstId}
-use Rattle.wh_host_model.specs.declared.plain.SwapError.{SwapError}
-use Rattle.wh_host_model.specs.Space.Errands.{Errand, to_read, to_write}
-use Rattle.wh_host_model.specs.Space.Laws.{IsProvided}
+use Rattle.wh_space_model.specs.declared.plain.InstId.{InstId}
+use Rattle.wh_space_model.specs.declared.plain.SwapError.{SwapError}
+use Rattle.wh_space_model.specs.Errands.{Errand, to_read, to_write}
+use Rattle.wh_space_model.specs.Laws.{IsProvided}
 use Rattle.wh_swap.specs.DeviceCalls.{ServesOn, call_faults}
 use Rattle.wh_host.specs.Hosting.{HostState}
 use Rattle.wh_host.specs.Paging.{WaitsFor}

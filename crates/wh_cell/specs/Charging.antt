@@ -17,12 +17,12 @@ charges_by (Some t) = charges_in (own_calls t)
 abbrev pub charged : World → ℕ
 charged w = sum_by charges_by w.tenants
 
--- so many charges are in the book: at least those of the live instances, and just those where none was released
+-- the charges in the book are at least those of the live instances, and just those where none was released
 pub record FitsBook (w : World) (total : ℕ) : Type 0 where
   pub least : charged w ≤ total
   pub whole : live_count w.tenants ≡ length w.tenants → charged w ≡ total
 
--- as many instances are there, of as many admitted, and their calls took so many charges more
+-- as many instances are there, of as many admitted, and their calls took `taken` charges more
 pub record HasTaken (w : World) (taken : ℕ) (w2 : World) : Type 0 where
   pub charges : charged w2 ≡ charged w + taken
   pub live : live_count w2.tenants ≡ live_count w.tenants

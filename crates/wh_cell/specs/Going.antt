@@ -1,7 +1,7 @@
 -- What befalls a host between two requests of its owner.
 use Rattle.std.specs.Prelude.{◌≡◌, ◌⊎◌, ℕ, List, [], ◌∷◌, ◌++◌, Option, Some, None}
-use Rattle.wh_host_model.specs.declared.plain.InstId.{InstId}
-use Rattle.wh_host_model.specs.declared.plain.SwapError.{SwapError}
+use Rattle.wh_space_model.specs.declared.plain.InstId.{InstId}
+use Rattle.wh_space_model.specs.declared.plain.SwapError.{SwapError}
 use Rattle.wh_host_model.specs.declared.plain.TurnEnd.{TurnEnd}
 use Rattle.wh_host_model.specs.declared.plain.TurnEnd.TheVariants.{Idle}
 use Rattle.wh_host_model.specs.Host.Worlds.{World}
@@ -31,7 +31,7 @@ IsWork w (fetch_begin id) = Unit {0}
 IsWork w (fetch_commit id call fault) = Unit {0}
 IsWork w (provide id fault) = Unit {0}
 
--- A turn of an instance that it can bring on. Who can't go on has none: nothing changes, and that is `Idle`.
+-- A turn of an instance that can make progress. One that can't has none: nothing changes, and that is `Idle`.
 pub data TurnsIfGoing (w : World) (id : InstId) (q : ℕ) : TurnEnd → World → Type 0 where
   has_turn : {answer : TurnEnd} {w2 : World} → IsGoing w id → IsTurn w id q answer w2 → TurnsIfGoing w id q answer w2
   has_none : ¬ (IsGoing w id) → TurnsIfGoing w id q Idle w

@@ -1,8 +1,8 @@
 -- What the lock of a host and that of its swap device agree on.
 use Rattle.std.specs.Prelude.{◌≡◌, ℕ, List, [], slice_set, Option, Some, None}
 use Rattle.std.specs.List.{AllByRecursion}
-use Rattle.wh_host_model.specs.Space.Errands.{Errand, pass_of}
-use Rattle.wh_host_model.specs.Space.Parts.{Space}
+use Rattle.wh_space_model.specs.Errands.{Errand, pass_of}
+use Rattle.wh_space_model.specs.Parts.{Space}
 
 -- the device as it was when its last call was settled, and by slot the ticket that is out
 pub record KnownState (D : Type 0) : Type 0 where

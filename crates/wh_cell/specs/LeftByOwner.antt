@@ -2,8 +2,8 @@
 use Rattle.std.specs.Prelude.{◌≡◌, ℕ, List, [], Option, Some, None, refl}
 use native.Mathlib.Nat.{le_refl}
 use Rattle.std.proofs.lemmas.Bool.{leb-true}
-use Rattle.wh_host_model.specs.declared.plain.SwapError.{SwapError}
-use Rattle.wh_host_model.specs.Space.Parts.{empty_space}
+use Rattle.wh_space_model.specs.declared.plain.SwapError.{SwapError}
+use Rattle.wh_space_model.specs.Parts.{empty_space}
 use Rattle.wh_host_model.specs.Host.Worlds.{World}
 use Rattle.wh_swap.specs.DeviceCalls.{ServesOn}
 use Rattle.wh_reclaim.specs.Whole.{IsAsWhole}
@@ -13,7 +13,7 @@ use Rattle.wh_cell.specs.Going.{WorksTo, WorksAnyhowTo}
 
 -- ---- the book
 
--- for whatever host it stands, so many charges in the book fit
+-- whatever host it represents, the charges in the book fit
 abbrev pub FitsHost : HostState → ℕ → Type 0
 FitsHost h total = (w : World) → IsHost h w → FitsBook w total
 
@@ -21,7 +21,7 @@ FitsHost h total = (w : World) → IsHost h w → FitsBook w total
 abbrev pub HasNoCharge : HostState → Type 0
 HasNoCharge h = (w : World) × IsHost h w × (charged w ≡ 0)
 
--- between whatever hosts for which they stand, so many charges were taken
+-- between whatever hosts they represent, `taken` charges were taken
 abbrev pub HasTakenOn : HostState → ℕ → HostState → Type 0
 HasTakenOn h taken h2 = (w w2 : World) → IsHost h w → IsHost h2 w2 → HasTaken w taken w2
 

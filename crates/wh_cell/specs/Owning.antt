@@ -1,6 +1,6 @@
 -- What the owner of a host learns of it.
 use Rattle.std.specs.Prelude.{◌≡◌, List, Some}
-use Rattle.wh_host_model.specs.declared.plain.SwapError.{SwapError}
+use Rattle.wh_space_model.specs.declared.plain.SwapError.{SwapError}
 use Rattle.wh_cell.specs.LeftByOwner.{ComesFrom, LeftState}
 
 -- the host and the device came by work from those before

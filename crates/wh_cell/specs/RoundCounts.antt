@@ -20,7 +20,7 @@ turns_of_round ys = sum_by (λ y. turns_by y.answer) ys
 abbrev pub charges_of_round : List Runner → ℕ
 charges_of_round ys = sum_by (λ y. charges_by_turns y.answer) ys
 
--- for each runner so many turns of its instance were received, or more, each of q charges at most
+-- for each runner `many` turns of its instance were received, or more, each of q charges at most
 abbrev pub AreReceived : ℕ → ℕ → List Runner → List ReceivedTurnsState → Type 0
 AreReceived q many ys orders =
     (k : ℕ) (y : Runner) → slice_get ys k ≡ Some y

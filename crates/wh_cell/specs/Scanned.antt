@@ -1,6 +1,6 @@
 -- A pass of the scanner over all pages of a host.
 use Rattle.std.specs.Prelude.{◌≡◌, ℕ, ◌+◌, Option, List, length, IfNone, IfSome, IsSome}
-use Rattle.wh_host_model.specs.Space.Scanning.{IsDistinct}
+use Rattle.wh_space_model.specs.Scanning.{IsDistinct}
 use Rattle.wh_scan.specs.Pass.{HasSoManyPages, MayPass, PassesOverAll, ScansAll}
 use Rattle.wh_host.specs.Backing.{KeepsBacking}
 use Rattle.wh_host.specs.Hosting.{HostState}
@@ -21,8 +21,8 @@ pub record IsScanned (hashes : List ℕ → ℕ) (h : HostState) (offered : Opti
   pub counts : IfSome offered (λ _. MayPass hashes h.space → (all : List (List ℕ)) → IsDistinct h2.space all
       → length all + length h2.space.pool.free ≡ length h2.space.pool.frames)
 
--- Of the host under the lock all pages were offered. A scanner that had counted so many offers counts these, and so does
--- the book; nothing else has changed.
+-- Of the host under the lock all pages were offered. A scanner that had counted `count` offers counts these, and so does the
+-- book; nothing else has changed.
 pub record ScansLocked {D : Type 0} (hashes : List ℕ → ℕ) (l : LockedState D) (count : ℕ) (offered : Option ℕ)
     (l2 : LockedState D) (count2 : ℕ) : Type 0 where
   pub moves : MovesOnly l.host l2.host

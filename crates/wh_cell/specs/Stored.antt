@@ -1,7 +1,7 @@
 -- What contracts see of an owner, and of what the lock lends, can be stored: as its parts.
 use Rattle.std.specs.Prelude.{◌≡◌, ℕ, Bool, true, false, List, Option, refl}
 use Rattle.std.specs.Coded.{Coded, code_by, coded_bool, coded_list, coded_option, coded_ℕ, coded×}
-use Rattle.wh_host_model.specs.Space.Errands.{Errand, to_read, to_write}
+use Rattle.wh_space_model.specs.Errands.{Errand, to_read, to_write}
 use Rattle.wh_host.specs.Hosting.{HostState}
 use Rattle.wh_host.specs.Stored.{stored_host}
 use Rattle.wh_cell.specs.Knowing.{BackingState, KnownState}

@@ -4,7 +4,7 @@ ghost use Rattle.std.specs.Prelude.{◌≡◌, Some};
 ghost use Rattle.wh_cell.specs.Knowing.{NoneOut, known_of};
 
 use crate::agreements::CellAgreements;
-use crate::keeper::Keeper;
+use crate::keeper::TicketRecord;
 use std::marker::Model;
 use wh_reclaim::Buf;
 use wh_swap::SwapDev;
@@ -17,7 +17,7 @@ pub struct Backing<D: SwapDev, B: CellAgreements> {
     pub(crate) device: D,
     // There is always one, but while a call is made.
     pub(crate) buf: Option<Buf>,
-    pub(crate) keeper: Keeper<D, B>,
+    pub(crate) keeper: TicketRecord<D, B>,
 }
 
 impl<D: SwapDev + Drop, B: CellAgreements> Drop for Backing<D, B> {
@@ -60,7 +60,7 @@ impl<D: SwapDev + Drop, B: CellAgreements> Backing<D, B> {
 }
 
 impl<D: SwapDev, B: CellAgreements> Backing<D, B> {
-    /// Holds while nobody has the device's lock: no ticket is out.
+    /// States what holds while nobody has the device's lock: no ticket is out. Does nothing when run.
     #[inline(always)]
     pub fn invariant(&self)
         ensures { NoneOut self.now.out }

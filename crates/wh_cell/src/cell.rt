@@ -24,14 +24,14 @@ use std::sync::ledger::{Blank, Ledger};
 use std::sync::{Arc, Mutex, MutexGuard, Wait};
 use std::thread;
 use wh_host::{Host, HostError, Roll};
-use wh_host_model::InstId;
 use wh_reclaim::Buf;
+use wh_space_model::InstId;
 use wh_swap::SwapDev;
 use wh_threads::{BlankAgreement, Helper, Shares};
 
 // What the handles of a cell share. Whoever takes both locks takes the device's first.
 #[derive(Drop)]
-struct Both<D: SwapDev, T: Ledger, C: Ledger, O: Ledger, E: Ledger, B: CellAgreements> {
+struct SharedLocks<D: SwapDev, T: Ledger, C: Ledger, O: Ledger, E: Ledger, B: CellAgreements> {
     locked: Mutex<Locked<D, T, C, O, E, B>>,
     backing: Mutex<Backing<D, B>>,
     wanted: AtomicU64,
@@ -40,7 +40,7 @@ struct Both<D: SwapDev, T: Ledger, C: Ledger, O: Ledger, E: Ledger, B: CellAgree
 /// Holds a host under a lock, with the books of what threads count, and its swap device under another. Each thread has its
 /// handle.
 pub struct HostCell<D: SwapDev, T: Ledger, C: Ledger, O: Ledger, E: Ledger, B: CellAgreements> {
-    both: Arc<Both<D, T, C, O, E, B>, Global>,
+    both: Arc<SharedLocks<D, T, C, O, E, B>, Global>,
 }
 
 impl<D: SwapDev + Drop, T: Ledger, C: Ledger, O: Ledger, E: Ledger, B: CellAgreements> Drop
@@ -50,7 +50,7 @@ impl<D: SwapDev + Drop, T: Ledger, C: Ledger, O: Ledger, E: Ledger, B: CellAgree
     }
 }
 
-/// What a cell is built from beside its host: its device, a buffer for pages that come, and what is to name its ledgers and its
+/// What a cell is built from besides its host: its device, a buffer for pages that come, and what is to name its ledgers and its
 /// agreements.
 #[derive(Drop)]
 pub struct CellParts<D> {
@@ -107,7 +107,7 @@ impl<D: SwapDev + Drop, T: Ledger, C: Ledger, O: Ledger, E: Ledger, B: CellAgree
     /// are all zero. All memory for the cell is taken here.
     ///
     /// # Errors
-    /// Where room was refused.
+    /// `AllocError` if an allocation fails.
     pub fn new(
         alloc: Global,
         host: Host,
@@ -144,7 +144,7 @@ impl<D: SwapDev + Drop, T: Ledger, C: Ledger, O: Ledger, E: Ledger, B: CellAgree
         locked: Locked<D, T, C, O, E, B>,
         backing: Backing<D, B>,
     ) -> Result<HostCell<D, T, C, O, E, B>, (Locked<D, T, C, O, E, B>, Backing<D, B>)> {
-        let both = Both {
+        let both = SharedLocks {
             locked: Mutex::new(locked),
             backing: Mutex::new(backing),
             wanted: AtomicU64::new(0),
@@ -152,7 +152,7 @@ impl<D: SwapDev + Drop, T: Ledger, C: Ledger, O: Ledger, E: Ledger, B: CellAgree
         match Arc::new(alloc, both) {
             Ok(both) => Ok(HostCell { both }),
             Err(failed) => {
-                let Both {
+                let SharedLocks {
                     locked,
                     backing,
                     wanted: _,
@@ -168,7 +168,7 @@ impl<D: SwapDev + Drop, T: Ledger, C: Ledger, O: Ledger, E: Ledger, B: CellAgree
         for _ in rt.forever() {
             match Arc::try_unwrap(both) {
                 Ok(last) => {
-                    let Both {
+                    let SharedLocks {
                         locked,
                         backing,
                         wanted: _,
@@ -202,7 +202,7 @@ impl<D: SwapDev, T: Ledger, C: Ledger, O: Ledger, E: Ledger, B: CellAgreements> 
         Ok(HostCell { both })
     }
 
-    /// Returns how many want the lock, or call the device for a move, beside those who lock it to work. While there are some, whoever
+    /// Returns how many want the lock, or call the device for a move, besides those who lock it to work. While there are some, whoever
     /// runs turns under the lock begins no further one, and a round ends.
     pub fn wanted(&self) -> &AtomicU64 {
         &self.both.wanted
@@ -234,10 +234,10 @@ impl<D: SwapDev, T: Ledger, C: Ledger, O: Ledger, E: Ledger, B: CellAgreements> 
         guard
     }
 
-    /// Moves a page for the next step of an instance that waits for a frame: from the device or to it, and while the device is
-    /// called for that the host's lock is free. Where none has to, or at `at_once`, makes the step ready under both locks. It is counted
-    /// among those who want the host's lock meanwhile. The reclaimer counts the pages that left. Returns `Ready` only where a provision
-    /// has made it so.
+    /// Moves one page toward making `id`'s next step ready, if its present call is blocked on a frame: fetches or
+    /// evicts it, and while the device is called for that the host's lock is free. If none has to be moved, or at
+    /// `at_once`, makes the step ready under both locks. It is counted among those who want the host's lock meanwhile.
+    /// The reclaimer counts the evictions. Returns `Ready` only if a provision has made it so.
     pub fn bring_nearer<R: Wait>(
         &self,
         rt: &R,

@@ -1,7 +1,7 @@
 //! Who keeps the swap device, and what host and device know of each other.
 
 ghost use Rattle.std.specs.Prelude.{◌≡◌, Some};
-ghost use Rattle.wh_host_model.specs.Space.Errands.{to_read, to_write};
+ghost use Rattle.wh_space_model.specs.Errands.{to_read, to_write};
 ghost use Rattle.wh_cell.specs.Knowing.{with_ticket, without_ticket};
 
 use crate::agreements::{CellAgreements, ToDevice};
@@ -56,7 +56,7 @@ struct GoesToWrite {
 
 impl<D> Change<AgreedDevice<D>> for GoesToWrite {
     ghost use Rattle.wh_cell.specs.Knowing.{with_ticket};
-    ghost use Rattle.wh_host_model.specs.Space.Errands.{to_write};
+    ghost use Rattle.wh_space_model.specs.Errands.{to_write};
 
     ghost after = { λ c known. with_ticket known c.slot to_write };
 }
@@ -69,7 +69,7 @@ struct GoesToRead {
 
 impl<D> Change<AgreedDevice<D>> for GoesToRead {
     ghost use Rattle.wh_cell.specs.Knowing.{with_ticket};
-    ghost use Rattle.wh_host_model.specs.Space.Errands.{to_read};
+    ghost use Rattle.wh_space_model.specs.Errands.{to_read};
 
     ghost after = { λ c known. with_ticket known c.slot to_read };
 }
@@ -113,12 +113,12 @@ pub type DeviceHalf<D, B> = AgreementHalf<ToDevice<B>, AgreedDevice<D>>;
 /// Keeps, beside the device, what contracts see of the host: which tickets are out. It takes no bytes but those of the
 /// agreement.
 #[derive(Drop)]
-pub struct Keeper<D, B: CellAgreements> {
+pub struct TicketRecord<D, B: CellAgreements> {
     agreement: Agreement<ToDevice<B>, AgreedDevice<D>>,
     half: DeviceHalf<D, B>,
 }
 
-impl<D, B: CellAgreements> Model for Keeper<D, B> {
+impl<D, B: CellAgreements> Model for TicketRecord<D, B> {
     ghost use Rattle.wh_cell.specs.Knowing.{KnownState};
 
     ghost Value = { KnownState D };
@@ -130,15 +130,15 @@ impl<D, B: CellAgreements> Model for Keeper<D, B> {
     ghost view = { λ k. k.half };
 }
 
-impl<D: SwapDev, B: CellAgreements> Keeper<D, B> {
+impl<D: SwapDev, B: CellAgreements> TicketRecord<D, B> {
     // Who holds this half of the agreement.
     pub(crate) fn with(
         agreement: Agreement<ToDevice<B>, AgreedDevice<D>>,
         half: DeviceHalf<D, B>,
-    ) -> Keeper<D, B>
+    ) -> TicketRecord<D, B>
         ensures { result ≡ half }
     {
-        Keeper { agreement, half }
+        TicketRecord { agreement, half }
     }
 
     // Whoever has both locks finds that both know the same.

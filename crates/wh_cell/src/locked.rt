@@ -4,9 +4,9 @@ ghost use Rattle.std.specs.Prelude.{◌≡◌, ◌+◌, ◌-◌, ◌^◌, ◌<�
 ghost use Rattle.wh_model.specs.declared.memory.Need.{Need};
 ghost use Rattle.wh_host_model.specs.Host.Happens.{AwaitsFrame};
 ghost use Rattle.wh_host_model.specs.Host.Worlds.{World};
-ghost use Rattle.wh_host_model.specs.Space.Laws.{IsProvided};
-ghost use Rattle.wh_host_model.specs.Space.Offers.{OffersOf};
-ghost use Rattle.wh_host_model.specs.Space.Provide.{FailsToProvide, FailsTruly, OthersKeepMinimum, Provides, ProvidesTruly};
+ghost use Rattle.wh_space_model.specs.Laws.{IsProvided};
+ghost use Rattle.wh_space_model.specs.Offers.{OffersOf};
+ghost use Rattle.wh_space_model.specs.Provide.{FailsToProvide, FailsTruly, OthersKeepMinimum, Provides, ProvidesTruly};
 ghost use Rattle.wh_host.specs.Backing.{KeepsBacking};
 ghost use Rattle.wh_host.specs.Hosting.{IsHost};
 ghost use Rattle.wh_host.specs.Left.{LeavesTurned};
@@ -15,7 +15,7 @@ ghost use Rattle.wh_host.specs.Sharing.{CanOffer};
 ghost use Rattle.wh_host.specs.Showing.{RepresentsReached};
 ghost use Rattle.wh_swap.specs.DeviceCalls.{ServesOn, call_faults};
 ghost use Rattle.wh_reclaim.specs.Together.{AreTogether};
-ghost use Rattle.wh_threads.specs.Counting.{IsZero, RanOwnTurn, RanTurn, all_charges, all_turns};
+ghost use Rattle.wh_threads.specs.Counting.{IsZero, RanOwnTurn, RanTurn, all_charges, all_evictions, all_offers, all_turns};
 ghost use Rattle.wh_cell.specs.Counted.{CountsEvictions, CountsOn, evictions_of};
 ghost use Rattle.wh_cell.specs.Going.{TurnsIfGoing};
 ghost use Rattle.wh_cell.specs.Knowing.{known_of};
@@ -28,7 +28,7 @@ ghost use Rattle.wh_cell.specs.Scanned.{ScansLocked};
 use crate::agreements::{CellAgreements, ToDevice, ToOwner};
 use crate::backing::Backing;
 use crate::cell::CellParts;
-use crate::keeper::{Begins, DeviceHalf, Keeper};
+use crate::keeper::{Begins, DeviceHalf, TicketRecord};
 use crate::owner::{AgreedHost, LeavesAs, Owner};
 use crate::taken::counted_turn;
 use std::alloc::{AllocError, Global};
@@ -36,12 +36,13 @@ use std::marker::Model;
 use std::snapshot::Snapshot;
 use std::sync::ledger::Ledger;
 use wh_host::Host;
-use wh_host_model::{InstId, Offer, SwapError, TurnEnd};
+use wh_host_model::TurnEnd;
 use wh_kernels::PageHash;
+use wh_space_model::{InstId, Offer, SwapError};
 use wh_swap::SwapDev;
 use wh_threads::{AgreementHalf, Books, Helper, ReceivedTurns, Shares, Worker};
 
-// So many pages left, by what a provision has answered.
+/// Counts the evictions that a provision has made, as far as the reclaimer can count them in 64 bits.
 pub fn count_evictions<T: Ledger, C: Ledger, O: Ledger, E: Ledger>(
     books: &mut Books<T, C, O, E>,
     reclaimer: &mut Helper<E>,
@@ -58,7 +59,7 @@ pub fn count_evictions<T: Ledger, C: Ledger, O: Ledger, E: Ledger>(
     books.evict(reclaimer, gone.min(room));
 }
 
-// So many pages were offered in a pass, if it was done.
+/// Counts the pages that were offered in a pass, if it was made, as far as the scanner can count them in 64 bits.
 pub fn count_offers<T: Ledger, C: Ledger, O: Ledger, E: Ledger>(
     books: &mut Books<T, C, O, E>,
     scanner: &mut Helper<O>,
@@ -161,7 +162,7 @@ impl<D: SwapDev + Drop, T: Ledger, C: Ledger, O: Ledger, E: Ledger, B: CellAgree
     /// shares that are all zero. All memory for the counts is taken here.
     ///
     /// # Errors
-    /// Where room was refused.
+    /// `AllocError` if an allocation fails.
     pub fn new(
         alloc: Global,
         host: Host,
@@ -197,7 +198,7 @@ impl<D: SwapDev + Drop, T: Ledger, C: Ledger, O: Ledger, E: Ledger, B: CellAgree
             device: Snapshot::of(&device),
         };
         let (agreement, keeps, known) = to_device.open::<ToDevice<B>, Begins<D>>(&begins);
-        let keeper = Keeper::with(agreement, keeps);
+        let keeper = TicketRecord::with(agreement, keeps);
         let leaves = LeavesAs {
             host: Snapshot::of(&host),
             known: Snapshot::of(&known),
@@ -231,7 +232,7 @@ impl<D: SwapDev, T: Ledger, C: Ledger, O: Ledger, E: Ledger, B: CellAgreements> 
     E,
     B,
 > {
-    /// Holds of what the lock lends.
+    /// States what always holds of what the lock protects. Does nothing when run.
     #[inline(always)]
     pub fn invariant(&self)
         ensures { IsInStep D.held D.keeps D.honest D.faults self.now }
@@ -256,9 +257,10 @@ impl<D: SwapDev, T: Ledger, C: Ledger, O: Ledger, E: Ledger, B: CellAgreements> 
         &self.books
     }
 
-    /// Runs the next one of dispatched turns: of their instance, and of as many charges at most as they say. The worker counts it,
-    /// and so do the books: one turn, and the charges by which the journal grew. One less is to be run then. An instance that can't
-    /// go on has no turn: `Idle`, and no charge, are counted; so one that stands for a fault of the device stays where it stands.
+    /// Runs the next of the dispatched turns: of their instance, and of as many charges at most as they say. The worker
+    /// counts it, and so do the books: one turn, and the charges by which the journal grew. One less is to be run then.
+    /// If the instance's call can't make progress, it has no turn: the outcome is `Idle`, and no charge is counted; so
+    /// a call that is blocked on a fault of the device stays so.
     pub fn turn(&mut self, order: &mut ReceivedTurns, worker: &mut Worker<T, C>) -> TurnEnd
         requires room { worker.old.tally.turns < 2 ^ 64 - 1 }
         requires due { 0 < order.old.count }
@@ -284,9 +286,9 @@ impl<D: SwapDev, T: Ledger, C: Ledger, O: Ledger, E: Ledger, B: CellAgreements> 
         end
     }
 
-    /// Gives an instance a turn of at most so many charges, by the owner, which has the counts of all threads: none works meanwhile.
-    /// The owner's own count has the turn, and so do the books: one turn, and the charges by which the journal grew. The counts of
-    /// workers stay.
+    /// Runs a turn of at most `quantum` charges of an instance, by the owner, which has the counts of all threads: no
+    /// thread works meanwhile. Adds it to the owner's own count and to the books: one turn, and the charges by which
+    /// the journal grew. The counts of workers don't change.
     pub fn own_turn(&mut self, shares: &mut Shares<T, C, O, E>, id: InstId, quantum: u32) -> TurnEnd
         requires room { shares.old.owner.turns < 2 ^ 64 - 1 }
         ensures turns { (w : World) → IsHost self.old.host w
@@ -423,8 +425,8 @@ impl<D: SwapDev, T: Ledger, C: Ledger, O: Ledger, E: Ledger, B: CellAgreements> 
     pub fn agree(&mut self, shares: &mut Shares<T, C, O, E>)
         ensures turns { self.old.books.turns ≡ all_turns shares.old }
         ensures charges { self.old.books.charges ≡ all_charges shares.old }
-        ensures offers { self.old.books.offers ≡ shares.old.offers }
-        ensures evictions { self.old.books.evictions ≡ shares.old.evictions }
+        ensures offers { self.old.books.offers ≡ all_offers shares.old }
+        ensures evictions { self.old.books.evictions ≡ all_evictions shares.old }
         ensures same { (self.new.host ≡ self.old.host) × (self.new.known ≡ self.old.known)
             × (self.new.books ≡ self.old.books) × (self.new.left ≡ self.old.left)
             × (shares.new ≡ shares.old) }

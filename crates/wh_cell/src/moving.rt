@@ -2,7 +2,7 @@
 //! device is called without it, and the host is told under it again.
 
 ghost use Rattle.std.specs.Prelude.{◌≡◌, ◌≢◌, ◌<◌, ◌≤◌, [], Some, MatchResult, get_or, length, slice_get};
-ghost use Rattle.wh_host_model.specs.Space.Errands.{to_read, to_write};
+ghost use Rattle.wh_space_model.specs.Errands.{to_read, to_write};
 ghost use Rattle.wh_cell.specs.Calling.{GoesOut, HasBegun, HasContent, HasRead, HasWritten};
 ghost use Rattle.wh_cell.specs.Counted.{CountsEvictions, evictions_at};
 ghost use Rattle.wh_cell.specs.Knowing.{NoneOut, known_of, without_ticket};
@@ -10,13 +10,13 @@ ghost use Rattle.wh_cell.specs.declared.moving.Moved.TheVariants.{Ready};
 
 use crate::agreements::CellAgreements;
 use crate::backing::Backing;
-use crate::keeper::Keeper;
+use crate::keeper::TicketRecord;
 use crate::locked::{Locked, count_evictions};
 use std::sync::ledger::Ledger;
 use std::sync::{Mutex, Wait};
 use wh_host::{Eviction, Fetch};
-use wh_host_model::{EvictEnd, FetchEnd, InstId, SwapError};
 use wh_reclaim::{Buf, EvictTicket, FetchTicket};
+use wh_space_model::{EvictEnd, FetchEnd, InstId, SwapError};
 use wh_swap::SwapDev;
 use wh_threads::Helper;
 
@@ -43,7 +43,7 @@ enum Begun {
     Neither(Buf),
 }
 
-// What an eviction came to.
+// The outcome of an eviction.
 fn moved_by_eviction(end: EvictEnd) -> Moved
     ensures { result ≢ Ready }
 {
@@ -54,7 +54,7 @@ fn moved_by_eviction(end: EvictEnd) -> Moved
     }
 }
 
-// What a fetch came to.
+// The outcome of a fetch.
 fn moved_by_fetch(end: FetchEnd) -> Moved
     ensures { result ≢ Ready }
 {
@@ -94,9 +94,14 @@ impl<D: SwapDev, T: Ledger, C: Ledger, O: Ledger, E: Ledger, B: CellAgreements> 
     E,
     B,
 > {
-    // The first page that lies in a slot of the next step of an instance begins to come, where its present call stands for a
-    // frame; or the buffer is back.
-    fn begin_fetch(&mut self, keeper: &mut Keeper<D, B>, id: InstId, buf: Buf) -> Result<Fetch, Buf>
+    // Begins to fetch the first swapped page of the next step of an instance, if its present call is blocked on a
+    // frame; else the buffer is back.
+    fn begin_fetch(
+        &mut self,
+        keeper: &mut TicketRecord<D, B>,
+        id: InstId,
+        buf: Buf,
+    ) -> Result<Fetch, Buf>
         requires agree { self.old.known ≡ keeper.old }
         ensures begun { MatchResult result
             (λ fetched. GoesOut D.held keeper.old fetched.ticket.slot to_read keeper.new
@@ -120,7 +125,7 @@ impl<D: SwapDev, T: Ledger, C: Ledger, O: Ledger, E: Ledger, B: CellAgreements> 
     // buffer is back.
     fn begin_eviction(
         &mut self,
-        keeper: &mut Keeper<D, B>,
+        keeper: &mut TicketRecord<D, B>,
         id: InstId,
         buf: Buf,
     ) -> Result<Eviction, Buf>
@@ -143,7 +148,7 @@ impl<D: SwapDev, T: Ledger, C: Ledger, O: Ledger, E: Ledger, B: CellAgreements> 
     }
 
     // A page begins to come, or one to leave where none can come.
-    fn begin_move(&mut self, keeper: &mut Keeper<D, B>, id: InstId, buf: Buf) -> Begun
+    fn begin_move(&mut self, keeper: &mut TicketRecord<D, B>, id: InstId, buf: Buf) -> Begun
         ensures { HasBegun D.held keeper.old result keeper.new }
     {
         keeper.agree(&mut self.known);
@@ -161,7 +166,7 @@ impl<D: SwapDev, T: Ledger, C: Ledger, O: Ledger, E: Ledger, B: CellAgreements> 
     fn end_fetch(
         &mut self,
         device: &D,
-        keeper: &mut Keeper<D, B>,
+        keeper: &mut TicketRecord<D, B>,
         fetched: Fetch,
         answer: Result<(), SwapError>,
     ) -> (FetchEnd, Buf)
@@ -181,7 +186,7 @@ impl<D: SwapDev, T: Ledger, C: Ledger, O: Ledger, E: Ledger, B: CellAgreements> 
     fn end_eviction(
         &mut self,
         device: &D,
-        keeper: &mut Keeper<D, B>,
+        keeper: &mut TicketRecord<D, B>,
         eviction: Eviction,
         answer: Result<(), SwapError>,
         reclaimer: &mut Helper<E>,
@@ -208,7 +213,7 @@ impl<D: SwapDev, T: Ledger, C: Ledger, O: Ledger, E: Ledger, B: CellAgreements> 
 fn begin_under<D: SwapDev, T: Ledger, C: Ledger, O: Ledger, E: Ledger, B: CellAgreements, R: Wait>(
     rt: &R,
     locked: &Mutex<Locked<D, T, C, O, E, B>>,
-    keeper: &mut Keeper<D, B>,
+    keeper: &mut TicketRecord<D, B>,
     id: InstId,
     buf: Buf,
 ) -> Begun
@@ -223,7 +228,7 @@ fn fetch<D: SwapDev, T: Ledger, C: Ledger, O: Ledger, E: Ledger, B: CellAgreemen
     rt: &R,
     locked: &Mutex<Locked<D, T, C, O, E, B>>,
     device: &mut D,
-    keeper: &mut Keeper<D, B>,
+    keeper: &mut TicketRecord<D, B>,
     fetched: Fetch,
 ) -> (Moved, Buf)
     requires knows { keeper.old.device ≡ Some device.old }
@@ -245,7 +250,7 @@ fn evict<D: SwapDev, T: Ledger, C: Ledger, O: Ledger, E: Ledger, B: CellAgreemen
     rt: &R,
     locked: &Mutex<Locked<D, T, C, O, E, B>>,
     device: &mut D,
-    keeper: &mut Keeper<D, B>,
+    keeper: &mut TicketRecord<D, B>,
     eviction: Eviction,
     reclaimer: &mut Helper<E>,
 ) -> (Moved, Buf)
@@ -268,7 +273,7 @@ fn move_page<D: SwapDev, T: Ledger, C: Ledger, O: Ledger, E: Ledger, B: CellAgre
     rt: &R,
     locked: &Mutex<Locked<D, T, C, O, E, B>>,
     device: &mut D,
-    keeper: &mut Keeper<D, B>,
+    keeper: &mut TicketRecord<D, B>,
     id: InstId,
     buf: Buf,
     reclaimer: &mut Helper<E>,

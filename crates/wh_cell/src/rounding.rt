@@ -12,7 +12,7 @@ ghost use Rattle.wh_cell.specs.RoundCounts.{AreFewEach, AreReceived, AreSpent, c
 use crate::agreements::CellAgreements;
 use crate::locked::Locked;
 use std::sync::ledger::Ledger;
-use wh_host::{Burst, Fork, Runner, SeriesEnd};
+use wh_host::{Burst, RoundRunner, Runner, SeriesEnd};
 use wh_swap::SwapDev;
 use wh_threads::{Books, ReceivedTurns, Worker};
 
@@ -68,10 +68,10 @@ impl<D: SwapDev, T: Ledger, C: Ledger, O: Ledger, E: Ledger, B: CellAgreements> 
     E,
     B,
 > {
-    /// Runs turns of several instances at once, of those that were received, by a burst each: it comes to their turns one after
-    /// the other, in the order of the runners. The worker counts them, and so do the books: as many turns of each as its runner
-    /// says, and the charges by which its journal grew. So many less are to be run then.
-    pub fn turns_at_once<F: Fork>(
+    /// Runs bursts of the received turns of several instances at once, as if one burst after the other, in the order of
+    /// the runners. The worker counts them, and so do the books: as many turns of each as its runner says, and the
+    /// charges by which its journal grew. That many fewer are to be run then.
+    pub fn turns_at_once<F: RoundRunner>(
         &mut self,
         fork: &F,
         runners: &mut [Runner],

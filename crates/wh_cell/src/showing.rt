@@ -10,7 +10,7 @@ use crate::locked::Locked;
 use std::alloc::Global;
 use std::sync::ledger::Ledger;
 use wh_host::{HostError, Roll, Transcript};
-use wh_host_model::InstId;
+use wh_space_model::InstId;
 use wh_swap::SwapDev;
 
 impl<D: SwapDev, T: Ledger, C: Ledger, O: Ledger, E: Ledger, B: CellAgreements> Locked<

@@ -1,8 +1,6 @@
-//! How many charges a turn took.
+//! Turns of who can go on.
 
-ghost use Rattle.std.specs.Prelude.{◌≡◌, ◌<◌, ◌^◌};
 ghost use Rattle.wh_host_model.specs.Host.Worlds.{World};
-ghost use Rattle.wh_cell.specs.Counted.{charges_between};
 ghost use Rattle.wh_cell.specs.Going.{TurnsIfGoing};
 ghost use Rattle.wh_cell.specs.LeftByOwner.{HasTakenOn};
 ghost use Rattle.wh_host.specs.Backing.{KeepsBacking};
@@ -10,26 +8,11 @@ ghost use Rattle.wh_host.specs.Hosting.{IsHost};
 ghost use Rattle.wh_host.specs.Left.{LeavesTurned};
 
 use wh_host::Host;
-use wh_host_model::{InstId, TurnEnd};
+use wh_host_model::TurnEnd;
+use wh_space_model::InstId;
 
-// By the charges of its call before and after.
-fn charges_of_turn(before: Option<u64>, after: Option<u64>) -> u32
-    ensures { result ≡ charges_between before after }
-{
-    let Some(before) = before else {
-        return 0;
-    };
-    let Some(after) = after else {
-        return 0;
-    };
-    let taken = after.saturating_sub(before);
-    if taken > u64::from(u32::MAX) {
-        return u32::MAX;
-    }
-    taken as u32
-}
-
-/// Gives an instance a turn of `quantum` charges where it can go on. Returns its end, and its charges; `Idle` and 0 where it has none.
+/// Runs a turn of at most `quantum` charges of an instance that can make progress. Returns its end, and its charges;
+/// `Idle` and 0 if it can't.
 pub fn counted_turn(host: &mut Host, id: InstId, quantum: u32) -> (TurnEnd, u32)
     ensures turns { (w : World) → IsHost host.old w
         → (w2 : World) × TurnsIfGoing w id quantum result.0 w2 × IsHost host.new w2 }
@@ -41,9 +24,6 @@ pub fn counted_turn(host: &mut Host, id: InstId, quantum: u32) -> (TurnEnd, u32)
     if !host.can_go_on(id) {
         return (TurnEnd::Idle, 0);
     }
-    let call = host.present_call(id);
-    let before = host.charges(id, call);
-    let end = host.turn(id, u64::from(quantum));
-    let after = host.charges(id, call);
-    (end, charges_of_turn(before, after))
+    let (end, charges) = host.turn(id, u64::from(quantum));
+    (end, charges as u32)
 }

@@ -5,8 +5,7 @@ use Rattle.std.proofs.lemmas.Bool.Decides.{nat_tests}
 use Rattle.std.proofs.lemmas.List.Elements.{recursion_from_All}
 use Rattle.std.proofs.lemmas.Str.{IsUtf8-from_ascii}
 use Rattle.std.proofs.lemmas.Str.Ascii.{IsAscii-from_all}
-use Rattle.wh_script_model.specs.Lines.{is_name_byte, IsName, IsWord}
-use Rattle.wh_script_model.specs.Words.{words_of}
+use Rattle.wh_script_model.specs.{is_name_byte, IsName, IsWord, words_of}
 
 cut_by : (a b : List ℕ) → AllByRecursion (λ n. n ≢ 32) a → words_of (a ++ 32 ∷ b) ≡ a ∷ words_of b
 cut_by [] b h = refl

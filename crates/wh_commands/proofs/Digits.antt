@@ -4,15 +4,13 @@ use Rattle.std.specs.List.{AllByRecursion, AllPass}
 use Rattle.std.specs.Int.{w128, int_rem_euclid}
 use Rattle.std.proofs.lemmas.Int.{ints}
 use Rattle.wh_model.specs.declared.ValType.TheVariants.{I32, I64}
-use Rattle.wh_model.specs.Execution.Numbers.{unsigned}
-use Rattle.wh_model.specs.Execution.Store.{value}
+use Rattle.wh_model.specs.Execution.{unsigned, value}
 use Rattle.std.specs.Char.{is_ascii_digit}
 use Rattle.std.specs.Str.Parse.{AllDigits, IsNumeral, digits_value, starts_with_minus, without_leading_sign, without_leading_plus, signed_digits_value}
 use Rattle.std.proofs.lemmas.Bool.Decides.{nat_tests}
 use Rattle.std.proofs.lemmas.List.Elements.{recursion_from_All, All-from_recursion}
 use Rattle.std.proofs.lemmas.Str.Parse.{digit_from_value, digits_value_short, numerals_by_value, tells_digits, without_leading_plus_none}
-use Rattle.wh_script_model.specs.Lines.{IsWord}
-use Rattle.wh_script_model.specs.Words.{without_minus, AreDigits, IsNumber, IsBits}
+use Rattle.wh_script_model.specs.{IsWord, without_minus, AreDigits, IsNumber, IsBits}
 
 -- ---- digits
 
@@ -101,7 +99,7 @@ unfolding unsigned
 abs_64 (pos n) = refl
 abs_64 (negsuc n) = refl
 
--- the remainder is what the number stands for, where it is in the range
+-- the remainder is what the number represents, where it is in the range
 pub bits_32 : (word : List ℕ) (n m r s : ℤ) → IsNumber word n → m ≡ n → s ≡ r → r ≡ int_rem_euclid m (pos 4294967296)
     → int_lt m (negsuc 2147483647) ≡ false → int_lt (pos 4294967295) m ≡ false → IsBits I32 word (nat_abs s)
 bits_32 word n m r s is same seen e low high =

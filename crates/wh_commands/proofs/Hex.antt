@@ -7,7 +7,7 @@ use Rattle.std.specs.Int.{is_in_range}
 use Rattle.std.proofs.lemmas.Bool.{or_cases}
 use Rattle.std.proofs.lemmas.Bool.Decides.{nat_tests}
 use Rattle.hex.specs.Hex.{decode_of, decode_pairs, hex_digit_value}
-use Rattle.wh_script_model.specs.Hex.{IsDigit, numeral, lower, upper, IsHex}
+use Rattle.wh_script_model.specs.{IsDigit, numeral, lower, upper, IsHex}
 
 -- a digit is read as its value
 digit_value : (c n : ℕ) → IsDigit c n → hex_digit_value c ≡ Some n

@@ -5,10 +5,8 @@ use Rattle.std.proofs.lemmas.Slice.Eq.{bytes_eq-Decides}
 use Rattle.std.specs.List.{AllZip}
 use Rattle.wh_model.specs.declared.ValType.{ValType}
 use Rattle.wh_model.specs.declared.ValType.TheVariants.{I32, I64}
-use Rattle.wh_host_model.specs.Owners.{Params}
-use Rattle.wh_script_model.specs.Hex.{IsHex}
-use Rattle.wh_script_model.specs.Words.{words_of, IsNumber, IsCount, IsBits}
-use Rattle.wh_script_model.specs.Commands.{Command, keep, load, admit, invoke, drain, refuel, cancel, retry, scan, report, release, verb, AreParams, Follow, AsksCommand}
+use Rattle.wh_host_model.specs.{Params}
+use Rattle.wh_script_model.specs.{IsHex, words_of, IsNumber, IsCount, IsBits, Command, keep, load, admit, invoke, drain, refuel, cancel, retry, scan, report, release, verb, AreParams, Follow, AsksCommand}
 use Rattle.wh_commands.proofs.Hex.{one_hex}
 
 -- ---- numbers
@@ -168,7 +166,6 @@ one_follows words (admit i o r) d p = λ e q. by_admit words (λ d. admit i o r 
 one_follows words (invoke i x n args) d p = λ e q. by_invoke words (λ d. invoke i x n args ≡ d) (λ i2 x2 n2 args2 f.
     let s = same_three words i x i2 x2 (p.0 ∷ p.1) (f.0 ∷ f.1) p.2 f.2 in let inst = s.0 in let export = s.1 in
     let t = same_cons p.0 f.0 p.1 f.1 s.2 in
-    let fuel = count_along p.0 f.0 n n2 t.0 p.5 f.5 in
     let given = one_list IsNumber one_number f.1 args args2 (subst (λ ws. AllZip IsNumber ws args) t.1 p.6) f.6 in cc) d e q
 one_follows words drain d p = λ e q. by_drain words (λ d. drain ≡ d) (λ f. refl) d e q
 one_follows words (refuel i n) d p = λ e q. by_refuel words (λ d. refuel i n ≡ d) (λ i2 n2 f.

@@ -1,9 +1,8 @@
 -- The words that say what an instance is given.
 use Rattle.std.proofs.Common.{◌≡◌, ℕ, List, ◌∷◌, Result, Ok, Err, IfErr, IsErrAnd, subst, sym}
 use Rattle.wh_model.specs.declared.ValType.TheVariants.{I32, I64}
-use Rattle.wh_host_model.specs.Owners.{Params}
-use Rattle.wh_script_model.specs.Words.{IsBits}
-use Rattle.wh_script_model.specs.Commands.{AreParams}
+use Rattle.wh_host_model.specs.{Params}
+use Rattle.wh_script_model.specs.{IsBits, AreParams}
 use Rattle.wh_commands.specs.WordsLeft.{FirstIsNot}
 use Rattle.wh_commands.specs.ParsedCommands.{Refuses}
 use Rattle.wh_commands.specs.declared.error.ParseError.{ParseError}

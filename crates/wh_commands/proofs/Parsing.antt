@@ -1,11 +1,9 @@
 -- What a line asks for, by its first word and by what the words behind it were found to be.
-use Rattle.std.proofs.Common.{◌≡◌, ◌≢◌, ℕ, ℤ, List, [], ◌∷◌, ◌⊎◌, inl, inr, Result, Ok, Err, IfOk, IfErr, OnErr, refl, sym, subst, ◌∙◌}
+use Rattle.std.proofs.Common.{◌≡◌, ℕ, ℤ, List, [], ◌∷◌, ◌⊎◌, inl, inr, Result, Ok, Err, IfOk, IfErr, OnErr, refl, sym, subst, ◌∙◌}
 use Rattle.std.specs.Prelude.{codes}
-use Rattle.wh_script_model.specs.Lines.{IsName}
-use Rattle.wh_host_model.specs.Owners.{Params}
-use Rattle.wh_script_model.specs.Words.{words_of}
+use Rattle.wh_script_model.specs.{IsName, words_of, verb, Follow, AsksCommand, admit, invoke}
+use Rattle.wh_host_model.specs.{Params}
 use Rattle.wh_script_model.specs.Commands as lines
-use Rattle.wh_script_model.specs.Commands.{verb, Follow, AsksCommand, admit, invoke}
 use Rattle.wh_commands.specs.declared.command.Command.{Command}
 use Rattle.wh_commands.specs.declared.error.ParseError.{ParseError}
 use Rattle.wh_commands.specs.declared.error.ParseError.TheVariants.{Syntax, Memory}
@@ -32,10 +30,6 @@ only_by line first word words (Err Syntax) e f h (inr none) err asked a =
     let g = by_line line word words e asked a in none asked (g.0 ∙ f) g.1
 
 -- ---- errors
-
-pub two_errors : (r : Parsed) → IfErr r (λ e. e ≡ Syntax) → IfErr r (λ e. (e ≡ Syntax) ⊎ (e ≡ Memory))
-two_errors (Ok c) h = tt
-two_errors (Err e) h = inl h
 
 pub by_refusal : (P : Type 0) (r : Parsed) → IfErr r (Refuses P) → IfErr r (λ e. (e ≡ Syntax) ⊎ (e ≡ Memory))
 by_refusal P (Ok c) h = tt

@@ -6,7 +6,7 @@ use Rattle.wh_script_model.specs.Hex.{IsHex}
 use Rattle.wh_script_model.specs.Words.{words_of}
 use Rattle.wh_commands.specs.declared.words.Words.{Words}
 
--- the words behind a space, or none behind the last word
+-- the words after a space, or none after the last word
 abbrev pub words_behind : Option (Bor (List ℕ)) → List (List ℕ)
 words_behind None = []
 words_behind (Some rest) = words_of rest.now

@@ -53,7 +53,7 @@ pub enum Command<'a> {
         /// The name of the instance.
         inst: &'a str,
     },
-    /// `retry INST`: let the present call, which stands for a fault of the swap device, try again.
+    /// `retry INST`: let the present call, which is blocked on a fault of the swap device, try again.
     Retry {
         /// The name of the instance.
         inst: &'a str,

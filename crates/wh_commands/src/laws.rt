@@ -2,7 +2,7 @@
 
 ghost use Rattle.wh_commands.specs.Laws.{AsksOnce};
 
-/// A line asks for one command at most. The function does nothing; what it ensures is the law.
+/// States that a line asks for at most one command. Does nothing when run: its contract is the law.
 pub fn one_command()
     ensures { AsksOnce }
 {}

@@ -27,7 +27,7 @@ fn without_minus(word: &[u8]) -> &[u8]
     }
 }
 
-/// The number that a word is, if it is one: 1 to 20 decimal digits, with a `-` before them or none.
+/// Parses a number: 1 to 20 decimal digits, with a `-` before them or none.
 pub fn number_in(word: &[u8]) -> Option<i128>
     ensures some { IfSome result (λ n. IsNumber word.now n) }
     ensures none { IfNone result ((n : ℤ) → ¬ (IsNumber word.now n)) }
@@ -41,7 +41,7 @@ pub fn number_in(word: &[u8]) -> Option<i128>
     }
 }
 
-/// The number of 64 bits that a word is, without a sign.
+/// Parses a number of 64 bits without a sign.
 pub fn count_in(word: &[u8]) -> Option<u64>
     ensures some { IfSome result (λ n. IsCount word.now n) }
     ensures none { IfNone result ((n : ℕ) → ¬ (IsCount word.now n)) }
@@ -53,7 +53,7 @@ pub fn count_in(word: &[u8]) -> Option<u64>
     Some(number as u64)
 }
 
-/// What a word stands for that is a number in the range of an i32, signed or unsigned: the number modulo 2^32.
+/// Parses a number in the range of an i32, signed or unsigned, and returns it modulo 2^32.
 pub fn i32_bits_in(word: &[u8]) -> Option<u32>
     ensures some { IfSome result (λ bits. IsBits I32 word.now bits) }
     ensures none { IfNone result ((bits : ℕ) → ¬ (IsBits I32 word.now bits)) }
@@ -65,7 +65,7 @@ pub fn i32_bits_in(word: &[u8]) -> Option<u32>
     Some(number.rem_euclid(1 << 32) as u32)
 }
 
-/// The same of an i64: the number modulo 2^64.
+/// Parses a number in the range of an i64, signed or unsigned, and returns it modulo 2^64.
 pub fn i64_bits_in(word: &[u8]) -> Option<u64>
     ensures some { IfSome result (λ bits. IsBits I64 word.now bits) }
     ensures none { IfNone result ((bits : ℕ) → ¬ (IsBits I64 word.now bits)) }

@@ -218,7 +218,7 @@ fn release(words: Words<'_>) -> Result<Command<'_>, ParseError>
     Ok(Command::Release { inst })
 }
 
-/// Nothing behind the verb.
+/// Nothing after the verb.
 fn drain(words: Words<'_>) -> Result<Command<'_>, ParseError>
     ensures ok { IfOk result (λ command. IsAskedBy (codes "drain")
         (words_left words.entry) command) }
@@ -229,7 +229,7 @@ fn drain(words: Words<'_>) -> Result<Command<'_>, ParseError>
     Ok(Command::Drain)
 }
 
-/// Nothing behind the verb.
+/// Nothing after the verb.
 fn scan(words: Words<'_>) -> Result<Command<'_>, ParseError>
     ensures ok { IfOk result (λ command. IsAskedBy (codes "scan")
         (words_left words.entry) command) }
@@ -240,7 +240,7 @@ fn scan(words: Words<'_>) -> Result<Command<'_>, ParseError>
     Ok(Command::Scan)
 }
 
-/// Nothing behind the verb.
+/// Nothing after the verb.
 fn report(words: Words<'_>) -> Result<Command<'_>, ParseError>
     ensures ok { IfOk result (λ command. IsAskedBy (codes "report")
         (words_left words.entry) command) }
@@ -251,11 +251,11 @@ fn report(words: Words<'_>) -> Result<Command<'_>, ParseError>
     Ok(Command::Report)
 }
 
-/// The command that a line without its newline has, if it has one.
+/// Parses the command of a line without its newline.
 ///
 /// # Errors
-/// `Syntax` where the line holds a byte above 127 or has not the shape of a command; `Memory` where room for its bytes or
-/// numbers was refused.
+/// `Syntax` if the line isn't of the shape of a command, or has a byte above 127; `Memory` if the allocation for its
+/// bytes or numbers fails.
 pub fn parse(alloc: Global, line: &[u8]) -> Result<Command<'_>, ParseError>
     // The line asks for what the command that is found means.
     ensures found { IfOk result (λ command. (asked : lines.Command) × AsksCommand line.now asked

@@ -18,21 +18,21 @@ fn is_name_byte(byte: u8) -> bool
     matches!(byte, b'a'..=b'z' | b'0'..=b'9' | b'_')
 }
 
-/// Whether a word is a name: 1 to 32 of `a` to `z`, `0` to `9` and `_`.
+/// Tells whether a word is a name: 1 to 32 of `a` to `z`, `0` to `9` and `_`.
 pub fn is_name(word: &[u8]) -> bool
     ensures { MatchBool result (IsName word.now) (¬ (IsName word.now)) }
 {
     !word.is_empty() && word.len() <= LONGEST_NAME && word.iter().all(|b| is_name_byte(*b))
 }
 
-/// Whether bytes are a word: bytes below 128, none of them a space, and not empty.
+/// Tells whether bytes are a word: not empty, all below 128, and none a space.
 pub fn is_word(bytes: &[u8]) -> bool
     ensures { MatchBool result (IsWord bytes.now) (¬ (IsWord bytes.now)) }
 {
     !bytes.is_empty() && bytes.is_ascii() && memchr(b' ', bytes).is_none()
 }
 
-/// A word as text.
+/// Returns a word as text.
 pub fn text_of(word: &[u8]) -> &str
     requires { IsWord word.now }
     ensures { result.now ≡ word.now }
@@ -43,7 +43,7 @@ pub fn text_of(word: &[u8]) -> &str
     }
 }
 
-/// A name as text.
+/// Returns a name as text.
 pub fn name_text(name: &[u8]) -> &str
     requires { IsName name.now }
     ensures { result.now ≡ name.now }
@@ -51,7 +51,7 @@ pub fn name_text(name: &[u8]) -> &str
     text_of(name)
 }
 
-/// Whether a word is bytes in hexadecimal: two digits each, in either case.
+/// Tells whether a word is bytes in hexadecimal: two digits each, in either case.
 pub fn is_hex(word: &[u8]) -> bool
     ensures { MatchBool result ((bytes : List ℕ) × IsHex word.now bytes)
         ((bytes : List ℕ) → IsHex word.now bytes → ⊥) }

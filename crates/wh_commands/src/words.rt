@@ -18,7 +18,7 @@ pub struct Words<'a> {
     rest: Option<&'a [u8]>,
 }
 
-/// All words of a line.
+/// Returns the words of a line.
 pub fn words_in(line: &[u8]) -> Words<'_>
     ensures { words_left result ≡ words_of line.now }
 {
@@ -26,7 +26,7 @@ pub fn words_in(line: &[u8]) -> Words<'_>
 }
 
 impl<'a> Words<'a> {
-    /// The next piece of the line, which is no word where two spaces meet, or at the line's ends.
+    /// Returns the next piece of the line between spaces, which is empty where two spaces meet, or at the line's ends.
     pub fn next(&mut self) -> Option<&'a [u8]>
         ensures some { IfSome result (λ word. words_left self.old
             ≡ word.now ∷ words_left self.new) }
@@ -47,10 +47,10 @@ impl<'a> Words<'a> {
 }
 
 impl<'a> Words<'a> {
-    /// The next word, whatever it is.
+    /// Returns the next piece, whatever it is.
     ///
     /// # Errors
-    /// `Syntax` where there is none.
+    /// `Syntax` if none is left.
     pub fn next_piece(&mut self) -> Result<&'a [u8], ParseError>
         ensures ok { IfOk result (λ word. words_left self.old ≡ word.now ∷ words_left self.new) }
         ensures err { IfErr result (λ e. e ≡ ParseError.Syntax) }
@@ -62,10 +62,10 @@ impl<'a> Words<'a> {
         }
     }
 
-    /// The next word, which is a name.
+    /// Returns the next word, which has to be a name.
     ///
     /// # Errors
-    /// `Syntax` where it isn't.
+    /// `Syntax` if it isn't one, or none is left.
     pub fn next_name(&mut self) -> Result<&'a str, ParseError>
         ensures ok { IfOk result (λ name. (words_left self.old ≡ name.now ∷ words_left self.new)
             × IsName name.now) }
@@ -79,10 +79,10 @@ impl<'a> Words<'a> {
         Ok(name_text(word))
     }
 
-    /// The next word.
+    /// Returns the next word.
     ///
     /// # Errors
-    /// `Syntax` where there is none.
+    /// `Syntax` if the next piece isn't a word, or none is left.
     pub fn next_text(&mut self) -> Result<&'a str, ParseError>
         ensures ok { IfOk result (λ text. (words_left self.old ≡ text.now ∷ words_left self.new)
             × IsWord text.now) }
@@ -96,10 +96,10 @@ impl<'a> Words<'a> {
         Ok(text_of(word))
     }
 
-    /// The next word, which is bytes in hexadecimal.
+    /// Returns the next word, which has to be bytes in hexadecimal.
     ///
     /// # Errors
-    /// `Syntax` where it isn't.
+    /// `Syntax` if it isn't, or none is left.
     pub fn next_hex(&mut self) -> Result<&'a str, ParseError>
         ensures ok { IfOk result (λ hex. (words_left self.old ≡ hex.now ∷ words_left self.new)
             × IsHexWord hex.now) }
@@ -113,10 +113,10 @@ impl<'a> Words<'a> {
         Ok(text_of(word))
     }
 
-    /// The next word, which is a number of 64 bits without a sign.
+    /// Parses the next word, which has to be a number of 64 bits without a sign.
     ///
     /// # Errors
-    /// `Syntax` where it isn't.
+    /// `Syntax` if it isn't one, or none is left.
     pub fn next_count(&mut self) -> Result<u64, ParseError>
         ensures ok { IfOk result (λ n. FirstIs (λ word. IsCount word n)
             (words_left self.old) (words_left self.new)) }
@@ -130,10 +130,10 @@ impl<'a> Words<'a> {
         }
     }
 
-    /// What the next word stands for, which is a number in the range of an i32.
+    /// Parses the next word, which has to be a number in the range of an i32, signed or unsigned, modulo 2^32.
     ///
     /// # Errors
-    /// `Syntax` where it isn't.
+    /// `Syntax` if it isn't one, or none is left.
     pub fn next_i32_bits(&mut self) -> Result<u32, ParseError>
         ensures ok { IfOk result (λ bits. FirstIs (λ word. IsBits I32 word bits)
             (words_left self.old) (words_left self.new)) }
@@ -147,10 +147,10 @@ impl<'a> Words<'a> {
         }
     }
 
-    /// What the next word stands for, which is a number in the range of an i64.
+    /// Parses the next word, which has to be a number in the range of an i64, signed or unsigned, modulo 2^64.
     ///
     /// # Errors
-    /// `Syntax` where it isn't.
+    /// `Syntax` if it isn't one, or none is left.
     pub fn next_i64_bits(&mut self) -> Result<u64, ParseError>
         ensures ok { IfOk result (λ bits. FirstIs (λ word. IsBits I64 word bits)
             (words_left self.old) (words_left self.new)) }
@@ -164,10 +164,10 @@ impl<'a> Words<'a> {
         }
     }
 
-    /// That no word is left.
+    /// Checks that nothing of the line is left.
     ///
     /// # Errors
-    /// `Syntax` where one is.
+    /// `Syntax` if something is.
     pub fn end(mut self) -> Result<(), ParseError>
         ensures ok { OnOk result (words_left self.entry ≡ []) }
         ensures err { IfErr result (λ e. e ≡ ParseError.Syntax) }

@@ -3,10 +3,10 @@ use Rattle.std.proofs.Common.{◌≡◌, ◌⊎◌, ℕ, ◌+◌, ◌<◌, ◌�
 use Rattle.std.proofs.lemmas.Bool.{cases_eq, cases_lt, cases_order}
 use Rattle.std.proofs.lemmas.List.{get_or-set_same, get_or-set_other, length-set}
 use Rattle.std.proofs.lemmas.Option.{slice_get_past}
-use Rattle.wh_host_model.specs.declared.states.Mark.{Mark}
-use Rattle.wh_host_model.specs.declared.states.Mark.TheVariants.{Plain}
-use Rattle.wh_host_model.specs.Space.Sound.{HasHash}
-use Rattle.wh_host_model.proofs.Space.Putting.{set_same, set_other}
+use Rattle.wh_space_model.specs.declared.states.Mark.{Mark}
+use Rattle.wh_space_model.specs.declared.states.Mark.TheVariants.{Plain}
+use Rattle.wh_space_model.specs.{HasHash}
+use Rattle.wh_space_model.proofs.Putting.{set_same, set_other}
 use Rattle.wh_content.specs.Chains.{IsOfBucket, IsIn, IsPlace, IsFalling, LeadsOn, AreChains}
 use Rattle.wh_content.proofs.Entries.{at_put, one_hash}
 

@@ -1,10 +1,10 @@
 -- One mark among those of all frames.
 use Rattle.std.proofs.Common.{◌≡◌, ◌⊎◌, ℕ, ◌<◌, List, Option, Some, None, length, slice_get, slice_set, sym, ◌∙◌, inl, inr, ap, subst, arith, length-set}
 use Rattle.std.proofs.lemmas.Bool.{cases_eq}
-use Rattle.wh_host_model.specs.declared.states.Mark.{Mark}
-use Rattle.wh_host_model.specs.declared.states.Mark.TheVariants.{Plain, Hint, Sharers, Unlisted}
-use Rattle.wh_host_model.specs.Space.Sound.{HasHash}
-use Rattle.wh_host_model.proofs.Space.Putting.{set_same, set_other}
+use Rattle.wh_space_model.specs.declared.states.Mark.{Mark}
+use Rattle.wh_space_model.specs.declared.states.Mark.TheVariants.{Plain, Hint, Sharers, Unlisted}
+use Rattle.wh_space_model.specs.{HasHash}
+use Rattle.wh_space_model.proofs.Putting.{set_same, set_other}
 use Rattle.wh_content.specs.Marks.{AreApart, IsOnlyWith}
 
 -- what is at j after x was put at i

@@ -1,8 +1,8 @@
 -- Which frame has an entry under a hash.
 use Rattle.std.specs.Prelude.{ℕ, ◌≡◌, ◌+◌, ◌<◌, ◌^◌, List, slice_get}
-use Rattle.wh_host_model.specs.declared.states.Mark.{Mark}
-use Rattle.wh_host_model.specs.declared.states.Mark.TheVariants.{Plain, Hint, Sharers, Unlisted}
-use Rattle.wh_host_model.specs.Space.Sound.{HasHash}
+use Rattle.wh_space_model.specs.declared.states.Mark.{Mark}
+use Rattle.wh_space_model.specs.declared.states.Mark.TheVariants.{Plain, Hint, Sharers, Unlisted}
+use Rattle.wh_space_model.specs.Sound.{HasHash}
 use Rattle.wh_content.specs.declared.entry.ContentEntry.{ContentEntry}
 use Rattle.wh_content.specs.declared.entry.ContentEntry.TheVariants as entry
 
@@ -27,7 +27,7 @@ IsWithout marks hash = (frame : ℕ) → ¬ HasHash (slice_get marks frame) hash
 abbrev pub AreApart : List Mark → Type 0
 AreApart marks = (frame hash : ℕ) → HasHash (slice_get marks frame) hash → IsOnlyWith marks frame hash
 
--- one sharer more of a frame with this mark can be counted in 32 bits
+-- the reference count of a frame with this mark can be one higher in 32 bits
 abbrev pub HasRoomForOne : Mark → Type 0
 HasRoomForOne Plain = Unit {0}
 HasRoomForOne (Hint hash i p) = Unit {0}

@@ -2,13 +2,13 @@
 
 ghost use Rattle.std.specs.Prelude.{◌≡◌, ℕ, ◌+◌, ◌^◌, ◌<◌, ◌≤◌, List, Some, IfOk, IfSome, length, replicate, slice_set, slice_index};
 ghost use Rattle.wh_content.specs.Chains.{link_to, IsFalling, IsPlace, AreChains};
-ghost use Rattle.wh_host_model.specs.declared.states.Mark.{Mark};
+ghost use Rattle.wh_space_model.specs.declared.states.Mark.{Mark};
 
 use std::alloc::{AllocError, Global};
 use std::marker::Model;
 
-// At each place a link to a frame before it, or none. The first places are those of the frames, by
-// their numbers, and behind them come the heads of the chains.
+// At each place a link to a frame before it, or none. The first places are those of the frames, by their numbers, and
+// after them come the heads of the chains.
 #[derive(Drop)]
 pub struct Chains {
     // The number of the frame and 1, or 0.
@@ -28,7 +28,7 @@ impl Model for Chains {
 }
 
 impl Chains {
-    // So many places without links.
+    /// Creates `places` places without links.
     pub fn new(alloc: Global, places: usize) -> Result<Chains, AllocError>
         ensures { IfOk result (λ chains. chains ≡ replicate places 0) }
     {
@@ -36,7 +36,7 @@ impl Chains {
         Ok(Chains { links })
     }
 
-    // The frame to which the link at this place leads.
+    /// Returns the frame to which the link at this place leads.
     pub fn next(&self, place: usize) -> Option<u32>
         requires { place < length self.now }
         ensures link { slice_index self.now place ≡ link_to result }
@@ -48,7 +48,7 @@ impl Chains {
         }
     }
 
-    // From the head of a chain on, the last place behind this frame.
+    /// Returns the last place after this frame in a chain, from its head on.
     pub fn behind(&self, head: usize, frame: u32) -> usize
         requires within { head < length self.now }
         requires before { frame < head }
@@ -68,8 +68,7 @@ impl Chains {
         place
     }
 
-    // Puts a frame into a chain: the link at this place leads to it now, and from it to where that
-    // led.
+    /// Inserts a frame into a chain: the link at this place leads to it now, and from it to where that led.
     pub fn insert(&mut self, place: usize, frame: u32)
         requires within { place < length self.old }
         requires before { frame < place }
@@ -82,8 +81,7 @@ impl Chains {
         self.links[place] = frame + 1;
     }
 
-    // Takes a frame, to which the link at this place leads, out of its chain. It tells the caller
-    // that links fall.
+    /// Removes a frame, to which the link at this place leads, from its chain. Tells the caller that links fall.
     pub fn remove(&mut self, place: usize, frame: u32)
         requires within { place < length self.old }
         requires before { frame < place }

@@ -2,9 +2,9 @@
 
 ghost use Rattle.std.specs.Prelude.{ℕ, ◌≡◌, IfSome, IfNone, Some};
 ghost use Rattle.wh_content.specs.Marks.{frame_of_entry, mark_of_entry};
-ghost use Rattle.wh_host_model.specs.Space.Sound.{HasHash};
+ghost use Rattle.wh_space_model.specs.Sound.{HasHash};
 
-use wh_host_model::Mark;
+use wh_space_model::Mark;
 
 /// The entry under a hash.
 #[derive(Clone, Copy, Debug, PartialEq, Eq)]
@@ -15,7 +15,7 @@ pub enum ContentEntry {
     Shared { frame: u32, sharers: u32 },
 }
 
-// The entry of the frame with this mark, if it has one under this hash.
+/// Returns the entry of the frame with this mark, if it has one under this hash.
 pub fn entry_under(hash: u64, frame: u32, mark: Mark) -> Option<ContentEntry>
     ensures frame { IfSome result (λ entry. frame_of_entry entry ≡ frame) }
     ensures mark { IfSome result (λ entry. mark_of_entry hash entry ≡ mark) }
@@ -35,7 +35,7 @@ pub fn entry_under(hash: u64, frame: u32, mark: Mark) -> Option<ContentEntry>
     }
 }
 
-// The hash under which a frame with this mark has its entry.
+/// Returns the hash under which a frame with this mark has its entry, if it has one.
 pub fn hash_of(mark: Mark) -> Option<u64>
     ensures some { IfSome result (λ hash. HasHash (Some mark) hash) }
     ensures none { IfNone result ((hash : ℕ) → ¬ HasHash (Some mark) hash) }

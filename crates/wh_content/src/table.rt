@@ -2,17 +2,17 @@
 
 ghost use Rattle.std.specs.Prelude.{◌≡◌, ◌+◌, ◌<◌, ◌%◌, Some, IfOk, IfSome, IfNone, length, get_or, replicate, slice_get, slice_set};
 ghost use Rattle.wh_content.specs.Marks.{frame_of_entry, mark_of_entry, IsOnlyWith, IsWithout};
-ghost use Rattle.wh_host_model.specs.Space.Breaks.{fewer_sharers};
-ghost use Rattle.wh_host_model.specs.Space.Sound.{HasHash};
-ghost use Rattle.wh_host_model.specs.declared.states.Mark.TheVariants.{Plain, Hint, Sharers, Unlisted};
-ghost use Rattle.wh_host_model.specs.Space.Forks.{one_more};
+ghost use Rattle.wh_space_model.specs.Breaks.{fewer_sharers};
+ghost use Rattle.wh_space_model.specs.Sound.{HasHash};
+ghost use Rattle.wh_space_model.specs.declared.states.Mark.TheVariants.{Plain, Hint, Sharers, Unlisted};
+ghost use Rattle.wh_space_model.specs.Forks.{one_more};
 ghost use Rattle.wh_content.specs.Marks.{HasRoomForOne};
 
 use crate::chains::Chains;
 use crate::entry::{ContentEntry, entry_under, hash_of};
 use std::alloc::{AllocError, Global};
 use std::marker::Model;
-use wh_host_model::Mark;
+use wh_space_model::Mark;
 
 const _: () = prove!(size_of::<Mark>() <= 24);
 
@@ -24,13 +24,13 @@ const _: () = prove!(size_of::<Mark>() <= 24);
 pub struct Table {
     frames: u32,
     marks: Vec<Mark>,
-    // As many chains as frames. Their heads are the places behind the frames.
+    // As many chains as frames. Their heads are the places after the frames.
     chains: Chains,
 }
 
 impl Model for Table {
     ghost use Rattle.std.specs.Prelude.{List};
-    ghost use Rattle.wh_host_model.specs.declared.states.Mark.{Mark};
+    ghost use Rattle.wh_space_model.specs.declared.states.Mark.{Mark};
 
     ghost Value = { List Mark };
 
@@ -41,7 +41,7 @@ impl Model for Table {
     ghost invariant = { IsIndexed };
 }
 
-// The head of the chain for this hash, where there are so many frames.
+// The head of the chain for this hash, in a table of `frames` frames.
 fn head_of(frames: u32, hash: u64) -> usize
     requires { 0 < frames }
     ensures { result ≡ frames + hash % frames }
@@ -50,10 +50,10 @@ fn head_of(frames: u32, hash: u64) -> usize
 }
 
 impl Table {
-    /// A table for so many frames, without entries. All its room is taken here: 32 bytes a frame.
+    /// Creates a table for `frames` frames, without entries. Reserves its whole room, 32 bytes a frame.
     ///
     /// # Errors
-    /// `AllocError` where room is refused. Nothing is left behind then.
+    /// `AllocError` if an allocation fails; what was allocated is given back.
     pub fn new(alloc: Global, frames: u32) -> Result<Table, AllocError>
         ensures { IfOk result (λ table. table ≡ replicate frames Plain) }
     {
@@ -66,7 +66,7 @@ impl Table {
         })
     }
 
-    /// What there is of this frame, which is one of the table's.
+    /// Returns what there is of this frame, which is one of the table's.
     pub fn mark(&self, frame: u32) -> Mark
         requires { frame < length self.now }
         ensures { slice_get self.now frame ≡ Some result }
@@ -74,7 +74,7 @@ impl Table {
         self.marks[frame as usize]
     }
 
-    /// The entry under this hash, if there is one.
+    /// Returns the entry under this hash, if there is one.
     pub fn look(&self, hash: u64) -> Option<ContentEntry>
         ensures found { IfSome result (λ entry.
             slice_get self.now (frame_of_entry entry) ≡ Some (mark_of_entry hash entry)) }
@@ -94,9 +94,8 @@ impl Table {
         None
     }
 
-    /// Makes this page, of the instance at this place, the hint of the hash, on this frame, which
-    /// is one of the table's. No other frame has an entry under the hash. An entry that this frame
-    /// had goes.
+    /// Makes this page, of the instance at this place, the hint of the hash, on this frame, which is one of the
+    /// table's. No other frame may have an entry under the hash. An entry that this frame had is removed.
     pub fn set_hint(&mut self, frame: u32, hash: u64, place: u32, page: u32)
         requires within { frame < length self.old }
         requires alone { IsOnlyWith self.old frame hash }
@@ -105,8 +104,8 @@ impl Table {
         self.put(frame, hash, Mark::Hint { hash, place, page });
     }
 
-    /// Says that so many pages share this frame, which is one of the table's, under the hash. No
-    /// other frame has an entry under the hash. An entry that this frame had goes.
+    /// Enters this frame, which is one of the table's and which `sharers` pages share, under the hash. No other frame
+    /// may have an entry under the hash. An entry that this frame had is removed.
     pub fn share(&mut self, frame: u32, hash: u64, sharers: u32)
         requires within { frame < length self.old }
         requires alone { IsOnlyWith self.old frame hash }
@@ -119,8 +118,8 @@ impl Table {
         self.put(frame, hash, mark);
     }
 
-    /// Says that one page fewer shares this frame, which is one of the table's. With the last one
-    /// its entry goes. A hint stays.
+    /// Lowers the reference count of this frame, which is one of the table's, by one. With the last sharer its entry is
+    /// removed. A hint stays.
     pub fn drop_sharer(&mut self, frame: u32)
         requires { frame < length self.old }
         ensures { self.new
@@ -141,8 +140,8 @@ impl Table {
         }
     }
 
-    /// Says that so many pages share this frame, which is one of the table's, and that its hash isn't known. An entry that
-    /// it had goes.
+    /// Records that `sharers` pages share this frame, which is one of the table's, and that its hash isn't known. An
+    /// entry that it had is removed.
     pub fn share_unlisted(&mut self, frame: u32, sharers: u32)
         requires { frame < length self.old }
         ensures { self.new ≡ slice_set self.old frame (Unlisted sharers) }
@@ -151,7 +150,8 @@ impl Table {
         self.marks[frame as usize] = Mark::Unlisted { count: sharers };
     }
 
-    /// Says that one page more shares this frame, which is one of the table's. A frame that none shares stays as it is.
+    /// Raises the reference count of this frame, which is one of the table's, by one. A frame that no page shares stays
+    /// as it is.
     pub fn add_sharer(&mut self, frame: u32)
         requires within { frame < length self.old }
         requires few { HasRoomForOne (get_or self.old frame Plain) }

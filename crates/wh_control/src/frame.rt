@@ -41,10 +41,10 @@ impl Model for CallStack {
 }
 
 impl CallStack {
-    /// No calls, and room for all.
+    /// Creates an empty stack of calls. Reserves the room for all `CALL_DEPTH` of them.
     ///
     /// # Errors
-    /// Where memory was refused.
+    /// `AllocError` if the allocation fails.
     pub fn reserve(alloc: Global) -> Result<CallStack, AllocError>
         ensures { IfOk result (λ frames. frames ≡ []) }
     {
@@ -52,7 +52,7 @@ impl CallStack {
         Ok(CallStack { items })
     }
 
-    /// How many there are.
+    /// Returns the number of waiting calls.
     #[inline(always)]
     pub fn len(&self) -> usize
         ensures { result ≡ length self.now }
@@ -60,7 +60,7 @@ impl CallStack {
         self.items.len()
     }
 
-    /// Leaves none.
+    /// Removes all calls.
     #[inline(always)]
     pub fn clear(&mut self)
         ensures { self.new ≡ [] }
@@ -68,7 +68,7 @@ impl CallStack {
         self.items.truncate(0);
     }
 
-    /// One more call waits.
+    /// Pushes a call, which waits from now on.
     #[inline(always)]
     pub fn push(&mut self, frame: CallFrame)
         requires { length self.old < call_depth }
@@ -77,7 +77,7 @@ impl CallStack {
         self.items.push_reserved(frame);
     }
 
-    /// Takes the innermost one.
+    /// Pops the innermost call.
     #[inline(always)]
     pub fn pop(&mut self) -> Option<CallFrame>
         ensures some { IfSome result (λ frame. self.old ≡ frame ∷ self.new) }

@@ -1,4 +1,4 @@
-//! What an instance has beside its memory.
+//! What an instance has besides its memory.
 
 /// The store of an instance (4.2.3) but for its memory: globals, table, and what host functions read and write.
 #[derive(Drop)]

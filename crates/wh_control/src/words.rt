@@ -31,10 +31,10 @@ impl Model for ValueStack {
 }
 
 impl ValueStack {
-    /// No words, and room for all.
+    /// Creates an empty stack of words. Reserves the room for all that any call may have.
     ///
     /// # Errors
-    /// Where memory was refused.
+    /// `AllocError` if the allocation fails.
     pub fn reserve(alloc: Global) -> Result<ValueStack, AllocError>
         ensures { IfOk result (λ words. words ≡ []) }
     {
@@ -42,7 +42,7 @@ impl ValueStack {
         Ok(ValueStack { items })
     }
 
-    /// How many there are.
+    /// Returns the number of words.
     #[inline(always)]
     pub fn len(&self) -> usize
         ensures { result ≡ length self.now }
@@ -50,7 +50,7 @@ impl ValueStack {
         self.items.len()
     }
 
-    /// Puts a word on top.
+    /// Pushes a word.
     #[inline(always)]
     pub fn push(&mut self, word: u64)
         requires { length self.old < most_words }
@@ -59,7 +59,7 @@ impl ValueStack {
         self.items.push_reserved(word);
     }
 
-    /// Takes the topmost word.
+    /// Pops the top word.
     #[inline(always)]
     pub fn pop(&mut self) -> u64
         requires { 0 < length self.old }
@@ -70,7 +70,7 @@ impl ValueStack {
         self.items.take_last()
     }
 
-    /// The topmost word.
+    /// Returns the top word.
     #[inline(always)]
     pub fn top(&self) -> u64
         requires { 0 < length self.now }
@@ -79,7 +79,7 @@ impl ValueStack {
         self.items[self.items.len() - 1]
     }
 
-    /// The word above so many others.
+    /// Returns the word at this place, counted from the bottom.
     #[inline(always)]
     pub fn get(&self, place: usize) -> u64
         requires { place < length self.now }
@@ -88,7 +88,7 @@ impl ValueStack {
         self.items[place]
     }
 
-    /// Writes the word above so many others.
+    /// Writes the word at this place, counted from the bottom.
     #[inline(always)]
     pub fn put(&mut self, place: usize, word: u64)
         requires { place < length self.old }
@@ -97,7 +97,7 @@ impl ValueStack {
         self.items[place] = word;
     }
 
-    /// Leaves so many of the lowest, and above them the topmost one where it is carried along.
+    /// Leaves the `height` lowest words, and above them the top one if it is carried along.
     #[inline(always)]
     pub fn cut(&mut self, height: usize, carries: bool)
         requires { height + words_carried carries ≤ length self.old }
@@ -112,7 +112,7 @@ impl ValueStack {
         }
     }
 
-    /// Leaves none.
+    /// Removes all words.
     #[inline(always)]
     pub fn clear(&mut self)
         ensures { self.new ≡ [] }
@@ -120,7 +120,7 @@ impl ValueStack {
         self.items.truncate(0);
     }
 
-    /// Puts words on top, the last one topmost.
+    /// Pushes words, the last one topmost.
     pub fn push_all(&mut self, given: &[u64])
         requires { length given.now + length self.old ≤ most_words }
         ensures { self.new ≡ reverse given.now ++ self.old }
@@ -130,7 +130,7 @@ impl ValueStack {
         }
     }
 
-    /// Puts so many zeros on top.
+    /// Pushes `count` zeros.
     #[inline(always)]
     pub fn push_zeros(&mut self, count: usize)
         requires { count + length self.old ≤ most_words }

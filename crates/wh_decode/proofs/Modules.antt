@@ -4,10 +4,8 @@ use Rattle.std.proofs.lemmas.List.{append-nil}
 use Rattle.std.proofs.lemmas.Bool.{ltb-true, ltb-false, lt-ltb, le-ltb, cond-true, cond-false}
 use Rattle.wh_model.specs.declared.faults.FaultKind.{FaultKind}
 use Rattle.wh_model.specs.declared.faults.FaultKind.TheVariants.{Limit}
-use Rattle.wh_model.specs.Format.Syntax.{Module}
-use Rattle.wh_model.specs.Format.Limits.{most_bytes, SmallModule}
+use Rattle.wh_model.specs.Format.{Module, most_bytes, SmallModule, AreBytes, Spells, Small, IsBroken}
 use Rattle.wh_model.specs.Format.Modules.{«module»}
-use Rattle.wh_model.specs.Format.Spelling.{AreBytes, Spells, Small, IsBroken}
 use Rattle.wh_model.specs.declared.faults.DecodeError.{DecodeError}
 use Rattle.wh_leb.specs.Reading.{◌>>=◌, fail}
 use Rattle.wh_leb.proofs.Combinators.{bind_ok, bind_err, chosen, err_is}

@@ -5,14 +5,9 @@ use Rattle.std.proofs.lemmas.Bool.{eqb-true, eq-eqb}
 use Rattle.std.proofs.lemmas.Str.{IsUtf8-from_is_utf8, is_utf8-from_IsUtf8}
 use Rattle.std.specs.Str.{is_utf8}
 use Rattle.wh_model.specs.declared.faults.FaultKind.TheVariants.{UnknownByte, Utf8, CountMismatch}
-use Rattle.wh_model.specs.Format.Grammar.{Grammar, gives, ◌>>=◌ as ◌then◌, one_of, this_byte, exact_byte, bytes, only_if, up_to, times, exactly, exactly_from}
-use Rattle.wh_model.specs.Format.Leb.{u32, vec, vec_up_to}
-use Rattle.wh_model.specs.Format.Syntax.{of_func, of_global}
-use Rattle.wh_model.specs.Format.Opcodes.{value_type, mutability, imported_mutability, limits_flag, export_kind, import_kind}
-use Rattle.wh_model.specs.Format.Limits.{most_params, most_locals, most_instructions}
-use Rattle.wh_model.specs.Format.Instructions.{expr}
-use Rattle.wh_model.specs.Format.Modules.{custom, section}
-use Rattle.wh_model.specs.Format.Parts.{valtype, functype, limits_by, limits, tabletype, globaltype, name, constant, importdesc_by, importdesc, «import», global, export, element, byte_vector, segment, runs, locals, func, code, codes}
+use Rattle.wh_model.specs.Format.Grammar.{Grammar, ◌>>=◌ as ◌then◌}
+use Rattle.wh_model.specs.Format.{gives, one_of, this_byte, exact_byte, bytes, only_if, up_to, times, exactly, exactly_from, u32, vec, vec_up_to, of_func, of_global, value_type, mutability, imported_mutability, limits_flag, export_kind, import_kind, most_params, most_locals, most_instructions, expr, custom, section, valtype, functype, limits_by, limits, tabletype, globaltype, name, constant, importdesc_by, importdesc, global, export, element, byte_vector, segment, runs, locals, func, code, codes}
+use Rattle.wh_model.specs.Format.Parts.{«import»}
 use Rattle.wh_leb.specs.Reading.{◌>>=◌, ReadsBy, Reader, Anything, one_at, read_bytes_at, only_at, limited_at, times_at, exactly_at, exactly_from_at, u32_at, vec_at, vec_up_to_at}
 use Rattle.wh_leb.proofs.Combinators.{reads_gives, reads_then, reads_one_of, reads_bytes, reads_only_if, reads_up_to, reads_times, reads_exactly, reads_exactly_from}
 use Rattle.wh_leb.proofs.Integers.{reads_u32, reads_vec, reads_vec_up_to, reads_byte}

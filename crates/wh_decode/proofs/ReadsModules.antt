@@ -1,12 +1,9 @@
 -- Reading a module, section by section.
 use Rattle.std.proofs.Common.{◌≡◌, length, Some, eqb, arith}
 use Rattle.wh_model.specs.declared.faults.FaultKind.TheVariants.{Magic, Version}
-use Rattle.wh_model.specs.Format.Grammar.{this_byte, exact_byte}
-use Rattle.wh_model.specs.Format.Leb.{u32, vec, vec_up_to}
-use Rattle.wh_model.specs.Format.Syntax.{Module, empty_module}
-use Rattle.wh_model.specs.Format.Limits.{most_types, most_imports, most_functions, most_globals, most_exports, most_elements, most_segments}
-use Rattle.wh_model.specs.Format.Modules.{from_end, from_data, from_code, from_elements, from_start, from_exports, from_globals, from_memories, from_tables, from_functions, from_imports, from_types, preamble, «module»}
-use Rattle.wh_model.specs.Format.Parts.{functype, «import», tabletype, limits, global, export, element, codes, segment}
+use Rattle.wh_model.specs.Format.{this_byte, exact_byte, u32, vec, vec_up_to, Module, empty_module, most_types, most_imports, most_functions, most_globals, most_exports, most_elements, most_segments, from_end, from_data, from_code, from_elements, from_start, from_exports, from_globals, from_memories, from_tables, from_functions, from_imports, from_types, preamble, functype, tabletype, limits, global, export, element, codes, segment}
+use Rattle.wh_model.specs.Format.Modules.{«module»}
+use Rattle.wh_model.specs.Format.Parts.{«import»}
 use Rattle.wh_leb.specs.Reading.{ReadsBy, Anything, one_at, u32_at, vec_at, vec_up_to_at}
 use Rattle.wh_leb.proofs.Combinators.{reads_then}
 use Rattle.wh_leb.proofs.Integers.{reads_u32, reads_vec, reads_vec_up_to, reads_byte}

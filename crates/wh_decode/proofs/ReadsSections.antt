@@ -5,11 +5,8 @@ use Rattle.std.proofs.lemmas.List.{append-nil}
 use Rattle.std.proofs.lemmas.Bool.{eqb-true, eqb-false, eq-eqb, ne_eqb, both_ways, cases_Bool, cond-true, cond-false, false_from_ne_true}
 use Rattle.wh_model.specs.declared.faults.FaultKind.{FaultKind}
 use Rattle.wh_model.specs.declared.faults.FaultKind.TheVariants.{UnknownByte, CountMismatch, SectionOrder}
-use Rattle.wh_model.specs.Format.Grammar.{Grammar, ◌>>=◌ as ◌then◌, this_byte, exact_byte, Each, exactly, exactly_from}
-use Rattle.wh_model.specs.Format.Leb.{u32}
-use Rattle.wh_model.specs.Format.Syntax.{Module}
-use Rattle.wh_model.specs.Format.Modules.{BeginsWith, custom, customs_then, section, section_or, part, EndBreaks, ends_with}
-use Rattle.wh_model.specs.Format.Parts.{name}
+use Rattle.wh_model.specs.Format.Grammar.{Grammar, ◌>>=◌ as ◌then◌}
+use Rattle.wh_model.specs.Format.{this_byte, exact_byte, Each, exactly, exactly_from, u32, Module, BeginsWith, custom, customs_then, section, section_or, part, EndBreaks, ends_with, name}
 use Rattle.wh_model.specs.declared.faults.DecodeError.{DecodeError}
 use Rattle.wh_leb.specs.Reading.{◌>>=◌, fail, ReadsBy, Reader, Anything}
 use Rattle.wh_leb.proofs.Combinators.{bind_ok, bind_err, ok_is, err_is, succeed, fails_at, chosen, after, inside, reads_then}

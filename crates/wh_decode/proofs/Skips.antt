@@ -4,7 +4,7 @@ use Rattle.std.proofs.Math.ListN.{drop_of_length-le}
 use Rattle.std.proofs.lemmas.Bool.{le-leb, cond-true, cond-false, cases_lt, both_ways}
 use Rattle.wh_model.specs.declared.faults.FaultKind.TheVariants.{UnknownByte}
 use Rattle.wh_model.specs.declared.faults.DecodeError.{DecodeError}
-use Rattle.wh_model.specs.Format.Grammar.{exact_byte}
+use Rattle.wh_model.specs.Format.{exact_byte}
 use Rattle.wh_leb.specs.Reading.{◌>>=◌, one_at, u32_at, closed_from, exactly_from_at}
 use Rattle.wh_decode.specs.ReadingModule.{name_at, custom_at, begins_with, skip_from, skip_at}
 use Rattle.wh_leb.proofs.Combinators.{inside}

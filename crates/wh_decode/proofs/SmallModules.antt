@@ -2,11 +2,9 @@
 use Rattle.std.proofs.Common.{◌≡◌, ℕ, ◌≤◌, List, length, Some, refl, sym, subst, inl, inr, arith}
 use Rattle.std.specs.List.{AllByRecursion}
 use Rattle.wh_model.specs.Format.Grammar.{Grammar}
-use Rattle.wh_model.specs.Format.Leb.{u32, vec, vec_up_to}
-use Rattle.wh_model.specs.Format.Syntax.{FuncType, Import, Global, Export, Element, Data, Body, Module, empty_module}
-use Rattle.wh_model.specs.Format.Limits.{most_types, most_params, most_imports, most_functions, most_globals, most_exports, most_elements, most_segments, SmallBody, SmallModule}
-use Rattle.wh_model.specs.Format.Modules.{customs_then, section_or, part, ends_with, custom, from_end, from_data, from_code, from_elements, from_start, from_exports, from_globals, from_memories, from_tables, from_functions, from_imports, from_types, preamble, «module»}
-use Rattle.wh_model.specs.Format.Parts.{functype, «import», tabletype, limits, global, export, element, codes, segment}
+use Rattle.wh_model.specs.Format.{u32, vec, vec_up_to, FuncType, Import, Global, Export, Element, Data, Body, Module, empty_module, most_types, most_params, most_imports, most_functions, most_globals, most_exports, most_elements, most_segments, SmallBody, SmallModule, customs_then, section_or, part, ends_with, custom, from_end, from_data, from_code, from_elements, from_start, from_exports, from_globals, from_memories, from_tables, from_functions, from_imports, from_types, preamble, functype, tabletype, limits, global, export, element, codes, segment}
+use Rattle.wh_model.specs.Format.Modules.{«module»}
+use Rattle.wh_model.specs.Format.Parts.{«import»}
 use Rattle.wh_decode.proofs.SmallParts.{IsLimited, Free, FewAll, Few, SmallGlobal, SmallElement, SmallSegment, all_free, each_loose, each_tight, limited_plain, limited_unsigned, limited_vec_up_to, limited_count, limited_list, limited_section, limited_custom, limited_functype, limited_import, limited_tabletype, limited_limits, limited_global, limited_export, limited_element, limited_codes, limited_segment}
 
 -- From a section on: what is spelled keeps the parts that were read before (Kept), and is within the limits where the

@@ -7,14 +7,9 @@ use Rattle.wh_model.specs.declared.faults.FaultKind.TheVariants.{UnknownByte, Ut
 use Rattle.wh_model.specs.declared.ValType.{ValType}
 use Rattle.wh_model.specs.declared.Opcode.{Opcode}
 use Rattle.wh_model.specs.declared.Opcode.TheVariants.{Unreachable, Nop, Block, Loop, If, Else, End, Br, BrIf, BrTable, Return, Call, CallIndirect, Drop, Select, LocalGet, LocalSet, LocalTee, GlobalGet, GlobalSet, Load, Store, MemorySize, MemoryGrow, I32Const, I64Const, Test, Compare, Unary, Binary, Convert}
-use Rattle.wh_model.specs.Format.Grammar.{Grammar, gives, ◌>>=◌, one_of, this_byte, bytes, only_if, up_to, times, Each, exactly, exactly_from}
-use Rattle.wh_model.specs.Format.Leb.{u32, s32, s64, unsigned, signed, vec, vec_up_to}
-use Rattle.wh_model.specs.Format.Syntax.{Op, unreachable, nop, br, br_if, br_table, return, call, call_indirect, drop_operand, select, local_get, local_set, local_tee, global_get, global_set, load, store, memory_size, memory_grow, i32_const, i64_const, test, comparison, unary, binary, conversion, Instr, single, block_start, loop_start, if_start, else_mark, end_mark, expression, FuncType, Global, Element, Data, Body}
-use Rattle.wh_model.specs.Format.Opcodes.{opcode, export_kind}
-use Rattle.wh_model.specs.Format.Limits.{most_params, most_locals, most_labels, most_instructions, SmallInstr, SmallCode, SmallBody}
-use Rattle.wh_model.specs.Format.Instructions.{blocktype, with_index, with_address, opening, operands, instr, expr}
-use Rattle.wh_model.specs.Format.Modules.{custom, section}
-use Rattle.wh_model.specs.Format.Parts.{valtype, functype, limits_by, limits, tabletype, globaltype, name, constant, importdesc_by, importdesc, «import», global, export, element, byte_vector, segment, runs, locals, func, code, codes}
+use Rattle.wh_model.specs.Format.Grammar.{Grammar, ◌>>=◌}
+use Rattle.wh_model.specs.Format.{gives, one_of, this_byte, bytes, only_if, up_to, times, Each, exactly, exactly_from, u32, s32, s64, unsigned, signed, vec, vec_up_to, Op, unreachable, nop, br, br_if, br_table, return, call, call_indirect, drop_operand, select, local_get, local_set, local_tee, global_get, global_set, load, store, memory_size, memory_grow, i32_const, i64_const, test, comparison, unary, binary, conversion, Instr, single, block_start, loop_start, if_start, else_mark, end_mark, expression, FuncType, Global, Element, Data, Body, opcode, export_kind, most_params, most_locals, most_labels, most_instructions, SmallInstr, SmallCode, SmallBody, blocktype, with_index, with_address, opening, operands, instr, expr, custom, section, valtype, functype, limits_by, limits, tabletype, globaltype, name, constant, importdesc_by, importdesc, global, export, element, byte_vector, segment, runs, locals, func, code, codes}
+use Rattle.wh_model.specs.Format.Parts.{«import»}
 
 pub record IsLimited {A : Type 0} (g : Grammar A) (S : A → Type 0) : Type 0 where
   pub loose : (x : A) (b : List ℕ) → g.within x b → g.spells x b × S x

@@ -5,7 +5,7 @@ use Rattle.std.specs.Prelude.{IfOk, IfErr}
 use Rattle.wh_model.specs.declared.faults.FaultKind.{FaultKind}
 use Rattle.wh_model.specs.declared.faults.FaultKind.TheVariants.{Memory}
 use Rattle.wh_model.specs.Format.Syntax as model
-use Rattle.wh_model.specs.Format.Spelling.{AreBytes, Spells, Small, IsBroken}
+use Rattle.wh_model.specs.Format.{AreBytes, Spells, Small, IsBroken}
 use Rattle.wh_model.specs.declared.faults.DecodeError.{DecodeError}
 use Rattle.wh_leb.specs.Reading.{Gives}
 use Rattle.wh_syntax.specs.declared.module.Module.{Module}

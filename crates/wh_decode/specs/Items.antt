@@ -12,7 +12,7 @@ abbrev pub Given : {X : Type 0} → Gift X → List ℕ → ℕ → List X → �
 Given reads b at [] next = next ≡ at
 Given reads b at (x ∷ xs) next = (mid : ℕ) × reads b at (Ok (x, mid)) × Given reads b mid xs next
 
--- so many items, or the fault of one of them, or out of memory
+-- `count` items, or the fault of one of them, or out of memory
 abbrev pub GivesItems : {X : Type 0} → Gift X → ℕ → List ℕ → ℕ → Result (List X × ℕ) DecodeError → Type 0
 GivesItems reads count b at (Ok found) = (length found.0 ≡ count) × Given reads b at found.0 found.1
 GivesItems {X} reads count b at (Err e) = (e.kind ≡ Memory)

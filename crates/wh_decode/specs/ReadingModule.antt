@@ -150,7 +150,7 @@ abbrev pub begins_with : ℕ → List ℕ → Bool
 begins_with n [] = false
 begins_with n (m ∷ b) = nat_eq m n
 
--- the place behind the custom sections that stand here, at most so many
+-- the place after the custom sections that come next, at most n
 unfoldable pub skip_from : ℕ → List ℕ → ℕ → Result ℕ DecodeError
 skip_from zero b at = Ok at
 skip_from (suc n) b at = if begins_with 0 (drop at b) then (do

@@ -20,7 +20,7 @@ const MOST_LOCALS: u32 = 256;
 
 const MOST_INSTRUCTIONS: usize = 65536;
 
-/// Puts so many equal types at the end; the place is that of a fault.
+/// Appends `count` equal types; `at` is the offset of a fault.
 fn repeat(
     list: &mut SmallVec<ValType, 8>,
     count: u32,
@@ -36,7 +36,7 @@ fn repeat(
     Ok(())
 }
 
-/// So many runs of locals of one type.
+/// Reads `count` runs of locals of one type.
 fn runs(
     alloc: Global,
     count: u32,
@@ -122,7 +122,7 @@ fn body_count(bytes: &[u8], at: usize, functions: usize) -> Result<(u32, usize),
     Ok((count, next))
 }
 
-/// So many bodies, and the place behind them.
+/// Reads `count` bodies; returns them and the offset after them.
 fn body_list(
     alloc: Global,
     count: u32,
@@ -138,7 +138,7 @@ fn body_list(
     items(alloc, count, bytes, at)
 }
 
-/// The bodies of so many functions, and the place behind them.
+/// Reads the bodies of `functions` functions; returns them and the offset after them.
 #[tactic(auto, unfolding(crate::specs::ReadingModule::bodies_at))]
 pub fn bodies(
     alloc: Global,

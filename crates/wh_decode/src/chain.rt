@@ -20,7 +20,7 @@ use wh_syntax::Module;
 
 const GREATEST_ID: u8 = 11;
 
-/// The place behind the magic bytes and the version.
+/// Reads the magic bytes and the version; returns the offset after them.
 #[tactic(auto, unfolding(crate::specs::ReadingModule::preamble_at))]
 pub fn preamble(bytes: &[u8], at: usize) -> Result<usize, DecodeError>
     requires { at ≤ length bytes.now }
@@ -37,7 +37,7 @@ pub fn preamble(bytes: &[u8], at: usize) -> Result<usize, DecodeError>
     expect_byte(bytes, next, 0x00, FaultKind::Version)
 }
 
-/// A module without any part.
+/// Returns a module without any part.
 pub fn empty(alloc: Global) -> Module
     ensures { view_module result ≡ empty_module }
 {
@@ -284,7 +284,7 @@ fn from_imports(
     from_functions(alloc, bytes, next, partial)
 }
 
-/// The module from its first section on.
+/// Reads a module from its type section on, adding to `partial`; returns it and the offset after it.
 #[tactic(auto, unfolding(crate::specs::ReadingModule::types_at))]
 pub fn from_types(
     alloc: Global,

@@ -11,7 +11,7 @@ use crate::windows::{outer, window};
 use wh_leb::{fault, read_u32};
 use wh_model::{DecodeError, FaultKind};
 
-/// The place behind a custom section.
+/// The place after a custom section.
 #[tactic(auto, unfolding(crate::specs::ReadingModule::custom_at))]
 fn custom(bytes: &[u8], at: usize) -> Result<usize, DecodeError>
     requires { at ≤ length bytes.now }
@@ -34,7 +34,7 @@ fn custom(bytes: &[u8], at: usize) -> Result<usize, DecodeError>
     }
 }
 
-/// Whether this byte stands here.
+/// Tells whether the byte at this offset is `byte`.
 pub fn stands_at(bytes: &[u8], at: usize, byte: u8) -> bool
     requires { at ≤ length bytes.now }
     ensures { result ≡ begins_with byte (drop at bytes.now) }
@@ -45,7 +45,7 @@ pub fn stands_at(bytes: &[u8], at: usize, byte: u8) -> bool
     bytes[at] == byte
 }
 
-/// The place behind the custom sections that stand here.
+/// Skips the custom sections at this offset; returns the offset after them.
 pub fn skip(bytes: &[u8], at: usize) -> Result<usize, DecodeError>
     requires { at ≤ length bytes.now }
     ensures exact { Gives (λ next. next) result (skip_at bytes.now at) }
@@ -58,7 +58,8 @@ pub fn skip(bytes: &[u8], at: usize) -> Result<usize, DecodeError>
     Ok(place)
 }
 
-/// The size of a section whose id stands here, and the place of its contents.
+/// Reads the id, which has to be this one, and the size of a section; returns the size in bytes and the offset of its
+/// contents.
 pub fn section_start(bytes: &[u8], at: usize, id: u8) -> Result<(u32, usize), DecodeError>
     requires { at ≤ length bytes.now }
     ensures exact { Gives (λ x. x) result (section_start_at id bytes.now at) }

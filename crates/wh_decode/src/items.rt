@@ -1,4 +1,4 @@
-//! Items that stand one behind the other.
+//! Items that stand one after the other.
 
 ghost use Rattle.std.specs.Prelude.{◌≡◌, ℕ, ◌≤◌, ◌^◌, ◌<◌, ◌++◌, ◌∷◌, [], List, length, IfOk, IfErr, OnOk, Result};
 ghost use Rattle.wh_model.specs.declared.faults.DecodeError.{DecodeError};
@@ -14,7 +14,7 @@ pub trait Item: Sized {
     /// What reading it from a place of bytes may give.
     ghost gift: { List ℕ → ℕ → Result (Self × ℕ) DecodeError → Type 0 };
 
-    /// Reads it, and gives the place behind it.
+    /// Reads it, and gives the place after it.
     fn read(alloc: Global, bytes: &[u8], at: usize) -> Result<(Self, usize), DecodeError>
         requires inside { at ≤ length bytes.now }
         requires short { length bytes.now < 2 ^ 32 }
@@ -35,7 +35,8 @@ where
     }
 }
 
-/// So many items, one behind the other. Nothing is taken by the count: the list grows as they are there.
+/// Reads `count` items; returns them and the offset after them. The list grows as items are read: the count itself
+/// allocates nothing.
 pub fn items<T: Item + Drop>(
     alloc: Global,
     count: u32,
@@ -58,7 +59,7 @@ pub fn items<T: Item + Drop>(
     Ok((list, place))
 }
 
-/// A count that is limited, and looked at before what it counts.
+/// Reads the count of a vector, at most `limit`, before any of its items; returns it and the offset after it.
 pub fn count_up_to(bytes: &[u8], at: usize, limit: u32) -> Result<(u32, usize), DecodeError>
     requires { at ≤ length bytes.now }
     ensures exact { result ≡ limited_at limit u32_at bytes.now at }

@@ -5,8 +5,8 @@ ghost use Rattle.wh_model.specs.declared.faults.FaultKind.{FaultKind};
 ghost use Rattle.wh_model.specs.Format.Syntax.{Module};
 ghost use Rattle.wh_model.specs.Format.Spelling.{AreBytes, Spells, Small, IsBroken};
 
-/// Bytes have exactly one meaning: one fault, of one kind and at one offset, or one module within the limits, and never
-/// both. The function does nothing; what it ensures is the law.
+/// States that bytes have exactly one meaning: one fault, of one kind and at one offset, or one module within the
+/// limits, and never both. Does nothing when run: its contract is the law.
 pub fn one_meaning()
     ensures one_fault { (b : List ℕ) (kind kind2 : FaultKind) (offset offset2 : ℕ)
         → IsBroken b kind offset → IsBroken b kind2 offset2 → (kind ≡ kind2) × (offset ≡ offset2) }

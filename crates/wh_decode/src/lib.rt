@@ -42,16 +42,16 @@ fn read_module(alloc: Global, bytes: &[u8]) -> Result<Module, DecodeError>
     Ok(module)
 }
 
-/// The module that the bytes spell.
+/// Decodes a module of the binary format.
 ///
-/// It is decoded exactly if the bytes are a spelling of a module by section 5 of the W3C WebAssembly Core Specification
-/// 1.0, without floating point, and within this host's limits: 1048576 bytes, 1024 types of 256 parameters, 256 imports,
-/// 4096 functions, 1024 globals, exports and data segments, 256 element segments, and in a function 256 locals beside its
-/// parameters, 65536 instructions, 256 nested constructs, 4096 labels of a `br_table`.
+/// Succeeds exactly if the bytes are a spelling of a module by section 5 of the W3C WebAssembly Core Specification 1.0,
+/// without floating point, and within this host's limits: 1048576 bytes, 1024 types of 256 parameters, 256 imports,
+/// 4096 functions, 1024 globals, exports and data segments, 256 element segments, and in a function 256 locals besides
+/// its parameters, 65536 instructions, 256 nested constructs, 4096 labels of a `br_table`.
 ///
 /// # Errors
-/// The first fault of the bytes and its offset; no bytes have two. `Memory`, at the place reached, is answered only
-/// where a growth was refused.
+/// The first fault of the bytes and its offset; no bytes have two. `FaultKind::Memory`, at the offset reached, only if
+/// an allocation failed.
 pub fn decode(alloc: Global, bytes: &[u8]) -> Result<Module, DecodeError>
     // What is decoded is spelled so, within the limits.
     ensures found { IfOk result

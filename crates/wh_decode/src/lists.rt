@@ -43,7 +43,7 @@ fn type_items(
     items(alloc, count, bytes, at)
 }
 
-/// The function types.
+/// Reads the contents of a type section: at most 1024 function types.
 pub fn type_contents(
     alloc: Global,
     bytes: &[u8],
@@ -74,7 +74,7 @@ fn import_items(
     items(alloc, count, bytes, at)
 }
 
-/// The imports.
+/// Reads the contents of an import section: at most 256 imports.
 pub fn import_contents(
     alloc: Global,
     bytes: &[u8],
@@ -105,7 +105,7 @@ fn table_items(
     items(alloc, count, bytes, at)
 }
 
-/// The table types.
+/// Reads the contents of a table section: table types.
 pub fn table_contents(
     alloc: Global,
     bytes: &[u8],
@@ -136,7 +136,7 @@ fn memory_items(
     items(alloc, count, bytes, at)
 }
 
-/// The sizes of memories.
+/// Reads the contents of a memory section: limits of memories.
 pub fn memory_contents(
     alloc: Global,
     bytes: &[u8],
@@ -167,7 +167,7 @@ fn global_items(
     items(alloc, count, bytes, at)
 }
 
-/// The globals.
+/// Reads the contents of a global section: at most 1024 globals.
 pub fn global_contents(
     alloc: Global,
     bytes: &[u8],
@@ -198,7 +198,7 @@ fn export_items(
     items(alloc, count, bytes, at)
 }
 
-/// The exports.
+/// Reads the contents of an export section: at most 1024 exports.
 pub fn export_contents(
     alloc: Global,
     bytes: &[u8],
@@ -229,7 +229,7 @@ fn element_items(
     items(alloc, count, bytes, at)
 }
 
-/// The element segments.
+/// Reads the contents of an element section: at most 256 element segments.
 pub fn element_contents(
     alloc: Global,
     bytes: &[u8],
@@ -260,7 +260,7 @@ fn segment_items(
     items(alloc, count, bytes, at)
 }
 
-/// The data segments.
+/// Reads the contents of a data section: at most 1024 data segments.
 pub fn segment_contents(
     alloc: Global,
     bytes: &[u8],
@@ -276,7 +276,7 @@ pub fn segment_contents(
     segment_items(alloc, count, bytes, next)
 }
 
-/// The indices of the functions' types.
+/// Reads the contents of a function section: the type indices of at most 4096 functions.
 pub fn function_contents(
     alloc: Global,
     bytes: &[u8],

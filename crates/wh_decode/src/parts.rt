@@ -17,7 +17,7 @@ use wh_leb::{fault, read_u32};
 use wh_model::{DecodeError, ExternKind, FaultKind, Mutability};
 use wh_syntax::{Data, Element, Export, Global as GlobalVariable, Import, ImportDesc};
 
-/// So many bytes that are text, and the place behind them.
+/// Reads `count` bytes that are text; returns it and the offset after it.
 fn text(bytes: &[u8], at: usize, count: u32) -> Result<(&str, usize), DecodeError>
     requires { at ≤ length bytes.now }
     ensures exact { Gives (λ found. (found.0.now, found.1)) result
@@ -34,7 +34,7 @@ fn text(bytes: &[u8], at: usize, count: u32) -> Result<(&str, usize), DecodeErro
     }
 }
 
-/// A name (5.2.4), and the place behind it.
+/// Reads a name (5.2.4); returns it and the offset after it.
 #[tactic(auto, unfolding(crate::specs::ReadingModule::name_at))]
 pub fn name(bytes: &[u8], at: usize) -> Result<(&str, usize), DecodeError>
     requires { at ≤ length bytes.now }
@@ -212,7 +212,7 @@ fn export(alloc: Global, bytes: &[u8], at: usize) -> Result<(Export, usize), Dec
     Ok((Export { name, kind, index }, next))
 }
 
-/// A vector of indices, and the place behind it.
+/// A vector of indices, and the place after it.
 fn indices(alloc: Global, bytes: &[u8], at: usize) -> Result<(Vec<u32>, usize), DecodeError>
     requires inside { at ≤ length bytes.now }
     requires short { length bytes.now < 2 ^ 32 }
@@ -223,7 +223,7 @@ fn indices(alloc: Global, bytes: &[u8], at: usize) -> Result<(Vec<u32>, usize), 
     index_list(alloc, count, bytes, next)
 }
 
-/// So many indices, and the place behind them.
+/// Reads `count` indices; returns them and the offset after them.
 pub fn index_list(
     alloc: Global,
     count: u32,
@@ -260,7 +260,7 @@ fn element(alloc: Global, bytes: &[u8], at: usize) -> Result<(Element, usize), D
     ))
 }
 
-/// So many bytes of their own, and the place behind them.
+/// Copies `count` bytes; returns them and the offset after them.
 fn byte_list(
     alloc: Global,
     bytes: &[u8],

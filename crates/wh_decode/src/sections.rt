@@ -19,7 +19,7 @@ use wh_syntax::{
     Body, Data, Element, Export, FuncType, Global as GlobalVariable, Import, Limits, TableType,
 };
 
-/// Skips custom sections, and reads the section of this id, if it stands there: its contents have to fill it.
+/// Skips custom sections, and reads the section of this id, if it comes next: its contents have to fill it.
 macro_rules! section {
     ($bytes:expr, $at:expr, $id:expr, |$window:ident, $start:ident| $contents:expr) => {{
         let place = skip($bytes, $at)?;
@@ -35,7 +35,7 @@ macro_rules! section {
     }};
 }
 
-/// The type section.
+/// Reads the type section, if it is at this offset.
 #[tactic(auto, unfolding(crate::specs::ReadingModule::part_at, crate::specs::ReadingModule::type_list_at), using(crate::proofs::Closed::closed_gives))]
 pub fn type_section(
     alloc: Global,
@@ -56,7 +56,7 @@ pub fn type_section(
     )
 }
 
-/// The import section.
+/// Reads the import section, if it is at this offset.
 #[tactic(auto, unfolding(crate::specs::ReadingModule::part_at, crate::specs::ReadingModule::import_list_at), using(crate::proofs::Closed::closed_gives))]
 pub fn import_section(
     alloc: Global,
@@ -77,7 +77,7 @@ pub fn import_section(
     )
 }
 
-/// The function section.
+/// Reads the function section, if it is at this offset.
 #[tactic(auto, unfolding(crate::specs::ReadingModule::part_at, crate::specs::ReadingModule::function_list_at), using(crate::proofs::Closed::closed_gives))]
 pub fn function_section(
     alloc: Global,
@@ -98,7 +98,7 @@ pub fn function_section(
     )
 }
 
-/// The table section.
+/// Reads the table section, if it is at this offset.
 #[tactic(auto, unfolding(crate::specs::ReadingModule::part_at, crate::specs::ReadingModule::table_list_at), using(crate::proofs::Closed::closed_gives))]
 pub fn table_section(
     alloc: Global,
@@ -119,7 +119,7 @@ pub fn table_section(
     )
 }
 
-/// The memory section.
+/// Reads the memory section, if it is at this offset.
 #[tactic(auto, unfolding(crate::specs::ReadingModule::part_at, crate::specs::ReadingModule::memory_list_at), using(crate::proofs::Closed::closed_gives))]
 pub fn memory_section(
     alloc: Global,
@@ -140,7 +140,7 @@ pub fn memory_section(
     )
 }
 
-/// The global section.
+/// Reads the global section, if it is at this offset.
 #[tactic(auto, unfolding(crate::specs::ReadingModule::part_at, crate::specs::ReadingModule::global_list_at), using(crate::proofs::Closed::closed_gives))]
 pub fn global_section(
     alloc: Global,
@@ -161,7 +161,7 @@ pub fn global_section(
     )
 }
 
-/// The export section.
+/// Reads the export section, if it is at this offset.
 #[tactic(auto, unfolding(crate::specs::ReadingModule::part_at, crate::specs::ReadingModule::export_list_at), using(crate::proofs::Closed::closed_gives))]
 pub fn export_section(
     alloc: Global,
@@ -182,7 +182,7 @@ pub fn export_section(
     )
 }
 
-/// The start section: the index of the start function.
+/// Reads the start section, if it is at this offset: the index of the start function.
 #[tactic(auto, unfolding(crate::specs::ReadingModule::part_at, crate::specs::ReadingModule::start_function_at), using(crate::proofs::Closed::closed_gives))]
 pub fn start_section(bytes: &[u8], at: usize) -> Result<(Option<u32>, usize), DecodeError>
     requires inside { at ≤ length bytes.now }
@@ -192,7 +192,7 @@ pub fn start_section(bytes: &[u8], at: usize) -> Result<(Option<u32>, usize), De
     section!(bytes, at, 8, |window, start| read_u32(window, start))
 }
 
-/// The element section.
+/// Reads the element section, if it is at this offset.
 #[tactic(auto, unfolding(crate::specs::ReadingModule::part_at, crate::specs::ReadingModule::element_list_at), using(crate::proofs::Closed::closed_gives))]
 pub fn element_section(
     alloc: Global,
@@ -213,7 +213,7 @@ pub fn element_section(
     )
 }
 
-/// The code section, of so many functions.
+/// Reads the code section, of `functions` functions, if it is at this offset.
 #[tactic(auto, unfolding(crate::specs::ReadingModule::part_at, crate::specs::ReadingModule::codes_at), using(crate::proofs::Closed::closed_gives))]
 pub fn code_section(
     alloc: Global,
@@ -235,7 +235,7 @@ pub fn code_section(
     )
 }
 
-/// The data section.
+/// Reads the data section, if it is at this offset.
 #[tactic(auto, unfolding(crate::specs::ReadingModule::part_at, crate::specs::ReadingModule::segments_at), using(crate::proofs::Closed::closed_gives))]
 pub fn data_section(
     alloc: Global,

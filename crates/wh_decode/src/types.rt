@@ -27,7 +27,7 @@ fn value_type_of(byte: u8) -> Result<ValType, FaultKind>
     }
 }
 
-/// A value type, and the place behind it.
+/// Reads a value type; returns it and the offset after it.
 pub fn val_type(bytes: &[u8], at: usize) -> Result<(ValType, usize), DecodeError>
     requires { at ≤ length bytes.now }
     ensures exact { result ≡ one_at value_type bytes.now at }
@@ -91,7 +91,7 @@ fn limits_flag(bytes: &[u8], at: usize) -> Result<(bool, usize), DecodeError>
     }
 }
 
-/// The place behind a byte that has to be this one.
+/// Reads a byte that has to be `byte`, with fault `kind` if it isn't; returns the offset after it.
 pub fn expect_byte(bytes: &[u8], at: usize, byte: u8, kind: FaultKind) -> Result<usize, DecodeError>
     requires { at ≤ length bytes.now }
     ensures exact { Gives (λ next. (tt, next)) result (one_at (exact_byte kind byte) bytes.now at) }
@@ -122,7 +122,7 @@ pub fn keep_type<const N: usize>(
     }
 }
 
-/// So many value types.
+/// Reads `count` value types.
 fn val_types<const N: usize>(
     alloc: Global,
     count: u32,
@@ -202,7 +202,7 @@ fn table_type(bytes: &[u8], at: usize) -> Result<(TableType, usize), DecodeError
     Ok((TableType { limits }, next))
 }
 
-/// The type of a global, and the place behind it.
+/// Reads the type of a global; returns it and the offset after it.
 #[tactic(auto, unfolding(crate::specs::ReadingModule::globaltype_at))]
 pub fn global_type(bytes: &[u8], at: usize) -> Result<(GlobalType, usize), DecodeError>
     requires { at ≤ length bytes.now }

@@ -1,4 +1,4 @@
-//! Windows: so many bytes of the input, as far as there are any, which what is read has to fill.
+//! Windows: a number of bytes of the input, as far as there are any, which what is read has to fill.
 
 ghost use Rattle.std.specs.Prelude.{◌≡◌, ◌≤◌, length, take, Result};
 ghost use Rattle.wh_leb.specs.Reading.{outer_fault, closed_window};
@@ -6,7 +6,7 @@ ghost use Rattle.wh_leb.specs.Reading.{outer_fault, closed_window};
 use wh_leb::fault;
 use wh_model::{DecodeError, FaultKind};
 
-/// The bytes up to this place, as far as there are any.
+/// Returns the bytes up to `end`, or all if there are fewer.
 pub fn window(bytes: &[u8], end: usize) -> &[u8]
     ensures value { result.now ≡ take end bytes.now }
     ensures shorter { length result.now ≤ length bytes.now }
@@ -18,7 +18,8 @@ pub fn window(bytes: &[u8], end: usize) -> &[u8]
     }
 }
 
-/// A fault inside a window, seen from outside: the end of a window that is there whole is a wrong size.
+/// Translates a fault inside a window to one outside: running out of a window that is there whole is a wrong section
+/// size.
 pub fn outer(whole: bool, inner: DecodeError) -> DecodeError
     ensures { result ≡ outer_fault whole inner }
 {
@@ -31,7 +32,7 @@ pub fn outer(whole: bool, inner: DecodeError) -> DecodeError
     }
 }
 
-/// What was read in a window that has to end where the reading ended.
+/// Returns what was read in a window, or the fault of a wrong section size if reading didn't end where the window does.
 pub fn close<T: Drop>(
     whole: bool,
     end: usize,

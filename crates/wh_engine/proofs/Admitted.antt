@@ -2,28 +2,24 @@
 use Rattle.std.proofs.Common.{arith, ◌≡◌, ◌≢◌, ℕ, zero, suc, ◌+◌, ◌-◌, ◌<◌, inl, ◌↔◌, true, false, Bool, List, [], ◌∷◌, ◌++◌, map, take, length, get_or, slice_get, string_bytes, option_map, Option, Some, None, Ok, Err, refl, ap, sym, subst, ◌∙◌}
 use Rattle.std.specs.Bool.{MatchBool}
 use Rattle.std.specs.List.{AllZip}
-use Rattle.wh_model.specs.Format.Syntax.{Module}
-use Rattle.wh_model.specs.Execution.Instance.{Piece}
-use Rattle.wh_model.specs.Execution.Replay.{Outcome, returned, pending, Call}
+use Rattle.wh_model.specs.Format.{Module}
+use Rattle.wh_model.specs.Execution.{Piece, Outcome, returned, pending, Call}
 use Rattle.wh_host.proofs.Hosts.{reached_on}
 use Rattle.wh_host_model.specs.Host.Events as events
-use Rattle.wh_host_model.specs.declared.plain.InstId.{InstId}
+use Rattle.wh_space_model.specs.declared.plain.InstId.{InstId}
 use Rattle.std.proofs.Math.Seq.{get_or-append_seam}
 use Rattle.std.proofs.lemmas.List.{length-map}
 use Rattle.std.proofs.lemmas.Option.{same_Some}
 use Rattle.wh_model.specs.Execution.Store.{Instance, Store}
-use Rattle.wh_host_model.specs.Host.Worlds.{Doing, Loaded, Tenant, World, tenant, journal, journal_calls, loaded_of}
-use Rattle.wh_host_model.specs.Owners.{Entry, start_entry}
-use Rattle.wh_host_model.specs.Owners.{Params, AdmitFault}
-use Rattle.wh_host_model.specs.Host.Admission.{StartsAs, writes, runs, ends, rest_of, LetsIn}
-use Rattle.wh_host_model.specs.Host.Happens.{AdmitAnswer, admit_ok, IsAdmit, is_admitted, isnt_admitted, no_memory_to_admit}
+use Rattle.wh_host_model.specs.Host.{Doing, Loaded, Tenant, World, tenant, journal, journal_calls, loaded_of, StartsAs, writes, runs, rest_of, LetsIn, AdmitAnswer, admit_ok, IsAdmit, is_admitted, isnt_admitted, no_memory_to_admit}
+use Rattle.wh_host_model.specs.{Entry, start_entry, Params, AdmitFault}
+use Rattle.wh_host_model.specs.Host.Admission.{ends}
 use Rattle.wh_script_model.specs.Settings.{Settings}
 use Rattle.wh_script_model.specs.Texts as texts
-use Rattle.wh_script_model.specs.Texts.{Reply}
+use Rattle.wh_script_model.specs.{Reply, NamedModule, ReceivesInstance, first_outcome, new_instance}
 use Rattle.wh_script_model.specs.ScriptState as script
-use Rattle.wh_script_model.specs.ScriptState.{ScriptState, NamedModule}
+use Rattle.wh_script_model.specs.ScriptState.{ScriptState}
 use Rattle.wh_script_model.specs.Receiving as receiving
-use Rattle.wh_script_model.specs.Receiving.{ReceivesInstance, first_outcome, new_instance}
 use Rattle.wh_host.specs.Hosting.{HostState, IsHost}
 use Rattle.wh_host.specs.Admitting.{AnswersAdmit, fault_answer}
 use Rattle.wh_host.specs.Paging.{IsGoing, Tells}

@@ -1,10 +1,8 @@
 -- An engine that keeps of all that was made what it kept, on another host.
-use Rattle.std.proofs.Common.{ℕ, true, [], ◌∷◌}
+use Rattle.std.proofs.Common.{ℕ, Bool, true, [], ◌∷◌}
 use Rattle.wh_script_model.specs.Settings.{Settings}
-use Rattle.wh_script_model.specs.Commands.{Command}
-use Rattle.wh_script_model.specs.Texts.{Reply}
+use Rattle.wh_script_model.specs.{Command, Reply, Files, IsObeyed}
 use Rattle.wh_script_model.specs.ScriptState.{ScriptState}
-use Rattle.wh_script_model.specs.Answers.{Files, IsObeyed}
 use Rattle.wh_scheduler.specs.InHand.{OwnedState}
 use Rattle.wh_engine.specs.Obeying.{ObeysCommand}
 use Rattle.wh_engine.specs.RepresentedScript.{ScriptHostState, RepresentsScript, RepresentsWhole, WholeState, whole_on}
@@ -14,7 +12,7 @@ use Rattle.wh_engine.proofs.Asked.{ObeysWhole, on_host}
 abbrev pub whole_in : {D : Type 0} {settings : Settings} {e : ScriptHostState D} {m : ScriptState} → RepresentsScript settings e m → WholeState
 whole_in {e = e} s = whole_on e s.instances s.invoked
 
--- what stands for the script, of all that was made, on another host
+-- what represents the script, of all that was made, on another host
 pub stands_again : {D : Type 0} (settings : Settings) (e : ScriptHostState D) (m m2 : ScriptState) (o2 : OwnedState D) (s : RepresentsScript settings e m)
     → RepresentsWhole settings (on_host (whole_on e s.instances s.invoked) o2.host) m2 → RepresentsScript settings (record e { host = o2 }) m2
 stands_again settings e m m2 o2 s stands = record {
@@ -24,6 +22,18 @@ stands_again settings e m m2 o2 s stands = record {
   pending = s.pending;
   asked = s.asked;
   stands = stands;
+}
+
+-- no script knows whether threads were lacking
+pub stands_told : {D : Type 0} (settings : Settings) (e : ScriptHostState D) (m : ScriptState) (lacked : Bool) → RepresentsScript settings e m
+    → RepresentsScript settings (record e { lacked_threads = lacked }) m
+stands_told settings e m lacked s = record {
+  instances = s.instances;
+  invoked = s.invoked;
+  kept = s.kept;
+  pending = s.pending;
+  asked = s.asked;
+  stands = s.stands;
 }
 
 pub obeyed_again : {D : Type 0} (settings : Settings) (files : Files) (m : ScriptState) (line : ℕ) (command : Command) (reply : Reply) (e : ScriptHostState D) (o2 : OwnedState D) (s : RepresentsScript settings e m)

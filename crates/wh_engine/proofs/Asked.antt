@@ -2,15 +2,12 @@
 use Rattle.std.proofs.Common.{arith, ◌≡◌, ℕ, ◌<◌, true, List, [], ◌∷◌, map, length, get_or, slice_get, Some, Result, Ok, Err, refl, ap, sym, subst, ◌∙◌}
 use Rattle.std.proofs.lemmas.Option.{slice_get-get_or}
 use Rattle.wh_host.proofs.Hosts.{reached_on}
-use Rattle.wh_host_model.specs.Host.Events.{Event}
-use Rattle.wh_host_model.specs.declared.plain.InstId.{InstId}
-use Rattle.wh_host_model.specs.Host.Worlds.{World}
-use Rattle.wh_host_model.specs.Host.Happens.{CallAnswer, call_ok, call_no_instance, call_no_call, Happens}
+use Rattle.wh_host_model.specs.Host.{Event, World, CallAnswer, call_ok, call_no_instance, call_no_call}
+use Rattle.wh_space_model.specs.declared.plain.InstId.{InstId}
+use Rattle.wh_host_model.specs.Host.Happens.{Happens}
 use Rattle.wh_script_model.specs.Settings.{Settings}
-use Rattle.wh_script_model.specs.Commands.{Command}
-use Rattle.wh_script_model.specs.Texts.{Reply}
+use Rattle.wh_script_model.specs.{Command, Reply, Files, IsObeyed}
 use Rattle.wh_script_model.specs.ScriptState.{ScriptState}
-use Rattle.wh_script_model.specs.Answers.{Files, IsObeyed}
 use Rattle.wh_host.specs.Hosting.{HostState, IsHost}
 use Rattle.wh_host.specs.CallRequests.{IsCallAnswer, AnswersCall, host_number}
 use Rattle.wh_host.specs.declared.error.HostError.{HostError}

@@ -4,12 +4,11 @@ use Rattle.std.proofs.lemmas.List.{length-map}
 use Rattle.wh_names.specs.declared.names.Names.{Names}
 use Rattle.wh_host.proofs.Hosts.{reached_on}
 use Rattle.wh_host_model.specs.Host.Events as events
-use Rattle.wh_host_model.specs.Host.Worlds.{World}
-use Rattle.wh_host_model.specs.Host.Happens.{InvokeAnswer, IsInvoke}
+use Rattle.wh_host_model.specs.Host.{World, InvokeAnswer, IsInvoke}
 use Rattle.wh_script_model.specs.Settings.{Settings}
 use Rattle.wh_script_model.specs.ScriptState as script
-use Rattle.wh_script_model.specs.ScriptState.{ScriptState, with_instance, with_invoked, call_rejected, call_accepted}
-use Rattle.wh_script_model.specs.Receiving.{ReceivesCall, instance_is_gone, isnt_invoked, is_invoked, call_out_of_memory}
+use Rattle.wh_script_model.specs.ScriptState.{ScriptState}
+use Rattle.wh_script_model.specs.{with_instance, with_invoked, call_rejected, ReceivesCall, instance_is_gone, isnt_invoked, is_invoked, call_out_of_memory}
 use Rattle.wh_host.specs.Hosting.{HostState}
 use Rattle.wh_host.specs.CallRequests.{AnswersInvoke, IsInvokeAnswer, refusal_answer, host_number}
 use Rattle.wh_host.specs.declared.error.HostError.{HostError}

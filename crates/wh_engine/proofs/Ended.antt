@@ -3,11 +3,11 @@ use Rattle.std.proofs.Common.{arith, ◌≡◌, ◌∙◌, ℕ, suc, ◌+◌, �
 use Rattle.std.specs.List.{filter}
 use Rattle.std.proofs.lemmas.Bool.{cases_eq}
 use Rattle.std.proofs.lemmas.Option.{same_Some}
-use Rattle.wh_host_model.proofs.Space.Putting.{set_same, set_other}
+use Rattle.wh_space_model.proofs.Putting.{set_same, set_other}
 use Rattle.wh_engine.specs.declared.parts.NamedInstance.{NamedInstance}
 use Rattle.wh_engine.specs.RepresentedScript.{is_over}
 
--- none of the first so many is over
+-- none of the first n is over
 pub record NoneOver (xs : List NamedInstance) (count : ℕ) : Type 0 where
   pub none : (k : ℕ) (x : NamedInstance) → k < count → slice_get xs k ≡ Some x → is_over x ≡ false
 

@@ -1,17 +1,14 @@
 -- An engine on a new host.
 use Rattle.std.proofs.Common.{arith, ◌≡◌, ◌∙◌, ℕ, zero, suc, [], length, replicate, map, refl, sym, ap, subst}
-use Rattle.wh_host_model.specs.declared.Tax.{Tax}
-use Rattle.wh_host_model.specs.declared.states.Slot.TheVariants.{Vacant}
-use Rattle.wh_host_model.specs.Frames.{tally}
-use Rattle.wh_host_model.specs.Pages.{zero_page}
-use Rattle.wh_host_model.specs.Space.Errands.{is_ticket, tickets}
-use Rattle.wh_host_model.specs.Space.Parts.{Space, minima, spreads}
-use Rattle.wh_script_model.specs.ScriptState.{empty_script}
+use Rattle.wh_space_model.specs.declared.Tax.{Tax}
+use Rattle.wh_space_model.specs.declared.states.Slot.TheVariants.{Vacant}
+use Rattle.wh_space_model.specs.{tally, zero_page, is_ticket, tickets, Space, minima, spreads}
+use Rattle.wh_script_model.specs.{empty_script}
 use Rattle.wh_script_model.specs.Settings.{Settings}
 use Rattle.wh_host.specs.Hosting.{IsNewHost}
 use Rattle.wh_space.specs.Arrivals.{IsNew}
 use Rattle.std.specs.List.{AllZip}
-use Rattle.wh_host_model.specs.Host.Worlds.{World}
+use Rattle.wh_host_model.specs.Host.{World}
 use Rattle.wh_script_laws.specs.Following.{AreSame, IsFollowed, IsModuleKept, IsPlaced, Knows, StandsSame}
 use Rattle.wh_names.specs.NamePlaces.{AreNamedOnce}
 use Rattle.wh_engine.specs.declared.parts.NamedInstance.{NamedInstance}

@@ -2,12 +2,10 @@
 use Rattle.std.proofs.Common.{◌≡◌, ℕ, ◌-◌, true, List, [], ◌∷◌, ◌++◌, map, take, length, Result, Ok, Err, refl, ap, sym, subst, ◌∙◌}
 use Rattle.wh_host.proofs.Hosts.{reached_on}
 use Rattle.wh_host_model.specs.Host.Events as events
-use Rattle.wh_host_model.specs.Host.Worlds.{World}
-use Rattle.wh_host_model.specs.Host.Happens.{LoadAnswer}
+use Rattle.wh_host_model.specs.Host.{World, LoadAnswer}
 use Rattle.wh_script_model.specs.Settings.{Settings}
-use Rattle.wh_script_model.specs.Texts.{Refusal, Reply, module_ok, module_refused}
-use Rattle.wh_script_model.specs.ScriptState.{NamedModule, ScriptState}
-use Rattle.wh_script_model.specs.Receiving.{ReceivesModule, module_is_kept, module_isnt_kept, module_out_of_memory}
+use Rattle.wh_script_model.specs.{Refusal, Reply, module_ok, module_refused, NamedModule, ReceivesModule, module_is_kept, module_isnt_kept, module_out_of_memory}
+use Rattle.wh_script_model.specs.ScriptState.{ScriptState}
 use Rattle.wh_host.specs.Hosting.{HostState}
 use Rattle.wh_host.specs.Loading.{AnswersLoad, IsLoadAnswer}
 use Rattle.wh_host.specs.declared.error.ModuleError.{ModuleError}

@@ -1,8 +1,9 @@
--- What names stand for.
+-- What names represent.
 use Rattle.std.proofs.Common.{◌≡◌, ◌∙◌, ℕ, zero, suc, ◌<◌, List, [], ◌∷◌, map, length, slice_get, Option, Some, None, IfSome, MatchOption, refl, sym, ap}
 use Rattle.std.proofs.lemmas.Option.{same_Some, slice_get_within}
 use Rattle.wh_script_model.specs.ScriptState as script
-use Rattle.wh_script_model.specs.ScriptState.{NamedModule, ScriptState, HasModule, HasInstance, LacksInstance, NoModule}
+use Rattle.wh_script_model.specs.ScriptState.{ScriptState}
+use Rattle.wh_script_model.specs.{NamedModule, LacksInstance, NoModule}
 use Rattle.wh_names.specs.NamePlaces.{place_of_name}
 use Rattle.wh_names.proofs.Places.{found, none_there}
 use Rattle.wh_engine.specs.Obeying.{IsModuleNamed, IsNamed}

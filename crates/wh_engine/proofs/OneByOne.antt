@@ -7,7 +7,7 @@ OneByOne step [] text ys text2 = (ys ≡ []) × (text2 ≡ text)
 OneByOne {A} step (x ∷ xs) text ys text2 =
     (y : A) × (rest : List A) × (mid : List ℕ) × (ys ≡ y ∷ rest) × step x y text mid × OneByOne step xs mid rest text2
 
--- the first so many were changed so
+-- the first n were changed so
 pub record FirstChanged {A : Type 0} (step : A → A → List ℕ → List ℕ → Type 0) (old now : List A) (count : ℕ) (text text2 : List ℕ) : Type 0 where
   pub done : List A
   pub after : List A

@@ -2,17 +2,14 @@
 use Rattle.std.proofs.Common.{arith, ◌≡◌, ℕ, ◌+◌, zero, suc, false, List, [], ◌∷◌, ◌++◌, map, length, Result, Ok, Err, OnOk, get_or, slice_get, Option, Some, None, option_map, refl, ap, sym, subst, ◌∙◌, append_assoc, append-nil, Bool, true, ◌&&◌, ◌||◌, not, ◌⊎◌, inl, inr, ⊎_elim}
 use Rattle.std.proofs.lemmas.Option.{same_Some, none-some}
 use Rattle.std.specs.List.{AllZip, filter}
-use Rattle.wh_model.specs.Execution.Instance.{Piece}
-use Rattle.wh_model.specs.Execution.Replay.{Call}
-use Rattle.wh_host_model.specs.declared.plain.InstId.{InstId}
-use Rattle.wh_host_model.specs.Host.Worlds.{Tenant, World, tenant, journal, journal_calls}
+use Rattle.wh_model.specs.Execution.{Piece, Call}
+use Rattle.wh_space_model.specs.declared.plain.InstId.{InstId}
+use Rattle.wh_host_model.specs.Host.{Tenant, World, tenant, journal, journal_calls}
 use Rattle.wh_script_model.specs.Settings.{Settings}
 use Rattle.wh_script_model.specs.Texts as texts
-use Rattle.wh_script_model.specs.Texts.{CallStatus, Reply, done, trapped, wants_fuel, wants_frame, queued, cancelled, dead, refused, reply_text}
+use Rattle.wh_script_model.specs.{CallStatus, Reply, done, trapped, wants_fuel, wants_frame, queued, cancelled, dead, refused, reply_text, call_status, PrintsLine, PrintsStart, has_none, has_one, PrintStarts, PrintsCall, is_taken, PrintCalls, replies_text}
 use Rattle.wh_script_model.specs.ScriptState as script
 use Rattle.wh_script_model.specs.ScriptState.{ScriptState}
-use Rattle.wh_script_model.specs.Drains.{call_status, PrintsLine, PrintsStart, has_none, has_one, PrintStarts, PrintsCall, is_taken, PrintCalls}
-use Rattle.wh_script_model.specs.Answers.{replies_text}
 use Rattle.wh_replies.specs.View.{status_of}
 use Rattle.wh_replies.specs.declared.call.Status.{Status}
 use Rattle.wh_replies.specs.declared.call.Status.TheVariants as code

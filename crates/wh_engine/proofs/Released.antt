@@ -4,15 +4,12 @@ use Rattle.std.specs.Global.{Vec}
 use Rattle.std.proofs.lemmas.Option.{same_Some}
 use Rattle.wh_host.proofs.Hosts.{reached_on}
 use Rattle.wh_host_model.specs.Host.Events as events
-use Rattle.wh_host_model.specs.Host.Worlds.{World}
-use Rattle.wh_host_model.specs.Host.Happens.{IsRelease}
+use Rattle.wh_host_model.specs.Host.{World, IsRelease}
 use Rattle.wh_script_model.specs.Settings.{Settings}
-use Rattle.wh_script_model.specs.Commands.{release}
-use Rattle.wh_script_model.specs.Texts.{Reply, release_ok, release_refused}
+use Rattle.wh_script_model.specs.{release, Reply, release_ok, release_refused, HasInstance, Files, IsObeyed}
 use Rattle.wh_script_model.specs.ScriptState as script
-use Rattle.wh_script_model.specs.ScriptState.{ScriptState, HasInstance, with_instance}
+use Rattle.wh_script_model.specs.ScriptState.{ScriptState}
 use Rattle.wh_script_model.specs.Answers as answers
-use Rattle.wh_script_model.specs.Answers.{Files, IsObeyed}
 use Rattle.wh_host.specs.Hosting.{HostState}
 use Rattle.wh_host.specs.Releasing.{AnswersRelease, IsOutput}
 use Rattle.wh_host.specs.CallRequests.{host_number}

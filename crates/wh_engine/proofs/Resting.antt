@@ -6,7 +6,7 @@ use Rattle.wh_host.specs.Hosting.{HostState}
 use Rattle.wh_host.specs.Paging.{IsGoing, Tells}
 use Rattle.wh_engine.specs.declared.parts.NamedInstance.{NamedInstance}
 
--- the first so many rest
+-- the first n rest
 abbrev pub FirstRest : HostState → List NamedInstance → ℕ → Type 0
 FirstRest h xs count = (i : ℕ) (x : NamedInstance) → i < count → slice_get xs i ≡ Some x → Tells h false (λ w. IsGoing w x.id)
 

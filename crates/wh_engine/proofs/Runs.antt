@@ -1,20 +1,17 @@
 -- What a drain comes to.
-use Rattle.std.proofs.Common.{arith, ◌≡◌, ◌≢◌, ℕ, ◌+◌, ◌⊎◌, inl, inr, zero, suc, List, [], ◌∷◌, map, get_or, slice_get, Option, Some, None, refl, ap, sym, subst, ◌∙◌, false, true, ⊎_elim}
+use Rattle.std.proofs.Common.{arith, ◌≡◌, ◌≢◌, ℕ, ◌+◌, ◌⊎◌, inl, inr, zero, suc, List, [], ◌∷◌, ◌++◌, map, get_or, slice_get, Option, Some, None, refl, ap, sym, subst, ◌∙◌, Bool, false, true, ⊎_elim}
 use Rattle.std.specs.List.{AllZip}
 use Rattle.std.proofs.lemmas.Option.{same_Some}
-use Rattle.wh_host_model.specs.declared.plain.InstId.{InstId}
-use Rattle.wh_host_model.specs.declared.plain.SwapError.{SwapError}
-use Rattle.wh_host_model.specs.Space.Errands.{tickets}
-use Rattle.wh_host_model.specs.Space.Parts.{Space}
+use Rattle.wh_space_model.specs.declared.plain.InstId.{InstId}
+use Rattle.wh_space_model.specs.declared.plain.SwapError.{SwapError}
+use Rattle.wh_space_model.specs.{tickets, Space, swap_number}
 use Rattle.wh_host_model.specs.Host.Events as events
-use Rattle.wh_host_model.specs.Host.Happens.{OnlyMoves}
-use Rattle.wh_host_model.specs.Host.Worlds.{Suspension, for_fuel, for_frame, for_device, Tenant, World, tenant}
-use Rattle.wh_host_model.specs.Owners.{Entry}
+use Rattle.wh_host_model.specs.Host.{OnlyMoves, Suspension, for_fuel, for_frame, for_device, Tenant, World, tenant}
+use Rattle.wh_host_model.specs.{Entry}
 use Rattle.wh_script_model.specs.Settings.{Settings}
 use Rattle.wh_script_model.specs.ScriptState as script
 use Rattle.wh_script_model.specs.ScriptState.{ScriptState}
-use Rattle.wh_script_model.specs.Failing.{RunsAmid, ZipAmid, gone_still, stands_still, runs_on}
-use Rattle.wh_script_model.specs.Served.{GoesNoFurther}
+use Rattle.wh_script_model.specs.{RunsAmid, ZipAmid, gone_still, stands_still, runs_on, GoesNoFurther}
 use Rattle.wh_reclaim.specs.Whole.{IsAsWhole}
 use Rattle.wh_host.specs.Backing.{KeepsBacking}
 use Rattle.wh_host.specs.Hosting.{HostState, IsHost}
@@ -34,10 +31,9 @@ use Rattle.wh_engine.proofs.Asked.{whole_of}
 use Rattle.wh_engine.proofs.Touching.{placed_at}
 use Rattle.wh_engine.proofs.Whole.{keeps_whole}
 use Rattle.wh_engine.proofs.Worked.{works_known}
-use Rattle.wh_engine.proofs.Again.{stands_again}
+use Rattle.wh_engine.proofs.Again.{stands_again, stands_told}
 use Rattle.wh_engine.proofs.Found.{over_released, pair_at}
 use Rattle.wh_engine.proofs.Left.{kept_or_over}
-use Rattle.wh_host_model.specs.SwapFaults.{swap_number}
 
 -- ---- the device
 
@@ -103,7 +99,7 @@ served_by [] o not = inl (inl refl)
 served_by (e ∷ es) o not =
     ⊎_elim (λ (fuel : o ≡ Some for_fuel). inl (inr fuel)) (λ (device : (fault : SwapError) × (o ≡ Some (for_device fault))). inr device) (stands_so e es o not)
 
--- where nothing can bring the instance on, it is served, or stands for a device
+-- where nothing can run the instance, it is served, or is blocked on a device
 is_served_at : (faults : List ℕ) (settings : Settings) (m : ScriptState) (places : List ℕ) (w : World) (id : InstId) (t : Tenant) → RunsKnown faults settings w m places
     → slice_get places id.number ≡ Some id.place → ¬ (IsGoing w id) → tenant w id.number ≡ Some t → GoesNoFurther t ⊎ StandsForDevice t
 is_served_at faults settings m places w id t known at not there =
@@ -170,16 +166,19 @@ all_served faults settings m e kept h2 w2 are leaves is2 known rest i t there =
     (kept_or_over leaves i x d.1)
 
 -- then all have run
-ran_so : {D : Type 0} (faults : List ℕ) (settings : Settings) (m : ScriptState) (e : ScriptHostState D) (o2 : OwnedState D) (w2 : World) (s : RepresentsScript settings e m) → IsLed o2.host w2 → RunsKnown faults settings w2 m (map (λ (x : NamedInstance). x.id.place) s.instances)
-    → AllRest o2.host e.instances → (run : List script.NamedInstance) × ZipAmid RunsAmid faults m.instances run × RepresentsScript settings (record e { host = o2 }) (record m { instances = run })
-ran_so faults settings m e o2 w2 s led known rest =
+ran_so : {D : Type 0} (faults : List ℕ) (settings : Settings) (m : ScriptState) (e : ScriptHostState D) (o2 : OwnedState D) (lacked : Bool) (w2 : World)
+    (s : RepresentsScript settings e m) → IsLed o2.host w2 → RunsKnown faults settings w2 m (map (λ (x : NamedInstance). x.id.place) s.instances)
+    → AllRest o2.host e.instances → (run : List script.NamedInstance) × ZipAmid RunsAmid faults m.instances run
+    × RepresentsScript settings (record e { host = o2; lacked_threads = lacked }) (record m { instances = run; faults_met = faults ++ m.faults_met })
+ran_so faults settings m e o2 lacked w2 s led known rest =
     let whole = whole_on e s.instances s.invoked in
     let reached = led.1 in
     let all = all_served faults settings m whole e.instances o2.host w2 s.stands.instances s.kept led.0 known rest in
     let end = drains_end reached.frames reached.slots reached.tax reached.events w2 reached.happen faults settings m (places_of whole) known all in (
       end.0,
       end.1,
-      stands_again settings e m (record m { instances = end.0 }) o2 s
+      stands_told settings (record e { host = o2 }) (record m { instances = end.0; faults_met = faults ++ m.faults_met }) lacked
+          (stands_again settings e m (record m { instances = end.0; faults_met = faults ++ m.faults_met }) o2 s
           (record {
             world = w2;
             is = led;
@@ -189,7 +188,7 @@ ran_so faults settings m e o2 w2 s led known rest =
             apart = s.stands.apart;
             instances = run_keeps faults 0 s.instances m.instances end.0 end.1 s.stands.instances;
             invoked = s.stands.invoked;
-          }),
+          })),
     )
 
 -- ---- a drain
@@ -197,7 +196,7 @@ ran_so faults settings m e o2 w2 s led known rest =
 -- none could go on from the beginning
 ran_at_once : {D : Type 0} (e : ScriptHostState D) → AllRest e.host.host e.instances → RunsEach e e []
 ran_at_once e rest settings m s =
-    ran_so [] settings m e e.host s.stands.world s s.stands.is (drains_begin settings s.stands.world m _ s.stands.knows) rest
+    ran_so [] settings m e e.host e.lacked_threads s.stands.world s s.stands.is (drains_begin settings s.stands.world m _ s.stands.knows) rest
 
 pub ran_nobody : {D : Type 0} (honest : D → Type 0) (faults : D → List SwapError) (e : ScriptHostState D) → AllRest e.host.host e.instances
     → DeviceHoldsAmid honest faults e.host.device e.host.device (RunsEach e e)
@@ -207,9 +206,11 @@ whole_moves : (s s2 : Space) → IsAsWhole s s2 → tickets s ≡ 0 → tickets 
 whole_moves s s2 whole none none2 = record { frames = whole.frames; slots = whole.slots; tax = whole.tax; none_out = none2 ∙ sym none }
 
 -- work has brought all so far that none can go on
-ran_right : {D : Type 0} (keeps honest : D → Type 0) (faults : D → List SwapError) (e : ScriptHostState D) (o2 : OwnedState D) (on : ComesOn keeps honest faults (left_of e.host) (left_of o2))
-    → tickets o2.host.space ≡ 0 → AllRest o2.host e.instances → honest on.device → RunsEach e (record e { host = o2 }) (map swap_number on.came.more)
-ran_right keeps honest faults e o2 on none rest right settings m s =
+ran_right : {D : Type 0} (keeps honest : D → Type 0) (faults : D → List SwapError) (e : ScriptHostState D) (o2 : OwnedState D) (lacked : Bool)
+    (on : ComesOn keeps honest faults (left_of e.host) (left_of o2))
+    → tickets o2.host.space ≡ 0 → AllRest o2.host e.instances → honest on.device
+    → RunsEach e (record e { host = o2; lacked_threads = lacked }) (map swap_number on.came.more)
+ran_right keeps honest faults e o2 lacked on none rest right settings m s =
     let c = on.came in
     let met = map swap_number c.more in
     let w = s.stands.world in
@@ -222,19 +223,22 @@ ran_right keeps honest faults e o2 on none rest right settings m s =
     let whole = whole_of h h2 w w2 s.stands.is.0 did.2 (whole_moves h.space h2.space c.whole before none) in
     let begun = drains_begin settings w m places s.stands.knows in
     let known = works_known c.more settings w w2 m places s.stands.is.1 did.1 whole begun in
-    ran_so met settings m e o2 w2 s (did.2, known.0) known.1 rest
+    ran_so met settings m e o2 lacked w2 s (did.2, known.0) known.1 rest
 
 -- pages alone had moved before
 runs_after : {D : Type 0} (e e1 e2 : ScriptHostState D) (faults : List ℕ) → StaysSo e e1 → RunsEach e1 e2 faults → RunsEach e e2 faults
 runs_after e e1 e2 faults stays runs settings m s = runs settings m (stays settings m s)
 
-pub ran_each : {D : Type 0} (keeps honest : D → Type 0) (faults : D → List SwapError) (before mid e : ScriptHostState D) (o2 : OwnedState D) → e ≡ mid → ComesOn keeps honest faults (left_of e.host) (left_of o2)
+pub ran_each : {D : Type 0} (keeps honest : D → Type 0) (faults : D → List SwapError) (before mid e : ScriptHostState D) (o2 : OwnedState D)
+    (lacked : Bool) → e ≡ mid → ComesOn keeps honest faults (left_of e.host) (left_of o2)
     → StaysSo before mid → mid.host.device ≡ before.host.device → tickets o2.host.space ≡ 0 → AllRest o2.host e.instances
-    → DeviceHoldsAmid honest faults before.host.device o2.device (RunsEach before (record e { host = o2 }))
-ran_each {D} keeps honest faults before mid e o2 view on stays same none rest =
-    subst (λ o. DeviceHoldsAmid honest faults o o2.device (RunsEach before (record e { host = o2 }))) (ap (λ (x : ScriptHostState D). x.host.device) view ∙ same)
-    (holds_by keeps honest faults (left_of e.host) (left_of o2) (RunsEach before (record e { host = o2 })) on
-    (λ right. runs_after before e (record e { host = o2 }) (map swap_number on.came.more) (subst (λ x. StaysSo before x) (sym view) stays) (ran_right keeps honest faults e o2 on none rest right)))
+    → DeviceHoldsAmid honest faults before.host.device o2.device (RunsEach before (record e { host = o2; lacked_threads = lacked }))
+ran_each {D} keeps honest faults before mid e o2 lacked view on stays same none rest =
+    subst (λ o. DeviceHoldsAmid honest faults o o2.device (RunsEach before (record e { host = o2; lacked_threads = lacked })))
+    (ap (λ (x : ScriptHostState D). x.host.device) view ∙ same)
+    (holds_by keeps honest faults (left_of e.host) (left_of o2) (RunsEach before (record e { host = o2; lacked_threads = lacked })) on
+    (λ right. runs_after before e (record e { host = o2; lacked_threads = lacked }) (map swap_number on.came.more)
+    (subst (λ x. StaysSo before x) (sym view) stays) (ran_right keeps honest faults e o2 lacked on none rest right)))
 
 -- ---- pages move, or nothing does
 
@@ -259,3 +263,8 @@ stays_so e o2 moves keeps settings m s =
       instances = s.stands.instances;
       invoked = s.stands.invoked;
     })
+
+pub stays_told : {D : Type 0} (e : ScriptHostState D) (o2 : OwnedState D) (lacked : Bool)
+    → ((w : World) → IsHost e.host.host w → (w2 : World) × OnlyMoves w w2 × IsHost o2.host w2)
+    → KeepsBacking e.host.host.space o2.host.space → StaysSo e (record e { host = o2; lacked_threads = lacked })
+stays_told e o2 lacked moves keeps settings m s = stands_told settings (record e { host = o2 }) m lacked (stays_so e o2 moves keeps settings m s)

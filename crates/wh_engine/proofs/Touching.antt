@@ -1,18 +1,16 @@
 -- The instances of a script, one of which has other calls.
 use Rattle.std.proofs.Common.{arith, ◌≡◌, ℕ, ◌+◌, zero, suc, List, [], ◌∷◌, map, slice_get, slice_set, true, Some, refl, ap, sym, subst, ◌∙◌, Option, None}
-use Rattle.wh_model.specs.Execution.Replay.{Call}
+use Rattle.wh_model.specs.Execution.{Call}
 use Rattle.wh_script_model.specs.ScriptState as script
-use Rattle.wh_script_model.specs.ScriptState.{ScriptState, HasInstance, with_instance}
+use Rattle.wh_script_model.specs.ScriptState.{ScriptState}
+use Rattle.wh_script_model.specs.{with_instance, refuel, cancel, retry, Reply, Files, IsObeyed, module_name_is_taken, module_comes, no_such_instance, is_refueled, no_one_to_refuel, no_call_to_refuel, is_cancelled, no_one_to_cancel, no_call_to_cancel, is_retried, no_one_to_retry, no_fault_to_retry}
 use Rattle.wh_script_model.specs.Settings.{Settings}
-use Rattle.wh_script_model.specs.Commands.{refuel, cancel, retry}
-use Rattle.wh_script_model.specs.Texts.{Reply}
-use Rattle.wh_script_model.specs.Answers.{Files, IsObeyed, module_name_is_taken, module_comes, no_such_instance, is_refueled, no_one_to_refuel, no_call_to_refuel, is_cancelled, no_one_to_cancel, no_call_to_cancel, is_retried, no_one_to_retry, no_fault_to_retry}
 use Rattle.wh_engine.specs.declared.parts.NamedInstance.{NamedInstance}
 use Rattle.wh_engine.specs.RepresentedScript.{IsNamedInstance, AreNamedInstances}
 
 -- ---- what commands change
 
--- nothing; or one instance has other calls, or stands for another fault, or for none
+-- nothing; or one instance has other calls, or is blocked on another fault, or for none
 pub data TouchesCalls (m : ScriptState) : ScriptState → Type 0 where
   nothing : TouchesCalls m m
   calls_of : (i : ℕ) (g : script.NamedInstance) (calls : List Call) (stands : Option ℕ) → slice_get m.instances i ≡ Some g

@@ -1,10 +1,8 @@
 -- What calls leave of what lies behind the memory of all.
 use Rattle.std.proofs.Common.{◌≡◌, ◌∙◌, ℕ, List, [], ◌∷◌, Option, Some, None, map, length, refl, sym, ap, arith}
-use Rattle.wh_host_model.specs.Frames.{tally}
-use Rattle.wh_host_model.specs.declared.states.Slot.{Slot}
-use Rattle.wh_host_model.specs.declared.states.Slot.TheVariants.{Vacant, Taken, Evicting, EvictVoid, Fetching, FetchVoid}
-use Rattle.wh_host_model.specs.Space.Errands.{Errand, Pass, errand_for, is_ticket}
-use Rattle.wh_host_model.specs.Space.Parts.{Space}
+use Rattle.wh_space_model.specs.{tally, Errand, Pass, errand_for, is_ticket, Space}
+use Rattle.wh_space_model.specs.declared.states.Slot.{Slot}
+use Rattle.wh_space_model.specs.declared.states.Slot.TheVariants.{Vacant, Taken, Evicting, EvictVoid, Fetching, FetchVoid}
 use Rattle.wh_host.specs.Backing.{KeepsBacking}
 use Rattle.wh_script_laws.specs.Following.{StaysWhole}
 

@@ -1,27 +1,24 @@
 -- Work brings the calls of a script's instances further.
 use Rattle.std.proofs.Common.{◌≡◌, ℕ, List, [], ◌∷◌, ◌++◌, Option, None, Some, ap, refl, sym, subst, ◌∙◌, arith, map, inl, inr, append-nil, append_assoc}
 use Rattle.std.specs.List.{Contains}
-use Rattle.wh_host_model.specs.declared.Tax.{Tax}
-use Rattle.wh_host_model.specs.declared.plain.InstId.{InstId}
-use Rattle.wh_host_model.specs.declared.plain.SwapError.{SwapError}
-use Rattle.wh_host_model.specs.Space.Parts.{claim}
-use Rattle.wh_host_model.specs.Host.Events.{Event, turn, load, admit, invoke, refuel, cancel, retry, release, fork, unload, offer, evict_begin, evict_commit, fetch_begin, fetch_commit, provide, epoch}
-use Rattle.wh_host_model.specs.Host.Happens.{AwaitsFrame, AwaitsFrameFor, Happens, MovesPages, OnlyMoves, has_failed, moved}
-use Rattle.wh_host_model.specs.Host.Worlds.{Tenant, World, for_device, with_tenant}
-use Rattle.wh_script_model.specs.ScriptState.{ScriptState, NamedInstance}
+use Rattle.wh_space_model.specs.declared.Tax.{Tax}
+use Rattle.wh_space_model.specs.declared.plain.InstId.{InstId}
+use Rattle.wh_space_model.specs.declared.plain.SwapError.{SwapError}
+use Rattle.wh_space_model.specs.{claim, swap_number}
+use Rattle.wh_host_model.specs.Host.{Event, turn, load, admit, invoke, refuel, cancel, retry, release, fork, unload, offer, evict_begin, evict_commit, fetch_begin, fetch_commit, provide, epoch, AwaitsFrame, AwaitsFrameFor, MovesPages, OnlyMoves, has_failed, moved, Tenant, World, for_device, with_tenant}
+use Rattle.wh_host_model.specs.Host.Happens.{Happens}
+use Rattle.wh_script_model.specs.ScriptState.{ScriptState}
+use Rattle.wh_script_model.specs.{NamedInstance, AreMixed, none_left, one_own, one_other, ZipAmid, IsTenantOf}
 use Rattle.wh_script_model.specs.Settings.{Settings}
 use Rattle.wh_host_model.proofs.Host.Holding.{memory_is_sound}
 use Rattle.wh_host.specs.Hosting.{IsReached}
 use Rattle.wh_host.proofs.Hosts.{reached_on}
 use Rattle.wh_cell.specs.Going.{AllWork, IsWork, WorksTo, fault_in, fault_or_none, faults_in, IsPartOf}
 use Rattle.wh_script_laws.specs.Following.{AreRunAmid, ComeFurther, IsRunAmid, RunsKnown, StaysWhole, is_there, IsPlaced, StandsAmid, device_fault}
-use Rattle.wh_script_model.specs.Failing.{AreMixed, none_left, one_own, one_other, ZipAmid}
 use Rattle.wh_script_laws.proofs.Drains.{moved_followed, moved_run}
 use Rattle.wh_script_laws.proofs.Mixing.{mixed_others, zip_given, zip_more}
 use Rattle.wh_script_laws.proofs.Sums.{claims_decide}
 use Rattle.wh_script_laws.proofs.Turning.{AreFollowed, AreFollowedOn, turn_followed, zip_set}
-use Rattle.wh_host_model.specs.SwapFaults.{swap_number}
-use Rattle.wh_script_model.specs.Served.{IsTenantOf}
 use Rattle.std.proofs.lemmas.Option.{none-some, same_Some}
 
 -- ---- faults by their numbers

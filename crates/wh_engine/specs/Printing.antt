@@ -68,7 +68,7 @@ IsFoundAt h xs number place last_printed found =
     → (IsReleased g → WasPrinted g place c (option_map status_of last_printed))
     → (status : Status) × (found ≡ Some status) × (status_of status ≡ call_status g place c)
 
--- the lines stand behind the text
+-- the lines stand after the text
 abbrev pub AddsLines : List Reply → List ℕ → List ℕ → Type 0
 AddsLines lines text text2 = text2 ≡ text ++ replies_text lines
 
@@ -122,7 +122,7 @@ PrintsAllCalls e text e2 text2 =
     → (lines : List Reply) × (invoked : List script.Invoked) × PrintCalls m.instances 1 m.invoked lines invoked
     × AddsLines lines text text2 × RepresentsScript settings e2 (record m { invoked = invoked })
 
--- and of both, one behind the other
+-- and of both, one after the other
 abbrev pub PrintsAll : {D : Type 0} → ScriptHostState D → List ℕ → ScriptHostState D → List ℕ → Type 0
 PrintsAll e text e2 text2 =
     (settings : Settings) (m : ScriptState) → RepresentsScript settings e m → IsWellMade m

@@ -20,7 +20,7 @@ use Rattle.wh_engine.specs.declared.parts.InvokeOutcome.TheVariants.{Rejected, A
 -- ---- the engine and its host
 
 -- What a script has made, with the host on which it runs, its device and its books: the names of its modules and of its
--- instances, what is still kept of instances and of each `invoke`, and how often a call was asked for.
+-- instances, what is still kept of instances and of each `invoke`, how often a call was asked for, and whether threads were lacking.
 pub record ScriptHostState (D : Type 0) : Type 0 where
   pub host : OwnedState D
   pub module_names : Names
@@ -28,6 +28,7 @@ pub record ScriptHostState (D : Type 0) : Type 0 where
   pub instances : List NamedInstance
   pub invoked : List Invoked
   pub asked : ℕ
+  pub lacked_threads : Bool
 
 -- the same with all that was ever made, as it was when it was last kept
 pub record WholeState : Type 0 where
@@ -103,8 +104,8 @@ AreInvoked number xs vs = ⊥
 abbrev pub IsLed : HostState → World → Type 0
 IsLed h w = IsHost h w × IsReached w
 
--- All that was made stands for the script: the host on which it runs knows it, the names are those of the script, and
--- what was kept of instances and of calls is so. No two instances have one name.
+-- All that was made represents the script: the host on which it runs knows it, the names are those of the script, and what was
+-- kept of instances and of calls is so. No two instances have one name.
 pub record RepresentsWhole (settings : Settings) (e : WholeState) (m : ScriptState) : Type 0 where
   pub world : World
   pub is : IsLed e.host world

@@ -6,12 +6,12 @@ ghost use Rattle.wh_engine.specs.Draining.{SomeGoes};
 use crate::parts::NamedInstance;
 use std::alloc::{AllocError, Global};
 use wh_host::Host;
-use wh_host_model::InstId;
+use wh_space_model::InstId;
 
 /// The instances of which something was asked since all calls last ran: the next run asks these alone whether a call of theirs
 /// can go on. Nothing rests on that nobody is forgotten: when lines are printed, all are looked at.
 #[derive(Drop)]
-pub struct Awake {
+pub struct AskedInstances {
     // By rising numbers, each once.
     ids: Vec<InstId>,
     // It may be any, since room for one was refused, or calls were left in the middle.
@@ -40,10 +40,10 @@ fn all_ids(alloc: Global, instances: &[NamedInstance]) -> Result<Vec<InstId>, Al
     Ok(ids)
 }
 
-impl Awake {
-    /// Begins with nobody.
-    pub fn new(alloc: Global) -> Awake {
-        Awake {
+impl AskedInstances {
+    /// Creates an empty list.
+    pub fn new(alloc: Global) -> AskedInstances {
+        AskedInstances {
             ids: Vec::new(alloc),
             may_be_any: false,
         }
@@ -65,10 +65,10 @@ impl Awake {
         self.may_be_any = true;
     }
 
-    /// Returns those that have a call that can go on, by rising numbers, and begins with nobody.
+    /// Returns those that have a call that can make progress, by rising numbers, and empties the list.
     ///
     /// # Errors
-    /// A growth of memory was refused. All is as it was.
+    /// `AllocError` if an allocation fails. All is as it was.
     pub fn take_going(
         &mut self,
         alloc: Global,

@@ -2,15 +2,12 @@
 
 use thiserror::Error;
 
-/// Why a drain or a scan stops.
+/// Why a drain stops.
 #[derive(Clone, Copy, Debug, PartialEq, Eq, Error)]
 pub enum RunFault {
     /// Room was refused.
     #[error("memory")]
     Memory,
-    /// A thread can't be started.
-    #[error("threads")]
-    Threads,
     /// A call can go on that should have run.
     #[error("transcript")]
     Transcript,

@@ -44,6 +44,7 @@ impl<D: SwapDev, T: Ledger, C: Ledger, O: Ledger, E: Ledger, B: CellAgreements> 
             (view_params params) (reply_of reply) self.new) }
         ensures err { OnErr result (self.new ≡ self.old) }
         ensures device { self.new.host.device ≡ self.old.host.device }
+        ensures threads { self.new.lacked_threads ≡ self.old.lacked_threads }
     {
         let name = String::from_str(alloc, inst)?;
         self.instances.reserve(1)?;
@@ -78,7 +79,8 @@ impl<D: SwapDev, T: Ledger, C: Ledger, O: Ledger, E: Ledger, B: CellAgreements> 
     /// Requests a call of the instance of a number. Its outcome is printed at the next drain.
     ///
     /// # Errors
-    /// A growth of memory for what is kept of it was refused. Nothing was done then.
+    /// `AllocError` if the allocation for what is kept of it fails, or 2^64 - 1 calls were requested. Nothing was done
+    /// then.
     pub fn invoke(
         &mut self,
         alloc: Global,
@@ -92,6 +94,7 @@ impl<D: SwapDev, T: Ledger, C: Ledger, O: Ledger, E: Ledger, B: CellAgreements> 
             settings self.old m → TakesInvoke settings m number export.now fuel args.now self.new) }
         ensures err { OnErr result (self.new ≡ self.old) }
         ensures device { self.new.host.device ≡ self.old.host.device }
+        ensures threads { self.new.lacked_threads ≡ self.old.lacked_threads }
     {
         let Some(asked) = self.asked.checked_add(1) else {
             return Err(AllocError);

@@ -80,6 +80,7 @@ impl<D: SwapDev, T: Ledger, C: Ledger, O: Ledger, E: Ledger, B: CellAgreements> 
             (reply_of reply) self.new) }
         ensures err { OnErr result (self.new ≡ self.old) }
         ensures device { self.new.host.device ≡ self.old.host.device }
+        ensures threads { self.new.lacked_threads ≡ self.old.lacked_threads }
     {
         self.module_names.add(alloc, name)?;
         match self.host.ask(Load { alloc, bytes }) {

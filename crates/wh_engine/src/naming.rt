@@ -1,4 +1,4 @@
-// What the names of a script stand for.
+// What the names of a script denote.
 
 ghost use Rattle.std.specs.Prelude.{◌≡◌, ◌<◌, IfSome, MatchOption, length};
 ghost use Rattle.wh_script_model.specs.ScriptState.{ScriptState, LacksInstance, NoModule};

@@ -2,8 +2,8 @@
 
 ghost use Rattle.std.specs.Prelude.{◌≡◌};
 
-use wh_host_model::InstId;
 use wh_replies::Status;
+use wh_space_model::InstId;
 
 /// An instance that was admitted.
 #[derive(Drop)]
@@ -20,7 +20,7 @@ pub struct NamedInstance {
 /// The outcome of an `invoke`.
 #[derive(Clone, Copy, Debug, PartialEq, Eq)]
 pub enum InvokeOutcome {
-    /// It was refused, with this number behind the H.
+    /// It was refused, with this number after the H.
     Rejected(u8),
     /// It is the call at a place of the journal of the instance of this number.
     Accepted { instance: usize, place: u32 },

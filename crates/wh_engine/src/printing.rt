@@ -65,7 +65,7 @@ fn printed_of(told: CallStatus) -> Option<Status>
     }
 }
 
-// What is said of the present call of an instance, which stands for this.
+// What is said of the present call of an instance, which is blocked on this.
 fn waiting_so(waiting_for: Option<Suspension>, charges: u64) -> Status
     ensures { status_of result
         ≡ open_status false false (device_fault (suspension_of waiting_for)) charges }
@@ -124,7 +124,7 @@ fn was_printed(last_printed: Option<Status>, status: Status) -> bool
     }
 }
 
-// Puts the line of a call behind a text, where it differs from the last one.
+// Appends the line of a call to a text, where it differs from the last one.
 fn print_line(
     text: &mut String,
     who: Caller<'_>,
@@ -221,6 +221,7 @@ impl<D: SwapDev, T: Ledger, C: Ledger, O: Ledger, E: Ledger, B: CellAgreements> 
         ensures says { OnOk result (PrintsAll self.old (string_bytes text.old) self.new
             (string_bytes text.new)) }
         ensures host { self.new.host ≡ self.old.host }
+        ensures threads { self.new.lacked_threads ≡ self.old.lacked_threads }
         ensures err { IfErr result (StopsPrinting self.old.host.host) }
     {
         self.print_starts(text)?;
@@ -235,6 +236,7 @@ impl<D: SwapDev, T: Ledger, C: Ledger, O: Ledger, E: Ledger, B: CellAgreements> 
         ensures says { OnOk result (PrintsAllStarts self.old (string_bytes text.old) self.new
             (string_bytes text.new)) }
         ensures host { self.new.host ≡ self.old.host }
+        ensures threads { self.new.lacked_threads ≡ self.old.lacked_threads }
         ensures err { IfErr result (StopsPrinting self.old.host.host) }
     {
         let mut has_ended = false;
@@ -257,6 +259,7 @@ impl<D: SwapDev, T: Ledger, C: Ledger, O: Ledger, E: Ledger, B: CellAgreements> 
         ensures says { OnOk result (PrintsAllCalls self.old (string_bytes text.old) self.new
             (string_bytes text.new)) }
         ensures host { self.new.host ≡ self.old.host }
+        ensures threads { self.new.lacked_threads ≡ self.old.lacked_threads }
     {
         for at in 0..self.invoked.len() {
             let invoked = &mut self.invoked[at];

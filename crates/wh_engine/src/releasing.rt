@@ -33,6 +33,7 @@ impl<D: SwapDev, T: Ledger, C: Ledger, O: Ledger, E: Ledger, B: CellAgreements> 
             → ObeysCommand settings files m line (release name) (reply_to_release name result)
             self.new }
         ensures device { self.new.host.device ≡ self.old.host.device }
+        ensures threads { self.new.lacked_threads ≡ self.old.lacked_threads }
     {
         let Some(at) = self.kept_at(number) else {
             return Err(HostError::NoInstance);

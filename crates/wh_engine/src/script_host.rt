@@ -1,13 +1,13 @@
 // The engine: what a script has made on a host.
 
-ghost use Rattle.std.specs.Prelude.{◌≡◌};
-ghost use Rattle.wh_host_model.specs.declared.Tax.{Tax};
+ghost use Rattle.std.specs.Prelude.{◌≡◌, false};
+ghost use Rattle.wh_space_model.specs.declared.Tax.{Tax};
 ghost use Rattle.wh_script_model.specs.ScriptState.{empty_script};
 ghost use Rattle.wh_script_model.specs.Settings.{Settings};
 ghost use Rattle.wh_host.specs.Hosting.{IsNewHost};
 ghost use Rattle.wh_engine.specs.RepresentedScript.{RepresentsScript};
 
-use crate::awake::Awake;
+use crate::awake::AskedInstances;
 use crate::parts::{Invoked, NamedInstance};
 use std::alloc::Global;
 use std::marker::Model;
@@ -28,7 +28,9 @@ pub struct ScriptHost<D: SwapDev, T: Ledger, C: Ledger, O: Ledger, E: Ledger, B:
     pub(crate) invoked: Vec<Invoked>,
     // How many `invoke`s have a number.
     pub(crate) asked: u64,
-    pub(crate) awake: Awake,
+    pub(crate) awake: AskedInstances,
+    // Whether a thread was refused, and the calling thread has done what others should have.
+    pub(crate) lacked_threads: bool,
 }
 
 impl<D: SwapDev + Drop, T: Ledger, C: Ledger, O: Ledger, E: Ledger, B: CellAgreements> Drop
@@ -42,6 +44,7 @@ impl<D: SwapDev + Drop, T: Ledger, C: Ledger, O: Ledger, E: Ledger, B: CellAgree
             invoked: _,
             asked: _,
             awake: _,
+            lacked_threads: _,
         } = self;
     }
 }
@@ -63,6 +66,7 @@ impl<D: SwapDev, T: Ledger, C: Ledger, O: Ledger, E: Ledger, B: CellAgreements> 
       instances = s.instances.items;
       invoked = s.invoked.items;
       asked = s.asked;
+      lacked_threads = s.lacked_threads;
     } };
 }
 
@@ -74,12 +78,13 @@ impl<D: SwapDev, T: Ledger, C: Ledger, O: Ledger, E: Ledger, B: CellAgreements> 
     E,
     B,
 > {
-    /// Represents an empty script, on any new host with the frames, slots and tax of the settings.
+    /// Creates an empty script, on any new host with the frames, slots and tax of the settings.
     pub fn new(alloc: Global, host: OwnedHost<D, T, C, O, E, B>) -> ScriptHost<D, T, C, O, E, B>
         ensures stands { (settings : Settings) (tax : Tax) → tax.num ≡ settings.num
             → tax.den ≡ settings.den → IsNewHost host.host settings.frames settings.slots tax
             → RepresentsScript settings result empty_script }
         ensures host { result.host ≡ host }
+        ensures threads { result.lacked_threads ≡ false }
     {
         ScriptHost {
             host,
@@ -88,7 +93,8 @@ impl<D: SwapDev, T: Ledger, C: Ledger, O: Ledger, E: Ledger, B: CellAgreements> 
             instances: Vec::new(alloc),
             invoked: Vec::new(alloc),
             asked: 0,
-            awake: Awake::new(alloc),
+            awake: AskedInstances::new(alloc),
+            lacked_threads: false,
         }
     }
 
@@ -97,6 +103,13 @@ impl<D: SwapDev, T: Ledger, C: Ledger, O: Ledger, E: Ledger, B: CellAgreements> 
         ensures { result.now ≡ self.now.host }
     {
         &self.host
+    }
+
+    /// Tells whether a thread was refused so far, so that the calling thread has done what others should have.
+    pub fn lacked_threads(&self) -> bool
+        ensures { result ≡ self.now.lacked_threads }
+    {
+        self.lacked_threads
     }
 }
 
@@ -120,6 +133,7 @@ impl<D: SwapDev + Drop, T: Ledger, C: Ledger, O: Ledger, E: Ledger, B: CellAgree
             invoked: _,
             asked: _,
             awake: _,
+            lacked_threads: _,
         } = self;
         host
     }

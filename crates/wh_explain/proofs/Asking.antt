@@ -1,7 +1,7 @@
 -- What a refusal by `parse` says of a line.
 use Rattle.std.specs.Prelude.{◌≡◌, ℕ, List, Err}
 use Rattle.std.proofs.Common.{subst}
-use Rattle.wh_script_model.specs.Commands.{Command, AsksCommand}
+use Rattle.wh_script_model.specs.{Command, AsksCommand}
 use Rattle.wh_commands.specs.ParsedCommands.{FindsAsked}
 use Rattle.wh_commands.specs.declared.error.ParseError.{ParseError}
 use Rattle.wh_commands.specs.declared.error.ParseError.TheVariants.{Syntax}

@@ -1,11 +1,15 @@
 //! What a person can do about a fault of a module.
 
+use crate::detail::{Asked, Detail};
 use crate::limit::Limit;
 use wh_load::LoadError;
 use wh_model::{FaultKind, ValidKind};
 
 const WRITTEN_WRONG: &str =
     "A compiler doesn't write this: build the module again, and mend the tool that made or changed it.";
+
+const OFFERED: &str =
+    "Import what the host offers alone: host.input [i32] -> [i64], host.put [i64] -> [], host.emit [i32 i32] -> [], and the constant globals host.base i32 and host.salt i64.";
 
 /// Says what to do about a limit.
 fn about_limit(limit: Limit) -> &'static str {
@@ -81,16 +85,30 @@ fn about_validity(kind: ValidKind) -> &'static str {
     }
 }
 
-/// Says what to do about a fault of a module, which passes this limit if any.
-pub fn advice_of(error: LoadError, limit: Option<Limit>) -> &'static str {
-    if let Some(limit) = limit {
-        return about_limit(limit);
+/// Says what to do about an import that the host doesn't offer. Linkers import from `env` what is defined nowhere.
+fn about_import(asked: &Asked) -> &'static str {
+    match asked.from.as_str() {
+        "wasi_snapshot_preview1" | "wasi_unstable" => {
+            "There is no WASI here: docs/guide/compiling-libc.md says how C is built without it, compiling-cpp.md C++, and compiling-rust.md Rust."
+        }
+        "env" => {
+            "Define it in the module, or link a library that does: docs/guide/compiling-c.md and compiling-libc.md say how."
+        }
+        _ => OFFERED,
+    }
+}
+
+/// Says what to do about a fault of a module, which is about this.
+pub fn advice_of(error: LoadError, detail: &Detail) -> &'static str {
+    match detail {
+        Detail::Limit(limit) => return about_limit(*limit),
+        Detail::Segment(_) => return about_format(FaultKind::UnknownByte),
+        Detail::Import(asked) => return about_import(asked),
+        _ => {}
     }
     match error {
         LoadError::Decode(fault) => about_format(fault.kind),
         LoadError::Valid(error) => about_validity(error.kind),
-        LoadError::Link(_) => {
-            "Import what the host offers alone: host.input [i32] -> [i64], host.put [i64] -> [], host.emit [i32 i32] -> [], and the constant globals host.base i32 and host.salt i64."
-        }
+        LoadError::Link(_) => OFFERED,
     }
 }

@@ -1,18 +1,9 @@
 //! What a fault of a module is about, beyond its kind.
 
-use crate::extents::{Imports, count_of, section_at};
+use crate::indexed::Unnamed;
 use crate::limit::Limit;
-use crate::names::{float_name, later_instruction, later_section};
-use crate::place::FaultLocation;
-use crate::section::Section;
-use std::alloc::{AllocError, Global};
 use std::fmt;
-use wh_decode::decode;
-use wh_imports::LinkError;
-use wh_load::LoadError;
-use wh_model::{DecodeError, FaultKind, ValType, ValidKind};
-use wh_syntax::{FuncType, ImportDesc, Module};
-use wh_validate::ValidError;
+use wh_model::ValType;
 
 /// What of the imports this host leaves out.
 #[derive(Clone, Copy, Debug, PartialEq, Eq)]
@@ -44,6 +35,12 @@ pub enum Detail {
     Export(String),
     /// An import.
     Import(Asked),
+    /// A segment of a later part of WebAssembly, which is what the bytes are, whatever they would be in version 1.0.
+    Segment(&'static str),
+    /// An index that names nothing.
+    Unnamed(Unnamed),
+    /// Operands that aren't those that an instruction takes.
+    Types(Mismatch),
 }
 
 /// What a module asks the host for.
@@ -57,17 +54,27 @@ pub struct Asked {
     pub asked_type: String,
 }
 
-/// Names a value type.
-fn type_name(t: ValType) -> &'static str {
+/// Types that aren't those that stand in their place, where none is one that isn't known.
+#[derive(Debug, Drop)]
+pub struct Mismatch {
+    /// The types that are expected there, the topmost one last.
+    pub wanted: Vec<Option<ValType>>,
+    /// The types that do: as many as are there of those, and at the end of a construct all that it leaves.
+    pub found: Vec<Option<ValType>>,
+}
+
+/// Names a value type, or one that isn't known.
+pub fn type_name(t: Option<ValType>) -> &'static str {
     match t {
-        ValType::I32 => "i32",
-        ValType::I64 => "i64",
+        Some(ValType::I32) => "i32",
+        Some(ValType::I64) => "i64",
+        None => "any",
     }
 }
 
 /// Value types in brackets.
 #[derive(Clone, Copy)]
-struct TypeList<'a>(&'a [ValType]);
+pub struct TypeList<'a>(pub &'a [Option<ValType>]);
 
 impl fmt::Display for TypeList<'_> {
     fn fmt<W: fmt::Write>(&self, f: &mut fmt::Formatter<W>) -> fmt::Result {
@@ -79,149 +86,6 @@ impl fmt::Display for TypeList<'_> {
             f.write_str(type_name(*t))?;
         }
         f.write_str("]")
-    }
-}
-
-/// Writes the type that an import asks for, as `[i32] -> [i64]`, or `i32` of a global.
-fn asked_type(alloc: Global, types: &[FuncType], desc: ImportDesc) -> Result<String, AllocError> {
-    let index = match desc {
-        ImportDesc::Global(t) => return Ok(String::from_str(alloc, type_name(t))?),
-        ImportDesc::Func(index) => index,
-    };
-    let Some(func_type) = types.get(index as usize) else {
-        return Ok(String::from_str(alloc, "a type that isn't there")?);
-    };
-    let params = TypeList(func_type.params.as_slice());
-    let results = TypeList(func_type.results.as_slice());
-    Ok(format!(in alloc; "{params} -> {results}")?)
-}
-
-/// Tells what the import at this place asks for.
-fn asked_by(alloc: Global, module: &Module, index: usize) -> Result<Detail, AllocError> {
-    let Some(import) = module.imports.get(index) else {
-        return Ok(Detail::None);
-    };
-    Ok(Detail::Import(Asked {
-        from: import.from.clone()?,
-        name: import.name.clone()?,
-        asked_type: asked_type(alloc, &module.types, import.desc)?,
-    }))
-}
-
-/// Finds a name that is exported twice.
-fn exported_twice(module: &Module) -> Option<&str> {
-    let exports = module.exports.as_slice();
-    for (at, export) in exports.iter().enumerate() {
-        let name = export.name.as_str();
-        if exports.iter().take(at).any(|e| e.name.as_str() == name) {
-            return Some(name);
-        }
-    }
-    None
-}
-
-/// Tells what a fault of the validator is about that lies in no function.
-fn about_module(alloc: Global, module: &Module, kind: ValidKind) -> Result<Detail, AllocError> {
-    match kind {
-        ValidKind::DuplicateExport => match exported_twice(module) {
-            Some(name) => Ok(Detail::Export(String::from_str(alloc, name)?)),
-            None => Ok(Detail::None),
-        },
-        ValidKind::Limits => Ok(Limit::of_module(module).map_or(Detail::None, Detail::Limit)),
-        _ => Ok(Detail::None),
-    }
-}
-
-/// Tells what a fault of the validator is about.
-fn about_validity(alloc: Global, bytes: &[u8], error: ValidError) -> Result<Detail, AllocError> {
-    match (error.func, error.kind) {
-        (_, ValidKind::Height) => Ok(Detail::Limit(Limit::Operands)),
-        (Some(_), ValidKind::Limits) => Ok(Detail::Limit(Limit::ParametersAndLocals)),
-        (Some(_), _) => Ok(Detail::None),
-        (None, kind) => match decode(alloc, bytes) {
-            Ok(module) => about_module(alloc, &module, kind),
-            Err(_) => Err(AllocError),
-        },
-    }
-}
-
-/// Tells what an import is that the host doesn't offer.
-fn about_import(alloc: Global, bytes: &[u8], index: usize) -> Result<Detail, AllocError> {
-    match decode(alloc, bytes) {
-        Ok(module) => asked_by(alloc, &module, index),
-        Err(_) => Err(AllocError),
-    }
-}
-
-/// Finds which import is left out whose kind, or whose byte for writing, stands at an offset.
-fn left_out(bytes: &[u8], offset: usize) -> LeftOut {
-    let mut imports = Imports::of(bytes);
-    for _ in 0..bytes.len() {
-        match imports.next() {
-            Some(entry) if entry.kind_offset == offset && entry.kind == 1 => return LeftOut::Table,
-            Some(entry) if entry.kind_offset == offset => return LeftOut::Memory,
-            Some(_) => {}
-            None => return LeftOut::MutableGlobal,
-        }
-    }
-    LeftOut::MutableGlobal
-}
-
-/// Tells which byte a fault is about.
-fn about_byte(bytes: &[u8], fault: DecodeError, place: FaultLocation) -> Detail {
-    let Some(byte) = bytes.get(fault.offset).copied() else {
-        return Detail::None;
-    };
-    let is_section_id = match section_at(bytes, fault) {
-        Some((_, extent)) => extent.head == fault.offset,
-        None => false,
-    };
-    if is_section_id {
-        return Detail::Byte(byte, later_section(byte));
-    }
-    if place.section == Some(Section::FaultCode) {
-        return Detail::Byte(byte, later_instruction(byte));
-    }
-    Detail::Byte(byte, None)
-}
-
-/// Tells what a fault of the decoder is about.
-fn about_format(bytes: &[u8], fault: DecodeError, place: FaultLocation) -> Detail {
-    match fault.kind {
-        FaultKind::Limit => {
-            Limit::of_fault(bytes, fault, place).map_or(Detail::None, Detail::Limit)
-        }
-        FaultKind::Float => match bytes.get(fault.offset) {
-            Some(byte) => float_name(*byte).map_or(Detail::None, Detail::Float),
-            None => Detail::None,
-        },
-        FaultKind::Unsupported => Detail::LeftOut(left_out(bytes, fault.offset)),
-        FaultKind::CountMismatch => Detail::Counts(
-            count_of(bytes, Section::Function).unwrap_or(0),
-            count_of(bytes, Section::FaultCode).unwrap_or(0),
-        ),
-        FaultKind::Magic | FaultKind::Version | FaultKind::UnknownByte => {
-            about_byte(bytes, fault, place)
-        }
-        _ => Detail::None,
-    }
-}
-
-/// Tells what a fault is about that lies at a place of the bytes.
-///
-/// # Errors
-/// Where a growth of memory is refused.
-pub fn detail_of(
-    alloc: Global,
-    bytes: &[u8],
-    error: LoadError,
-    place: FaultLocation,
-) -> Result<Detail, AllocError> {
-    match error {
-        LoadError::Decode(fault) => Ok(about_format(bytes, fault, place)),
-        LoadError::Valid(error) => about_validity(alloc, bytes, error),
-        LoadError::Link(LinkError::NoItem(_, index)) => about_import(alloc, bytes, index),
-        LoadError::Link(LinkError::Memory) => Ok(Detail::None),
     }
 }
 
@@ -259,6 +123,14 @@ fn write_byte<W: fmt::Write>(
     }
 }
 
+impl fmt::Display for Mismatch {
+    fn fmt<W: fmt::Write>(&self, f: &mut fmt::Formatter<W>) -> fmt::Result {
+        let wanted = TypeList(self.wanted.as_slice());
+        let found = TypeList(self.found.as_slice());
+        write!(f, "expected {wanted}, found {found}")
+    }
+}
+
 impl fmt::Display for Detail {
     fn fmt<W: fmt::Write>(&self, f: &mut fmt::Formatter<W>) -> fmt::Result {
         match self {
@@ -272,6 +144,9 @@ impl fmt::Display for Detail {
             }
             Detail::Export(name) => write!(f, "{name:?}"),
             Detail::Import(asked) => write!(f, "{asked}"),
+            Detail::Segment(what) => f.write_str(what),
+            Detail::Unnamed(unnamed) => write!(f, "{unnamed}"),
+            Detail::Types(mismatch) => write!(f, "{mismatch}"),
         }
     }
 }

@@ -10,6 +10,11 @@ pub const MOST_MODULE_BYTES: usize = 1048576;
 /// How many bytes stand before the first section.
 const PREAMBLE: usize = 8;
 
+/// Gives the bytes up to an offset, or all where there are fewer.
+pub fn up_to(bytes: &[u8], end: usize) -> &[u8] {
+    bytes.get(..end).unwrap_or(bytes)
+}
+
 /// Contents with a size in front of them.
 #[derive(Clone, Copy, Debug, PartialEq, Eq)]
 pub struct Extent {
@@ -17,12 +22,12 @@ pub struct Extent {
     pub head: usize,
     /// The offset of the contents; `usize::MAX` where the size can't be read.
     pub start: usize,
-    /// The offset behind the contents by their size, which may be behind the input.
+    /// The offset after the contents by their size, which may be past the end of the input.
     pub end: usize,
 }
 
 impl Extent {
-    /// Whether a fault is one of these contents. One of their size may lie at their end.
+    /// Tells whether a fault lies in these contents. One of their size may lie at their end.
     pub fn holds(&self, fault: DecodeError) -> bool {
         let is_inside = fault.offset < self.end
             || (fault.kind == FaultKind::SectionSize && fault.offset == self.end);
@@ -58,7 +63,7 @@ fn pass_section(reader: &mut Reader<'_>) -> Option<(u8, Extent)> {
     Some((id, pass_sized(reader, head)))
 }
 
-/// Finds the contents of a custom section of this name, behind the name.
+/// Finds the contents of a custom section of this name, after the name.
 pub fn custom_section<'a>(bytes: &'a [u8], name: &[u8]) -> Option<Reader<'a>> {
     let mut reader = Reader::at(bytes, PREAMBLE);
     for _ in 0..bytes.len() {
@@ -107,8 +112,6 @@ pub fn count_of(bytes: &[u8], section: Section) -> Option<u32> {
 /// An import as it stands in the bytes.
 #[derive(Clone, Copy, Debug, PartialEq, Eq)]
 pub struct ImportEntry {
-    /// The offset of its first byte.
-    pub head: usize,
     /// The offset of the byte that says its kind.
     pub kind_offset: usize,
     /// That byte: 0 a function, 1 a table, 2 a memory, 3 a global.
@@ -116,8 +119,7 @@ pub struct ImportEntry {
 }
 
 /// Passes an import; none where it can't be read up to its kind.
-fn pass_import(reader: &mut Reader<'_>) -> Option<ImportEntry> {
-    let head = reader.offset();
+pub fn pass_import(reader: &mut Reader<'_>) -> Option<ImportEntry> {
     reader.name()?;
     reader.name()?;
     let kind_offset = reader.offset();
@@ -130,11 +132,7 @@ fn pass_import(reader: &mut Reader<'_>) -> Option<ImportEntry> {
     if passed.is_none() {
         reader.pass_all();
     }
-    Some(ImportEntry {
-        head,
-        kind_offset,
-        kind,
-    })
+    Some(ImportEntry { kind_offset, kind })
 }
 
 /// The imports of a module's bytes, one after the other.
@@ -156,7 +154,7 @@ impl<'a> Imports<'a> {
         Imports { reader, left }
     }
 
-    /// Gives the next import; none behind the last that can be read up to its kind.
+    /// Gives the next import; none after the last that can be read up to its kind.
     pub fn next(&mut self) -> Option<ImportEntry> {
         self.left = self.left.checked_sub(1)?;
         pass_import(&mut self.reader)

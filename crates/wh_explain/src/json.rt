@@ -11,6 +11,7 @@ use std::alloc::{AllocError, Global};
 #[derive(Drop, Serialize)]
 struct PlaceObject<'a> {
     section: Option<&'static str>,
+    entry: Option<u32>,
     function: Option<u32>,
     function_name: Option<&'a str>,
     instruction: Option<u32>,
@@ -91,6 +92,7 @@ fn place_object(refusal: &Refusal) -> PlaceObject<'_> {
     let place = refusal.place;
     PlaceObject {
         section: place.section.map(|section| section.name()),
+        entry: place.entry,
         function: place.function,
         function_name: refusal.function_name.as_deref(),
         instruction: place.instruction,

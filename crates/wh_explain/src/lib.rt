@@ -6,13 +6,20 @@
 
 mod advice;
 mod answer;
+mod cause;
 mod detail;
+mod entries;
 mod extents;
 mod function_names;
+mod indexed;
+mod inside;
 mod json;
+mod later;
 mod limit;
 mod module;
 mod names;
+mod operands;
+mod outside;
 mod place;
 mod reader;
 mod script;
@@ -22,8 +29,9 @@ mod shapes;
 mod text;
 mod walk;
 
-pub use detail::{Asked, Detail, LeftOut};
+pub use detail::{Asked, Detail, LeftOut, Mismatch};
 pub use extents::MOST_MODULE_BYTES;
+pub use indexed::{IndexSpace, Unnamed};
 pub use json::{module_json, script_json, settings_json};
 pub use limit::Limit;
 pub use module::{FaultCode, ModuleVerdict, Name, Refusal, explain_module};

@@ -44,7 +44,7 @@ pub enum Limit {
     Elements,
     /// The data segments.
     Segments,
-    /// The locals that a function declares beside its parameters.
+    /// The locals that a function declares besides its parameters.
     Locals,
     /// The parameters and locals of a function.
     ParametersAndLocals,
@@ -125,13 +125,32 @@ impl Limit {
         }
     }
 
-    /// Finds the limit of the validator that a module passes beside its functions, in the order in which they are looked at;
-    /// none where it passes none.
-    pub fn of_module(module: &Module) -> Option<Limit> {
-        if module.types.iter().any(|t| t.results.len() > 1) {
-            return Some(Limit::Results);
+    /// Tells whether it is a rule of WebAssembly 1.0, and not one that this host adds.
+    pub fn is_rule(self) -> bool {
+        matches!(
+            self,
+            Limit::Results | Limit::Tables | Limit::Memories | Limit::Pages | Limit::Least
+        )
+    }
+
+    /// Finds the limit that the tables of a module pass.
+    pub fn of_tables(module: &Module) -> Option<Limit> {
+        match module.tables.as_slice() {
+            [] => None,
+            [table] if table.limits.min > MOST_FIRST_ENTRIES => Some(Limit::Entries),
+            [table] => of_order(table.limits),
+            _ => Some(Limit::Tables),
         }
-        of_tables(module).or_else(|| of_memories(&module.memories))
+    }
+
+    /// Finds the limit that the memories pass.
+    pub fn of_memories(memories: &[Limits]) -> Option<Limit> {
+        match memories {
+            [] => None,
+            [memory] if memory.max.unwrap_or(memory.min) > MOST_WASM_PAGES => Some(Limit::Pages),
+            [memory] => of_order(*memory),
+            _ => Some(Limit::Memories),
+        }
     }
 }
 
@@ -159,26 +178,6 @@ fn of_expression(byte: u8) -> Limit {
     }
 }
 
-/// Finds the limit that the tables pass.
-fn of_tables(module: &Module) -> Option<Limit> {
-    match module.tables.as_slice() {
-        [] => None,
-        [table] if table.limits.min > MOST_FIRST_ENTRIES => Some(Limit::Entries),
-        [table] => of_order(table.limits),
-        _ => Some(Limit::Tables),
-    }
-}
-
-/// Finds the limit that the memories pass.
-fn of_memories(memories: &[Limits]) -> Option<Limit> {
-    match memories {
-        [] => None,
-        [memory] if memory.max.unwrap_or(memory.min) > MOST_WASM_PAGES => Some(Limit::Pages),
-        [memory] => of_order(*memory),
-        _ => Some(Limit::Memories),
-    }
-}
-
 /// Tells whether a least size is above the greatest one.
 fn of_order(limits: Limits) -> Option<Limit> {
     match limits.max {
@@ -189,9 +188,12 @@ fn of_order(limits: Limits) -> Option<Limit> {
 
 impl fmt::Display for Limit {
     fn fmt<W: fmt::Write>(&self, f: &mut fmt::Formatter<W>) -> fmt::Result {
-        match self.most() {
-            Some(most) => write!(f, "more than {most} {}", self.name()),
-            None => f.write_str("the least size is above the greatest one"),
+        match (self, self.most()) {
+            (Limit::Results, _) => f.write_str("more than one result of a function type"),
+            (Limit::Tables, _) => f.write_str("more than one table"),
+            (Limit::Memories, _) => f.write_str("more than one memory"),
+            (_, Some(most)) => write!(f, "more than {most} {}", self.name()),
+            (_, None) => f.write_str("the least size is above the greatest one"),
         }
     }
 }

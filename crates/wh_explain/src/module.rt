@@ -8,11 +8,11 @@ ghost use Rattle.wh_load.specs.Refusing.{RefusesBytes};
 ghost use Rattle.wh_explain.specs.ModuleVerdicts.{IsWantOfMemory, IsFaultOf};
 
 use crate::advice::advice_of;
-use crate::detail::{Detail, detail_of};
+use crate::cause::{Cause, cause_of};
+use crate::detail::Detail;
 use crate::function_names::function_name;
 use crate::limit::Limit;
 use crate::place::FaultLocation;
-use crate::section::Section;
 use std::alloc::{AllocError, Global};
 use std::fmt;
 use wh_imports::LinkError;
@@ -92,28 +92,6 @@ fn is_want_of_memory(error: LoadError) -> bool
     }
 }
 
-/// Finds where a fault of the validator lies that lies in no function.
-fn section_of(kind: ValidKind) -> FaultLocation {
-    match kind {
-        ValidKind::DuplicateExport => FaultLocation::of_section(Section::Export),
-        ValidKind::Start => FaultLocation::of_section(Section::Start),
-        _ => FaultLocation::default(),
-    }
-}
-
-/// Finds where in the bytes a fault lies.
-fn place_of(bytes: &[u8], error: LoadError) -> FaultLocation {
-    match error {
-        LoadError::Decode(fault) => FaultLocation::of_fault(bytes, fault),
-        LoadError::Valid(error) => match error.func {
-            Some(function) => FaultLocation::of_instruction(bytes, function, error.instr),
-            None => section_of(error.kind),
-        },
-        LoadError::Link(LinkError::NoItem(_, index)) => FaultLocation::of_import(bytes, index),
-        LoadError::Link(LinkError::Memory) => FaultLocation::default(),
-    }
-}
-
 /// Finds the name of the function of a place.
 fn name_of(
     alloc: Global,
@@ -133,8 +111,7 @@ fn name_of(
 fn refusal_by(alloc: Global, bytes: &[u8], error: LoadError) -> Result<Refusal, AllocError>
     ensures { IfOk result (λ refusal. refusal.error ≡ error) }
 {
-    let place = place_of(bytes, error);
-    let detail = detail_of(alloc, bytes, error, place)?;
+    let Cause { place, detail } = cause_of(alloc, bytes, error)?;
     Ok(Refusal {
         error,
         place,
@@ -177,13 +154,19 @@ impl Refusal {
 
     /// Says what to do about it.
     pub fn advice(&self) -> &'static str {
-        advice_of(self.error, self.limit())
+        advice_of(self.error, &self.detail)
     }
 
     /// Writes what the kind of fault is.
     fn write_kind<W: fmt::Write>(&self, f: &mut fmt::Formatter<W>) -> fmt::Result {
         match self.error {
+            _ if matches!(self.detail, Detail::Segment(_)) => {
+                f.write_str("this isn't of WebAssembly 1.0")
+            }
             LoadError::Decode(fault) => write!(f, "{}", fault.kind),
+            LoadError::Valid(_) if self.limit().is_some_and(|limit| limit.is_rule()) => {
+                f.write_str("a rule of WebAssembly 1.0 is broken")
+            }
             LoadError::Valid(error) => write!(f, "{}", error.kind),
             LoadError::Link(LinkError::NoItem(fault, _)) => write!(f, "{fault}"),
             LoadError::Link(LinkError::Memory) => write!(f, "{}", LinkError::Memory),

@@ -1,6 +1,6 @@
-//! The names of instructions and of what this host leaves out.
+//! The names of instructions, and of floating point.
 
-/// The instructions of version 1.0 by their opcodes, and behind them the sign extensions of 2.0; empty where none is.
+/// The instructions of version 1.0 by their opcodes, and after them the sign extensions of 2.0; empty where none is.
 const INSTRUCTIONS: [&str; 197] = [
     "unreachable",
     "nop",
@@ -209,35 +209,11 @@ pub fn instruction_name(opcode: u8) -> Option<&'static str> {
     }
 }
 
-/// Names the floating-point type or instruction that a byte stands for at which floating point is refused.
+/// Names the floating-point type or instruction that a byte encodes at which floating point is refused.
 pub fn float_name(byte: u8) -> Option<&'static str> {
     match byte {
         0x7d => Some("the type f32"),
         0x7c => Some("the type f64"),
         _ => instruction_name(byte),
-    }
-}
-
-/// Names the later part of WebAssembly that an opcode belongs to which isn't one of version 1.0.
-pub fn later_instruction(opcode: u8) -> Option<&'static str> {
-    match opcode {
-        0x06..=0x0a | 0x18 | 0x19 | 0x1f => Some("exceptions"),
-        0x12 | 0x13 => Some("tail calls"),
-        0x14 | 0x15 => Some("typed function references"),
-        0x1c | 0x25 | 0x26 | 0xd0..=0xd6 => Some("reference types"),
-        0xfb => Some("garbage collection"),
-        0xfc => Some("bulk memory or saturating conversions"),
-        0xfd => Some("SIMD"),
-        0xfe => Some("threads"),
-        _ => None,
-    }
-}
-
-/// Names the later part of WebAssembly that a section's id belongs to which isn't one of version 1.0.
-pub fn later_section(id: u8) -> Option<&'static str> {
-    match id {
-        12 => Some("bulk memory"),
-        13 => Some("exceptions"),
-        _ => None,
     }
 }

@@ -1,6 +1,7 @@
 //! Where in a module's bytes a fault lies.
 
-use crate::extents::{Extent, Imports, imported_functions, pass_sized, section_at, section_extent};
+use crate::entries::entry_offset;
+use crate::extents::{Extent, imported_functions, pass_sized, section_at, section_extent, up_to};
 use crate::names::instruction_name;
 use crate::reader::Reader;
 use crate::section::Section;
@@ -13,6 +14,8 @@ use wh_model::{DecodeError, FaultKind};
 pub struct FaultLocation {
     /// The section.
     pub section: Option<Section>,
+    /// The place among the section's entries, from 0, of a type, an import, a global, an export, a segment and such.
+    pub entry: Option<u32>,
     /// The function in whose entry of the code section it lies. Imported functions count first.
     pub function: Option<u32>,
     /// The instruction of the function, where opcodes count from 0, `else` and `end` included.
@@ -30,7 +33,7 @@ enum Part {
     Locals,
     /// This instruction, or the one that is wanted where the bytes end.
     Instruction(Step),
-    /// What stands behind its last `end`.
+    /// What stands after its last `end`.
     Behind,
 }
 
@@ -52,11 +55,6 @@ fn part_at(window: &[u8], start: usize, offset: usize) -> Part {
     Part::Behind
 }
 
-/// Gives the bytes up to an offset, or all where there are fewer.
-fn up_to(bytes: &[u8], end: usize) -> &[u8] {
-    bytes.get(..end).unwrap_or(bytes)
-}
-
 /// Names the instruction whose opcode stands at an offset.
 fn name_at(bytes: &[u8], offset: usize) -> Option<&'static str> {
     instruction_name(*bytes.get(offset)?)
@@ -67,6 +65,7 @@ impl FaultLocation {
     fn of_step(bytes: &[u8], function: u32, step: Step, offset: usize) -> FaultLocation {
         FaultLocation {
             section: Some(Section::FaultCode),
+            entry: None,
             function: Some(function),
             instruction: Some(step.number),
             opcode: name_at(bytes, step.offset),
@@ -79,9 +78,8 @@ impl FaultLocation {
         FaultLocation {
             section: Some(Section::FaultCode),
             function: Some(function),
-            instruction: None,
-            opcode: None,
             offset: Some(offset),
+            ..FaultLocation::default()
         }
     }
 
@@ -99,25 +97,27 @@ impl FaultLocation {
         FaultLocation::of_offset(section, fault.offset)
     }
 
-    /// Is a place in a section, and in no function.
+    /// Returns the location of a byte in a section, or in none, and in no function.
     pub fn of_offset(section: Option<Section>, offset: usize) -> FaultLocation {
         FaultLocation {
             section,
-            function: None,
-            instruction: None,
-            opcode: None,
             offset: Some(offset),
+            ..FaultLocation::default()
         }
     }
 
-    /// Is a section as a whole.
-    pub fn of_section(section: Section) -> FaultLocation {
+    /// Finds where an entry of a section stands, by its place among them. The start section has no entries.
+    pub fn of_entry_of(bytes: &[u8], section: Section, entry: usize) -> FaultLocation {
+        let entry = u32::try_from(entry).unwrap_or(u32::MAX);
         FaultLocation {
             section: Some(section),
-            function: None,
-            instruction: None,
-            opcode: None,
-            offset: None,
+            entry: if section == Section::Start {
+                None
+            } else {
+                Some(entry)
+            },
+            offset: entry_offset(bytes, section, entry),
+            ..FaultLocation::default()
         }
     }
 
@@ -129,23 +129,8 @@ impl FaultLocation {
                 section: Some(Section::FaultCode),
                 function: Some(function),
                 instruction: Some(instruction),
-                opcode: None,
-                offset: None,
+                ..FaultLocation::default()
             },
-        }
-    }
-
-    /// Finds where an import stands, by its place among them.
-    pub fn of_import(bytes: &[u8], index: usize) -> FaultLocation {
-        let mut imports = Imports::of(bytes);
-        for _ in 0..index {
-            if imports.next().is_none() {
-                return FaultLocation::of_section(Section::Import);
-            }
-        }
-        match imports.next() {
-            Some(entry) => FaultLocation::of_offset(Some(Section::Import), entry.head),
-            None => FaultLocation::of_section(Section::Import),
         }
     }
 }
@@ -213,6 +198,9 @@ impl fmt::Display for FaultLocation {
             (Some(section), _) => write!(f, "the {section} section")?,
             (None, Some(_)) => f.write_str("no section")?,
             (None, None) => f.write_str("the module as a whole")?,
+        }
+        if let Some(entry) = self.entry {
+            write!(f, ", entry {entry}")?;
         }
         if let Some(function) = self.function {
             write!(f, ", function {function}")?;

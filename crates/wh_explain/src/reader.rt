@@ -23,6 +23,11 @@ impl<'a> Reader<'a> {
         self.length.saturating_sub(self.rest.len())
     }
 
+    /// Counts the bytes that are left.
+    pub fn left(&self) -> usize {
+        self.rest.len()
+    }
+
     /// Reads a byte; none at the end.
     pub fn byte(&mut self) -> Option<u8> {
         let (first, rest) = self.rest.split_first()?;
@@ -51,7 +56,7 @@ impl<'a> Reader<'a> {
         Some(())
     }
 
-    /// Passes so many bytes; none where there aren't as many.
+    /// Passes `count` bytes; none where there aren't as many.
     pub fn pass(&mut self, count: usize) -> Option<()> {
         self.rest = self.rest.get(count..)?;
         Some(())

@@ -57,7 +57,7 @@ pub struct ScriptVerdict {
 }
 
 impl ScriptVerdict {
-    /// Whether no line is complained of.
+    /// Tells whether there is no finding on any line.
     pub fn is_accepted(&self) -> bool
         ensures { IsTrue result ↔ (self.now.findings.items ≡ []) }
     {
@@ -91,7 +91,7 @@ fn shown(alloc: Global, word: &str) -> Result<String, AllocError> {
     Ok(String::from_str(alloc, word.get(..MOST_SHOWN).unwrap_or(word))?)
 }
 
-/// Why the words behind a command aren't those that it takes; none where they are.
+/// Why the words after a command aren't those that it takes; none where they are.
 fn words_cause(
     alloc: Global,
     text: &str,
@@ -237,7 +237,7 @@ impl fmt::Display for LineCause {
 }
 
 impl LineCause {
-    /// The place of the word that it is about, from 1; none where it is about the line.
+    /// Returns the place of the word that it is about, from 1; `None` if it is about the whole line.
     pub fn word(&self) -> Option<usize> {
         match self {
             LineCause::EmptyWord(place)

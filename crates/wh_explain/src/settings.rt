@@ -111,7 +111,7 @@ fn answer_of(alloc: Global, bytes: &[u8]) -> Answer
     }
 }
 
-/// The line and the column, both from 1, of the place behind these bytes.
+/// The line and the column, both from 1, of the place after these bytes.
 fn position(before: &[u8]) -> (usize, usize) {
     let mut line = 1usize;
     let mut column = 1usize;
@@ -150,9 +150,10 @@ fn cause_of(key: &str, value: &Value) -> Option<SettingCause> {
         };
     }
     match (key, value.as_str()) {
-        ("hash", Some("fnv64" | "constant")) | ("swap", Some(_)) => None,
+        ("hash", Some("fnv64" | "constant")) => None,
         ("hash", _) => Some(SettingCause::NoHash),
-        ("swap", None) => Some(SettingCause::NoPath),
+        ("swap", Some(path)) if !path.is_empty() => None,
+        ("swap", _) => Some(SettingCause::NoPath),
         _ => Some(SettingCause::UnknownKey),
     }
 }
@@ -302,7 +303,7 @@ impl fmt::Display for SettingFinding {
             }
             SettingCause::TaxNotBelow(den) => write!(f, "has to be below tax_den, which is {den}"),
             SettingCause::NoHash => f.write_str("has to be \"fnv64\" or \"constant\""),
-            SettingCause::NoPath => f.write_str("has to be a path in quotes"),
+            SettingCause::NoPath => f.write_str("has to be a path in quotes, and not an empty one"),
             SettingCause::Other => f.write_str("the host refuses these settings"),
         }
     }

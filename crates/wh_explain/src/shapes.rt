@@ -35,7 +35,7 @@ pub struct Shape {
     pub verb: &'static str,
     /// How it is written, as a sentence.
     pub advice: &'static str,
-    /// The words behind that.
+    /// The words after that.
     pub params: &'static [Param],
     /// What any further words are, where there may be more.
     pub rest: Option<Param>,

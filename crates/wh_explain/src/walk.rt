@@ -9,7 +9,7 @@ pub struct Step {
     pub number: u32,
     /// The offset of its opcode.
     pub offset: usize,
-    /// The offset behind it; `usize::MAX` where it can't be read to its end.
+    /// The offset after it; `usize::MAX` where it can't be read to its end.
     pub end: usize,
 }
 
@@ -43,7 +43,7 @@ impl<'a> Walk<'a> {
         self.reader.offset()
     }
 
-    /// Gives the next instruction, which may be one that can't be read; none behind that, and behind the last `end`.
+    /// Gives the next instruction, which may be one that can't be read; none after that, and after the last `end`.
     pub fn next(&mut self) -> Option<Step> {
         if self.has_ended {
             return None;
@@ -78,7 +78,26 @@ impl<'a> Walk<'a> {
     }
 }
 
-/// Passes what stands behind an opcode (5.4); none where it can't be read.
+/// Passes an expression with its `end`; none where it can't be read.
+pub fn pass_expression(reader: &mut Reader<'_>) -> Option<()> {
+    let mut walk = Walk {
+        reader: *reader,
+        number: 0,
+        depth: 0,
+        has_ended: false,
+    };
+    for _ in 0..=reader.left() {
+        match walk.next() {
+            Some(step) if step.end == usize::MAX => return None,
+            Some(_) => {}
+            None => break,
+        }
+    }
+    *reader = walk.reader;
+    Some(())
+}
+
+/// Passes what stands after an opcode (5.4); none where it can't be read.
 fn pass_immediates(reader: &mut Reader<'_>, opcode: u8) -> Option<()> {
     match opcode {
         0x02..=0x04 | 0x3f | 0x40 => reader.pass(1),
@@ -98,7 +117,7 @@ fn pass_immediates(reader: &mut Reader<'_>, opcode: u8) -> Option<()> {
     }
 }
 
-/// Passes so many numbers of 32 bits; none where they aren't there.
+/// Passes `count` numbers of 32 bits; none where they aren't there.
 fn pass_numbers(reader: &mut Reader<'_>, count: u64) -> Option<()> {
     for _ in 0..count {
         reader.number()?;

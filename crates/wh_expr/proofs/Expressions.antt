@@ -5,11 +5,8 @@ use Rattle.wh_model.specs.declared.faults.FaultKind.{FaultKind}
 use Rattle.wh_model.specs.declared.faults.FaultKind.TheVariants.{Limit}
 use Rattle.wh_model.specs.declared.faults.DecodeError.{DecodeError}
 use Rattle.wh_model.specs.declared.Open.{Open}
-use Rattle.wh_model.specs.Format.Grammar.{HeadBreaks, Each}
-use Rattle.wh_model.specs.Format.Syntax.{Code, nothing, Instr, end_mark, flatten, expression}
-use Rattle.wh_model.specs.Format.Limits.{depth, most_nested, FewInstructions}
-use Rattle.wh_model.specs.Format.Instructions.{instr, next_instr, NextBreaks, Front, in_body, expr}
-use Rattle.wh_model.specs.Focus.Nested.{nested}
+use Rattle.wh_model.specs.Format.{HeadBreaks, Each, Code, nothing, Instr, end_mark, flatten, expression, depth, most_nested, FewInstructions, instr, next_instr, NextBreaks, Front, in_body, expr}
+use Rattle.wh_model.specs.Focus.{nested}
 use Rattle.wh_model.proofs.Nesting.{nested-expression}
 use Rattle.wh_leb.specs.Reading.{◌>>=◌, ReadsBy, Anything, head_of, with_front}
 use Rattle.wh_leb.proofs.Combinators.{bind_ok, bind_err, ok_is, succeed, fails_at, after, inside, head_fault, head_stops, with_front-with_front, with_front-nil}
@@ -143,7 +140,7 @@ abbrev pub BreaksAt : Option ℕ → List Instr → List Open → List ℕ → F
 BreaksAt most front stack b kind k = (more : List Instr) × (inner : List Open) × (t u : List ℕ) × (j : ℕ) × (b ≡ t ++ u) × (k ≡ length t + j)
     × Front (front ++ more) inner × Each instr.within more t × NextBreaks most (length (front ++ more)) inner u kind j
 
--- behind so many instructions there may come n more
+-- after n instructions there may come n more
 abbrev Left : Option ℕ → ℕ → ℕ → List ℕ → ℕ → Type 0
 Left (Some most) count n b at = count + n ≡ most
 Left None count n b at = length b - at ≤ n

@@ -2,9 +2,7 @@
 use Rattle.std.proofs.Common.{◌≡◌, suc, ◌+◌, ◌-◌, ◌<◌, ◌≤◌, List, [], ◌∷◌, ◌++◌, length, Some, None, refl, sym, ap, subst, ◌∙◌, append_assoc, arith}
 use Rattle.wh_model.specs.declared.Open.{Open}
 use Rattle.wh_model.specs.declared.Open.TheVariants.{Then, Other}
-use Rattle.wh_model.specs.Format.Syntax.{Code, nothing, plain, block, loop, if_then, if_else, Instr, single, block_start, loop_start, if_start, else_mark, end_mark, flatten, expression, join}
-use Rattle.wh_model.specs.Format.Limits.{depth, most_nested}
-use Rattle.wh_model.specs.Format.Instructions.{Front, in_body, in_block, in_loop, in_then, in_else}
+use Rattle.wh_model.specs.Format.{Code, nothing, plain, block, loop, if_then, if_else, Instr, single, block_start, loop_start, if_start, else_mark, end_mark, flatten, expression, join, depth, most_nested, Front, in_body, in_block, in_loop, in_then, in_else}
 use Rattle.wh_model.proofs.Nesting.{flatten-join, depth-join}
 use Rattle.wh_expr.specs.ReadingCode.{after_instr}
 

@@ -8,12 +8,8 @@ use Rattle.wh_model.specs.declared.Open.{Open}
 use Rattle.wh_model.specs.declared.Open.TheVariants.{Then, Other}
 use Rattle.wh_model.specs.declared.Opcode.{Opcode}
 use Rattle.wh_model.specs.declared.Opcode.TheVariants.{Unreachable, Nop, Block, Loop, If, Else, End, Br, BrIf, BrTable, Return, Call, CallIndirect, Drop, Select, LocalGet, LocalSet, LocalTee, GlobalGet, GlobalSet, Load, Store, MemorySize, MemoryGrow, I32Const, I64Const, Test, Compare, Unary, Binary, Convert}
-use Rattle.wh_model.specs.Format.Grammar.{gives, ◌>>=◌ as ◌then◌, one_of, this_byte, exact_byte, Each}
-use Rattle.wh_model.specs.Format.Leb.{u32, s32, s64, vec_up_to}
-use Rattle.wh_model.specs.Format.Syntax.{Op, unreachable, nop, br, br_if, br_table, return, call, call_indirect, drop_operand, select, local_get, local_set, local_tee, global_get, global_set, load, store, memory_size, memory_grow, i32_const, i64_const, test, comparison, unary, binary, conversion, Instr, single, block_start, loop_start, if_start, else_mark, end_mark}
-use Rattle.wh_model.specs.Format.Opcodes.{block_type, opcode}
-use Rattle.wh_model.specs.Format.Limits.{most_nested, most_labels}
-use Rattle.wh_model.specs.Format.Instructions.{blocktype, with_index, with_address, opening, operands, instr, if_room, else_in, allowed, may_come, next_instr}
+use Rattle.wh_model.specs.Format.Grammar.{◌>>=◌ as ◌then◌}
+use Rattle.wh_model.specs.Format.{gives, one_of, this_byte, exact_byte, Each, u32, s32, s64, vec_up_to, Op, unreachable, nop, br, br_if, br_table, return, call, call_indirect, drop_operand, select, local_get, local_set, local_tee, global_get, global_set, load, store, memory_size, memory_grow, i32_const, i64_const, test, comparison, unary, binary, conversion, Instr, single, block_start, loop_start, if_start, else_mark, end_mark, block_type, opcode, most_nested, most_labels, blocktype, with_index, with_address, opening, operands, instr, if_room, else_in, allowed, may_come, next_instr}
 use Rattle.wh_leb.specs.Reading.{◌>>=◌, ReadsBy, Anything, one_at, u32_at, s32_at, s64_at, vec_up_to_at}
 use Rattle.wh_leb.proofs.Combinators.{chosen, reads_gives, reads_then, reads_one_of}
 use Rattle.wh_leb.proofs.Integers.{reads_u32, reads_s32, reads_s64, reads_vec_up_to, reads_byte}

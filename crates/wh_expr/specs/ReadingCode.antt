@@ -90,7 +90,7 @@ instr_at stack b at = do
   code ← one_at (λ n. may_come stack (opcode n)) b at
   operands_at code.0 b code.1
 
--- the constructs that are open behind an instruction; none where it ends the expression
+-- the constructs that are open after an instruction; none where it ends the expression
 abbrev pub else_after : List Open → Option (List Open)
 else_after [] = Some []
 else_after (construct ∷ stack) = Some (Other ∷ stack)
@@ -112,7 +112,7 @@ abbrev pub goes_on : Option (List Open) → Instr → ℕ → (List Open → Res
 goes_on None i at rest = Ok (i ∷ [], at)
 goes_on (Some stack) i at rest = rest stack >>= λ r. Ok (i ∷ r.0, r.1)
 
--- the instructions up to the end of the expression, at most so many
+-- the instructions up to the end of the expression, at most n
 unfoldable pub code_from : ℕ → List Open → Reader (List Instr)
 code_from zero stack b at = head_of (λ _. Err Limit) (drop at b) at
 code_from (suc n) stack b at =

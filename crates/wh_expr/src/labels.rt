@@ -1,4 +1,4 @@
-//! The labels of `br_table`, which lie in a pool of the expression.
+//! The labels of `br_table`, which are in a pool of the expression.
 
 ghost use Rattle.std.specs.Prelude.{◌≡◌, ◌+◌, ◌<◌, ◌≤◌, ◌^◌, ◌++◌, ◌∷◌, [], length, IfOk, IfErr, OnOk};
 ghost use Rattle.wh_leb.specs.Reading.{u32_at, times_at, limited_at, Gives};
@@ -23,7 +23,7 @@ fn keep_label(labels: &mut Vec<u32>, label: u32, at: usize) -> Result<(), Decode
     }
 }
 
-/// Reads so many labels into the pool, and gives the place behind them.
+/// Reads `count` labels into the pool; returns the offset after them.
 fn keep_labels(
     count: u32,
     bytes: &[u8],
@@ -47,7 +47,7 @@ fn keep_labels(
     Ok(place)
 }
 
-/// The count of the labels beside the default one.
+/// The count of the labels besides the default one.
 fn label_count(bytes: &[u8], at: usize) -> Result<(u32, usize), DecodeError>
     requires { at ≤ length bytes.now }
     ensures exact { result ≡ limited_at 4096 u32_at bytes.now at }
@@ -61,7 +61,7 @@ fn label_count(bytes: &[u8], at: usize) -> Result<(u32, usize), DecodeError>
     Ok((count, next))
 }
 
-/// A `br_table` from behind its opcode on, whose labels go to the end of the pool, and the place behind it.
+/// Reads a `br_table` after its opcode, and appends its labels to the pool; returns it and the offset after it.
 pub fn label_table(
     bytes: &[u8],
     at: usize,

@@ -1,5 +1,5 @@
 //! Expressions of the binary format (section 5.4 of the standard): the instructions from a place on up to the end that
-//! belongs to the expression, and the place behind it, or the first fault.
+//! belongs to the expression, and the place after it, or the first fault.
 #![tactic(auto)]
 
 mod labels;

@@ -1,4 +1,4 @@
-//! What a byte stands for where an instruction begins.
+//! What a byte encodes where an instruction begins.
 
 ghost use Rattle.std.specs.Prelude.{◌≡◌, ◌<◌};
 ghost use Rattle.wh_model.specs.Format.Opcodes.{operator_from, control_opcode, variable_opcode, memory_opcode, single_opcode, numeric_opcode, opcode, is_float_opcode};
@@ -111,7 +111,7 @@ fn variable(byte: u8) -> Option<Opcode>
     }
 }
 
-/// The operator that an opcode stands for, where `first` is the opcode of the first one.
+/// The operator that an opcode encodes, where `first` is the opcode of the first one.
 #[inline(always)]
 fn operator_from<T: Copy>(first: u8, operators: &[T], byte: u8) -> Option<T>
     ensures { result ≡ operator_from first operators.now byte }
@@ -201,7 +201,10 @@ fn is_float(byte: u8) -> bool
     )
 }
 
-/// The opcode, or why there is none.
+/// Returns the opcode that this byte is.
+///
+/// # Errors
+/// `Float` if it is one of floating point, else `UnknownByte`.
 #[inline(always)]
 #[tactic(auto, unfolding(wh_model::specs::Format::Opcodes::opcode))]
 pub fn opcode_of(byte: u8) -> Result<Opcode, FaultKind>

@@ -1,4 +1,4 @@
-//! What stands behind an opcode.
+//! What stands after an opcode.
 
 ghost use Rattle.std.specs.Prelude.{◌≡◌, ◌≢◌, ℕ, ◌≤◌, List, length, IfOk};
 ghost use Rattle.wh_model.specs.Format.Grammar.{exact_byte};
@@ -40,7 +40,7 @@ fn result_type(bytes: &[u8], at: usize) -> Result<(Option<ValType>, usize), Deco
     }
 }
 
-/// The place behind a byte that has to be 0.
+/// The place after a byte that has to be 0.
 #[inline(always)]
 fn reserved(bytes: &[u8], at: usize) -> Result<usize, DecodeError>
     requires { at ≤ length bytes.now }
@@ -59,7 +59,7 @@ fn reserved(bytes: &[u8], at: usize) -> Result<usize, DecodeError>
     }
 }
 
-/// The instruction that an opcode begins, where it is none with a pool, and the place behind it.
+/// Reads what follows an opcode, other than `br_table`; returns the instruction and the offset after it.
 #[inline(always)]
 #[tactic(auto, unfolding(crate::specs::ReadingCode::operands_at))]
 pub fn operands(opcode: Opcode, bytes: &[u8], at: usize) -> Result<(Instr, usize), DecodeError>

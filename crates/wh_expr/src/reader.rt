@@ -1,4 +1,4 @@
-//! Instructions one behind the other, up to the end of the expression.
+//! Instructions one after the other, up to the end of the expression.
 
 ghost use Rattle.std.specs.Prelude.{◌≡◌, ◌≢◌, ℕ, ◌<◌, ◌≤◌, ◌+◌, ◌-◌, ◌^◌, ◌++◌, ◌∷◌, [], List, length, drop, reverse, map, IfOk, IfErr, Ok, Err, OnOk, Option, Some};
 ghost use Rattle.std.specs.List.{AllByRecursion};
@@ -62,7 +62,7 @@ fn opcode_at(bytes: &[u8], at: usize, stack: &[Open]) -> Result<(Opcode, usize),
     }
 }
 
-/// What stands behind an opcode; labels go to the end of the pool.
+/// What stands after an opcode; labels go to the end of the pool.
 #[inline(always)]
 #[tactic(auto, unfolding(crate::specs::ReadingCode::operands_at))]
 fn immediates(
@@ -110,7 +110,7 @@ fn instruction(
     immediates(opcode, bytes, next, labels)
 }
 
-/// The constructs that are open behind an instruction; true where it ends the expression.
+/// The constructs that are open after an instruction; true where it ends the expression.
 #[inline(always)]
 fn advance(stack: &mut Vec<Open>, instr: Instr) -> Result<bool, AllocError>
     ensures { IfOk result
@@ -189,7 +189,8 @@ fn room(alloc: Global, bytes: &[u8], at: usize, most: Option<usize>) -> Vec<Inst
     }
 }
 
-/// The instructions up to the end of the expression, at most so many, in this list, and the pool of their labels.
+/// Reads the instructions up to the end of the expression, at most `most`, into this list, and the pool of their
+/// labels.
 fn instructions(
     alloc: Global,
     mut instrs: Vec<Instr>,
@@ -247,10 +248,10 @@ fn whole(
     Ok((Expr::new(instrs, labels), next))
 }
 
-/// The expression at a place of the bytes, and the place behind its end.
+/// Reads the expression at offset `at`; returns it and the offset after its end.
 ///
 /// `most` limits its instructions, each opcode counted, `else` and `end` included; with `None` there may be as many as
-/// the bytes hold. Constructs may be nested 256 deep, and a `br_table` may have 4096 labels beside the default one.
+/// the bytes hold. Constructs may be nested 256 deep, and a `br_table` may have 4096 labels besides the default one.
 ///
 /// # Errors
 /// The first fault of the bytes, at its byte: `Truncated` where they end, `Leb`, `UnknownByte`, `Float`, `Limit`; and

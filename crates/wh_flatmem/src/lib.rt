@@ -1,13 +1,13 @@
 //! A linear memory as one list of bytes: the plain form of what section 4.2.8 of the W3C WebAssembly Core Specification
 //! 1.0 describes, for the plain program and for tests.
 //!
-//! [`FlatMemory`] is proved to be a `LinearMem` whose bytes are always at hand: a load reads exactly the bytes that it
-//! names, a store changes exactly those, each traps exactly where they aren't all in the memory, and a growth adds zeros
-//! exactly up to the limit. Only making it takes memory, so nothing else can be refused any.
+//! [`FlatMemory`] is proved to be a `LinearMem` whose bytes are always ready: a load reads exactly the bytes that it
+//! names, a store changes exactly those, each traps exactly where they aren't all in the memory, and a growth adds
+//! zeros exactly up to the limit. Only creating it allocates, so nothing else can fail for want of memory.
 //!
-//! Inlined where the count of bytes is known, as for numbers, a load or a store is one test of the bounds and one machine
-//! move. The quick ones refuse the few numbers whose first byte is one of the last seven, so that their test is a single
-//! comparison.
+//! Inlined where the count of bytes is known, as for numbers, a load or a store is one test of the bounds and one
+//! machine move. The quick ones refuse the few numbers whose first byte is one of the last seven, so that their test is
+//! a single comparison.
 #![tactic(auto)]
 
 ghost use Rattle.std.specs.Prelude.{◌≡◌, ◌+◌, ◌-◌, ◌*◌, ◌<◌, ◌≤◌, length, replicate, IfOk, IsTrue, IsFalse, vec_capacity, refl};
@@ -17,16 +17,15 @@ ghost use Rattle.wh_model.specs.Execution.Store.{bytes_at, written};
 
 use std::alloc::{AllocError, Global};
 use std::marker::Model;
-use wh_bytes::copy_bytes;
-use wh_linmem::LinearMem;
+use wh_linmem::{LinearMem, copy_bytes};
 use wh_model::{Got, Grown, Need, WASM_PAGE};
 
 // How many bytes a quick load or store takes at most: those of the widest number.
 const MOST_QUICK: usize = 8;
 
-/// A linear memory that is one list of bytes, all of them always at hand.
+/// A linear memory that is one list of bytes, all of them always ready.
 ///
-/// Contracts see its bytes, and to how many pages it may grow.
+/// Contracts see its bytes, and the number of pages to which it may grow.
 #[derive(Drop)]
 pub struct FlatMemory {
     pages: u32,
@@ -46,7 +45,7 @@ impl Model for FlatMemory {
         × (m.quick_end ≡ length m.bytes.items - 7) };
 }
 
-// Before which place so many bytes begin in a memory of this length as a quick load or store takes at most.
+// The place before which each quick load or store, of at most 8 bytes, begins in a memory of this length.
 fn quick_end_of(length: usize) -> usize
     ensures { result ≡ length - 7 }
 {
@@ -54,11 +53,11 @@ fn quick_end_of(length: usize) -> usize
 }
 
 impl FlatMemory {
-    /// So many pages of 65536 zero bytes. There may be as many as `limit` says, at most 65536; room for them all is
-    /// reserved now, and growing takes no more.
+    /// Creates a memory of `pages` pages of 65536 zero bytes, that may grow to `limit` pages, at most 65536. Reserves
+    /// the room for them all, so that growing allocates nothing.
     ///
     /// # Errors
-    /// Where that room was refused.
+    /// `AllocError` if the allocation fails.
     pub fn new(alloc: Global, pages: u32, limit: u32) -> Result<FlatMemory, AllocError>
         requires within { pages ≤ limit }
         requires most { limit ≤ 65536 }
@@ -75,7 +74,7 @@ impl FlatMemory {
         })
     }
 
-    /// All its bytes.
+    /// Returns all its bytes.
     pub fn bytes(&self) -> &[u8]
         ensures { result.now ≡ self.now.bytes }
     {
@@ -91,7 +90,7 @@ impl FlatMemory {
         copy_bytes(&mut self.bytes[at..at + given.len()], given);
     }
 
-    // Where so many bytes begin, if all of them are in the memory.
+    // Where `count` bytes begin, if all of them are in the memory.
     #[inline(always)]
     fn place(&self, at: u64, count: usize) -> Option<usize>
         ensures { StartsAt self.now.bytes at count result }
@@ -102,7 +101,7 @@ impl FlatMemory {
         Some(at as usize)
     }
 
-    // Whether a quick load or store takes so many bytes from this place on. They are in the memory then.
+    // Whether a quick load or store takes `count` bytes from this place on. They are in the memory then.
     #[inline(always)]
     fn is_quick(&self, at: u64, count: usize) -> bool
         ensures { IsTrue result → at + count ≤ length self.now.bytes }
@@ -110,7 +109,7 @@ impl FlatMemory {
         at < self.quick_end as u64 && count <= MOST_QUICK
     }
 
-    // Reads so many bytes, if all of them are in the memory, and says whether it did.
+    // Reads as many bytes as `into` takes, if all of them are in the memory, and says whether it did.
     #[inline(always)]
     fn read(&self, at: u64, into: &mut [u8]) -> bool
         ensures within { IsTrue result → at + length into.old ≤ length self.now.bytes }

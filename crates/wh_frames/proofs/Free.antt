@@ -2,9 +2,8 @@
 use Rattle.std.proofs.Common.{◌≡◌, ℕ, ◌+◌, ◌-◌, ◌<◌, ◌≤◌, ◌++◌, ◌⊎◌, List, [], ◌∷◌, length, replicate, get_or, slice_get, Some, zero, suc, add-zero, refl, sym, ◌∙◌, ap, arith, inl, inr}
 use Rattle.std.proofs.lemmas.Bool.{cases_lt}
 use Rattle.std.proofs.lemmas.List.{append_assoc, append-nil, length-append, length-replicate, length-set, set-append_left}
-use Rattle.wh_host_model.specs.Frames.{tally, one_if, IsTaken, TakesFrame}
-use Rattle.wh_host_model.specs.Pages.{zero_page}
-use Rattle.wh_host_model.proofs.Tally.{tally-append, one_same, one_other, length-le_from_once}
+use Rattle.wh_space_model.specs.{tally, one_if, IsTaken, TakesFreeFrame, zero_page}
+use Rattle.wh_space_model.proofs.Tally.{tally-append, one_same, one_other, length-le_from_once}
 use Rattle.wh_frames.specs.Parts.{falling, pool_of, GivenBack}
 use Rattle.std.specs.Vec.{with_item}
 use Rattle.wh_frames.specs.LentFrames.{with_bytes}
@@ -129,7 +128,7 @@ free_next k limit below =
     ap (falling k) rest ∙ falling_next k (limit - (k + 1))
 
 -- a frame that was given back is taken
-pub takes_given : (a b : Inside) (f : ℕ) → b.limit ≡ a.limit → b.frames.items ≡ a.frames.items → a.free.items ≡ b.free.items ++ f ∷ [] → TakesFrame (pool_of a) f (pool_of b)
+pub takes_given : (a b : Inside) (f : ℕ) → b.limit ≡ a.limit → b.frames.items ≡ a.frames.items → a.free.items ≡ b.free.items ++ f ∷ [] → TakesFreeFrame (pool_of a) f (pool_of b)
 takes_given a b f limit frames last =
     let unused = falling (length a.frames.items) (a.limit - length a.frames.items) in
     record {
@@ -138,7 +137,7 @@ takes_given a b f limit frames last =
     }
 
 -- a frame is taken for the first time
-pub takes_next : (a b : Inside) (f : ℕ) → f ≡ length a.frames.items → f < a.limit → b.limit ≡ a.limit → b.frames.items ≡ a.frames.items ++ zero_page ∷ [] → a.free.items ≡ [] → b.free.items ≡ [] → TakesFrame (pool_of a) f (pool_of b)
+pub takes_next : (a b : Inside) (f : ℕ) → f ≡ length a.frames.items → f < a.limit → b.limit ≡ a.limit → b.frames.items ≡ a.frames.items ++ zero_page ∷ [] → a.free.items ≡ [] → b.free.items ≡ [] → TakesFreeFrame (pool_of a) f (pool_of b)
 takes_next a b f is below limit next none none2 =
     let k = length a.frames.items in
     let under : k < a.limit = omega arith in

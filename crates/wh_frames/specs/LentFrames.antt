@@ -1,7 +1,7 @@
 -- A frame that is lent to be written.
 use Rattle.std.specs.Prelude.{ℕ, List, slice_set}
 use Rattle.std.specs.Borrow.{Lends, MutBor, Fml, Array, u8}
-use Rattle.wh_host_model.specs.Frames.{Pool}
+use Rattle.wh_space_model.specs.Frames.{Pool}
 use Rattle.wh_frames.specs.contracts.pool.FramePool.{the_row}
 
 -- the pool with other bytes in one frame

@@ -1,11 +1,11 @@
--- What the parts of a frame pool stand for.
+-- What the parts of a frame pool represent.
 use Rattle.std.specs.Prelude.{ℕ, ◌≡◌, ◌+◌, ◌-◌, ◌^◌, ◌<◌, ◌≤◌, ◌++◌, List, [], ◌∷◌, length, replicate, zero, suc}
 use Rattle.std.specs.Vec.{vec_capacity}
-use Rattle.wh_host_model.specs.Frames.{Pool, tally, one_if}
-use Rattle.wh_host_model.specs.Pages.{zero_page}
+use Rattle.wh_space_model.specs.Frames.{Pool, tally, one_if}
+use Rattle.wh_space_model.specs.Pages.{zero_page}
 use Rattle.wh_frames.specs.declared.pool.FramePool.TheInside.{Inside}
 
--- so many numbers from the first on, the greatest first
+-- n numbers from the first on, the greatest first
 abbrev pub falling : ℕ → ℕ → List ℕ
 falling first zero = []
 falling first (suc count) = (first + count) ∷ falling first count

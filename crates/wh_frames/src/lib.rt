@@ -22,7 +22,7 @@ pub enum FrameError {
 }
 
 impl FrameError {
-    /// The number by which replies name the fault, 1 or 2.
+    /// Returns the number by which replies name the fault, 1 or 2.
     pub fn number(self) -> u8
         ensures { result ≡ frame_number self }
     {

@@ -3,8 +3,8 @@
 ghost use Rattle.std.specs.Prelude.{◌≡◌, ◌≢◌, ◌↔◌, ℕ, ◌+◌, ◌<◌, ◌≤◌, ◌++◌, [], ◌∷◌, length, replicate, get_or, slice_get, slice_set, Some, Err, OnErr, IfOk, IfErr, vec_len, vec_capacity};
 ghost use Rattle.std.specs.Borrow.{sem};
 ghost use Rattle.wh_frames.specs.LentFrames.{LendsFrame};
-ghost use Rattle.wh_host_model.specs.Frames.{IsTaken, HasDistinctFree, TakesFrame, tally, one_if};
-ghost use Rattle.wh_host_model.specs.Pages.{zero_page};
+ghost use Rattle.wh_space_model.specs.Frames.{IsTaken, HasDistinctFree, TakesFreeFrame, tally, one_if};
+ghost use Rattle.wh_space_model.specs.Pages.{zero_page};
 
 use crate::FrameError;
 use std::alloc::Global;
@@ -23,7 +23,7 @@ pub struct FramePool {
 }
 
 impl Model for FramePool {
-    ghost use Rattle.wh_host_model.specs.Frames.{Pool};
+    ghost use Rattle.wh_space_model.specs.Frames.{Pool};
 
     ghost Value = { Pool };
 
@@ -35,7 +35,7 @@ impl Model for FramePool {
 }
 
 // Adds a frame of zeros.
-#[tactic(auto, unfolding(wh_host_model::specs::Pages::zero_page))]
+#[tactic(auto, unfolding(wh_space_model::specs::Pages::zero_page))]
 fn add_frame(frames: &mut Vec<[u8; 4096]>)
     requires { vec_len frames.old < vec_capacity frames.old }
     ensures items { frames.new.items ≡ frames.old.items ++ zero_page ∷ [] }
@@ -58,7 +58,10 @@ fn add_free(free: &mut Vec<u32>, frame: u32)
 }
 
 impl FramePool {
-    /// A pool of so many frames, all free and zero. Room for all of them is reserved; `Memory` where it is refused.
+    /// Creates a pool of `frames` frames of 4096 bytes, all free and zero. Reserves the room for all.
+    ///
+    /// # Errors
+    /// `FrameError::Memory` if an allocation fails.
     pub fn new(alloc: Global, frames: u32) -> Result<FramePool, FrameError>
         ensures frames { IfOk result (λ pool. pool.frames ≡ replicate frames zero_page) }
         ensures free { IfOk result (λ pool. length pool.free ≡ frames) }
@@ -81,7 +84,7 @@ impl FramePool {
     /// Takes a free frame, one that was given back where there is one. It holds the bytes that it had: those that
     /// were last written to it, or zeros where it was never taken. `NoFrame` where none is free. It takes no memory.
     pub fn take(&mut self) -> Result<u32, FrameError>
-        ensures takes { IfOk result (λ frame. TakesFrame self.old frame self.new) }
+        ensures takes { IfOk result (λ frame. TakesFreeFrame self.old frame self.new) }
         ensures taken { IfOk result (λ frame. IsTaken self.new frame) }
         ensures others { IfOk result
             (λ frame. (f : ℕ) → IsTaken self.old f → (f ≢ frame) × IsTaken self.new f) }
@@ -109,7 +112,7 @@ impl FramePool {
         add_free(&mut self.free, frame);
     }
 
-    /// The bytes of a taken frame.
+    /// Returns the bytes of a frame that is taken.
     #[inline(always)]
     pub fn bytes(&self, frame: u32) -> &[u8; 4096]
         requires { IsTaken self.now frame }
@@ -118,7 +121,7 @@ impl FramePool {
         &self.frames[frame as usize]
     }
 
-    /// The bytes of a taken frame, to be written.
+    /// Returns the bytes of a frame that is taken, to be written.
     #[inline(always)]
     pub fn bytes_mut(&mut self, frame: u32) -> &mut [u8; 4096]
         requires { IsTaken self.old frame }
@@ -139,14 +142,14 @@ impl FramePool {
         self.frames[to as usize] = self.frames[from as usize];
     }
 
-    /// How many frames there are.
+    /// Returns the number of frames.
     pub fn len(&self) -> u32
         ensures { result ≡ length self.now.frames }
     {
         self.limit
     }
 
-    /// How many frames are free.
+    /// Returns the number of free frames.
     pub fn free(&self) -> u32
         ensures count { result ≡ length self.now.free }
         ensures distinct { HasDistinctFree self.now }
@@ -154,7 +157,7 @@ impl FramePool {
         self.limit - self.used()
     }
 
-    /// How many frames are taken.
+    /// Returns the number of frames that are taken.
     pub fn used(&self) -> u32
         ensures count { result + length self.now.free ≡ length self.now.frames }
         ensures distinct { HasDistinctFree self.now }

@@ -1,15 +1,12 @@
 -- What a request leaves.
 use Rattle.std.proofs.Common.{◌≡◌, ◌≤◌, ◌<◌, ℕ, ℤ, List, [], ◌∷◌, ◌++◌, length, get_or, Bool, false, Option, Some, None, Result, Ok, Err, refl, sym, ap, subst, ◌∙◌, arith}
 use Rattle.std.specs.Global.{Vec}
-use Rattle.wh_host_model.specs.declared.plain.InstId.{InstId}
-use Rattle.wh_host_model.specs.Space.Parts.{Space}
-use Rattle.wh_host_model.specs.Host.Worlds.{Rest, Tenant, World, with_tenant}
-use Rattle.wh_host_model.specs.Owners.{Entry, Params, AdmitFault, instances, most_instances}
-use Rattle.wh_host_model.specs.Host.Admission.{live_count, LetsIn, MeetsFault, rest_of}
-use Rattle.wh_host_model.specs.Host.CallAnswers.{Closes, faces_next, is_dead}
-use Rattle.wh_host_model.specs.Host.OwnerCalls.{Cancels, ends, Refuels, has_more, Retries, may_try}
-use Rattle.wh_host_model.specs.Host.Events.{Event, load, admit, invoke, refuel, cancel, retry, release}
-use Rattle.wh_host_model.specs.Host.Happens.{Happens, IsLive, LoadAnswer, InvokeAnswer, CallAnswer, IsLoad, IsAdmit, IsInvoke, IsRefuel, IsCancel, IsRetry, IsRelease, is_loaded, isnt_loaded, no_memory_to_load, is_admitted, admit_ok, is_invoked, has_no_instance, isnt_invoked, no_memory_to_invoke, is_refueled, no_one_to_refuel, no_call_to_refuel, is_cancelled, no_one_to_cancel, no_call_to_cancel, is_retried, no_one_to_retry, no_fault_to_retry, is_released, no_one_to_release}
+use Rattle.wh_space_model.specs.declared.plain.InstId.{InstId}
+use Rattle.wh_space_model.specs.{Space}
+use Rattle.wh_host_model.specs.Host.{Rest, Tenant, World, with_tenant, live_count, LetsIn, MeetsFault, rest_of, Closes, faces_next, is_dead, Cancels, Refuels, has_more, Retries, may_try, Event, load, admit, invoke, refuel, cancel, retry, release, IsLive, LoadAnswer, InvokeAnswer, CallAnswer, IsLoad, IsAdmit, IsInvoke, IsRefuel, IsCancel, IsRetry, IsRelease, is_loaded, isnt_loaded, no_memory_to_load, is_admitted, admit_ok, is_invoked, has_no_instance, isnt_invoked, no_memory_to_invoke, is_refueled, no_one_to_refuel, no_call_to_refuel, is_cancelled, no_one_to_cancel, no_call_to_cancel, is_retried, no_one_to_retry, no_fault_to_retry, is_released, no_one_to_release}
+use Rattle.wh_host_model.specs.{Entry, Params, AdmitFault, instances, most_instances}
+use Rattle.wh_host_model.specs.Host.OwnerCalls.{ends}
+use Rattle.wh_host_model.specs.Host.Happens.{Happens}
 use Rattle.wh_host.specs.Hosting.{HostState, IsHost}
 use Rattle.wh_host.specs.Showing.{RepresentsReached}
 use Rattle.wh_host.proofs.Hosts.{as_many, one_fewer, one_more, reached_on}
@@ -152,7 +149,7 @@ admitted_comes w w2 k p id (is_admitted lets) = record {
       omega (arith, less, more, same);
 }
 
--- ---- what the code stands for
+-- ---- what the code represents
 
 led_on : (h h2 : HostState) (R : World → World → Type 0) (e : Event) → ((w w2 : World) → R w w2 → Happens w e w2)
     → Leads h R h2 → RepresentsReached h → RepresentsReached h2
@@ -196,10 +193,7 @@ asked_settles h h2 e id line stands led lists tells leads =
 pub asked_few : (h h2 : HostState) (e : Event) (id : InstId) → RepresentsReached h → h.live ≤ most_instances → Leads h (Asked e id) h2 → h2.live ≤ most_instances
 asked_few h h2 e id led few leads =
     let x = leads led.0 led.1 in
-    let was = led.1.live in
-    let is = x.2.live in
-    let no_more = x.1.live in
-    omega (arith, few, was, is, no_more)
+    omega (arith, few, led.1.live, x.2.live, x.1.live)
 
 -- and once it is settled, all is as it has to be
 pub asked_in_hand : (h h2 : HostState) (e : Event) (id : InstId) (held : List (List ℕ)) (line line2 : List InstId) (room room2 : ℕ)
@@ -231,9 +225,7 @@ comer_settles h h2 k p id line led lists leads =
 pub comer_few : (h h2 : HostState) (k : ℕ) (p : Params) (id : InstId) → RepresentsReached h → Leads h (Comes k p id) h2 → h2.live ≤ most_instances
 comer_few h h2 k p id led leads =
     let x = leads led.0 led.1 in
-    let is = x.2.live in
-    let few = x.1.few in
-    omega (arith, is, few)
+    omega (arith, x.2.live, x.1.few)
 
 pub comer_in_hand : (h h2 : HostState) (k : ℕ) (p : Params) (id : InstId) (held : List (List ℕ)) (line line2 : List InstId) (room room2 : ℕ)
     → IsInOneHand h held line room → Leads h (Comes k p id) h2 → KeepsBacking h.space h2.space → Lists h2 line2 → most_instances ≤ room2 → IsInOneHand h2 held line2 room2

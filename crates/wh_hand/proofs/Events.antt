@@ -1,24 +1,20 @@
 -- Runs that are put together.
-use Rattle.std.proofs.Common.{◌≡◌, ℕ, ◌+◌, ◌≤◌, List, [], ◌∷◌, ◌++◌, map, Option, None, refl, sym, ap, subst, ◌∙◌, arith}
+use Rattle.std.proofs.Common.{◌≡◌, ℕ, ◌+◌, ◌≤◌, List, [], ◌∷◌, ◌++◌, map, None, refl, sym, ap, subst, ◌∙◌, arith}
 use Rattle.std.specs.List.{AllByRecursion}
 use Rattle.std.proofs.lemmas.List.Sums.{sum_by-append}
-use Rattle.wh_host_model.specs.declared.plain.InstId.{InstId}
+use Rattle.wh_space_model.specs.declared.plain.InstId.{InstId}
 use Rattle.wh_host_model.specs.declared.plain.TurnEnd.{TurnEnd}
-use Rattle.wh_host_model.specs.Host.Admission.{live_count}
-use Rattle.wh_host_model.specs.Host.Worlds.{World, empty_world}
-use Rattle.wh_host_model.specs.Host.Events.{Event, turn, provide}
-use Rattle.wh_host_model.specs.Host.Happens.{AllHappen, AwaitsFrame, Happens, IsTurn, MovesPages, OnlyMoves, moved, has_failed}
+use Rattle.wh_host_model.specs.Host.{live_count, World, empty_world, Event, turn, provide, AllHappen, AwaitsFrame, IsTurn, MovesPages, OnlyMoves, moved, has_failed}
+use Rattle.wh_host_model.specs.Host.Happens.{Happens}
 use Rattle.wh_host.specs.Hosting.{HostState, IsHost, IsReached}
-use Rattle.wh_host.specs.TicketsOut.{IsPresentCall}
 use Rattle.wh_host.specs.Paging.{MovesOnly, MovesWith}
-use Rattle.wh_host.specs.Telling.{TellsChargesOf}
+use Rattle.wh_host.specs.Series.{HasSpent}
 use Rattle.wh_hand.specs.ChargesTaken.{charges_of_all}
 use Rattle.wh_hand.specs.Running.{AllGetOn, EventGetsOn, IsOwn, RunsByEvents, place_of_tenant, turn_count}
-use Rattle.wh_hand.specs.RunParts.{RunsPart, charges_taken, quantum}
+use Rattle.wh_hand.specs.RunParts.{RunsPart, quantum}
 use Rattle.wh_hand.specs.Lining.{MayGoOn, IsReadyFor}
-use Rattle.wh_hand.proofs.Sums.{live_by_places}
+use Rattle.wh_hand.proofs.Sums.{live_by_places, turn_taken}
 use Rattle.wh_hand.proofs.Getting.{turned_gets_on}
-use Rattle.wh_hand.proofs.Turned.{Counts, turn_counts}
 
 pub all_both : (P : Event → Type 0) (xs ys : List Event) → AllByRecursion P xs → AllByRecursion P ys → AllByRecursion P (xs ++ ys)
 all_both P [] ys a b = b
@@ -74,7 +70,7 @@ pub only_moves : (w w2 : World) (id : InstId) → MovesPages w id AwaitsFrame No
 only_moves w w2 id (moved {s2 = s2} alone none) = (s2, alone, refl)
 only_moves w w2 id (has_failed {e = e} alone some live awaits) = absurd (cc some)
 
--- ---- between what they stand for
+-- ---- between what they represent
 
 pub on_itself : (h : HostState) → RunsPart h 0 0 h
 on_itself h w st reached = (w, runs_itself w, omega arith, st)
@@ -98,37 +94,29 @@ on_provided h h2 id moves w st reached =
     (x.0, runs_moved w x.0 (provide id None) refl x.1 tt (only_moves w x.0 id x.1), omega arith, x.2)
 
 -- one turn
-pub turned_to : (h h2 : HostState) (id : InstId) (q call : ℕ) (answer : TurnEnd) (before after : Option ℕ) (w w2 : World)
-    → IsHost h w → IsHost h2 w2 → IsTurn w id q answer w2
-    → IsPresentCall h id call → TellsChargesOf h id call before → TellsChargesOf h2 id call after → Counts w q (charges_taken before after) w2
-turned_to h h2 id q call answer before after w w2 st st2 turned present told told2 =
-    turn_counts w w2 id q call answer before after turned (λ t live. present w st t live) (told w st) (told2 w2 st2)
-
-pub on_turned : (h h2 : HostState) (id : InstId) (q call : ℕ) (answer : TurnEnd) (before after : Option ℕ) → 1 ≤ q → q ≤ quantum → MayGoOn h id → IsReadyFor h id
-    → ((w : World) → IsHost h w → (w2 : World) × IsTurn w id q answer w2 × IsHost h2 w2)
-    → IsPresentCall h id call → TellsChargesOf h id call before → TellsChargesOf h2 id call after → RunsPart h (charges_taken before after) 1 h2
-on_turned h h2 id q call answer before after some within goes ready turns present told told2 w st reached =
-    let x = turns w st in
-    let c = turned_to h h2 id q call answer before after w x.0 st x.2 x.1 present told told2 in
-    let r : RunsByEvents quantum w (charges_taken before after) x.0 = record {
+pub on_turned : (h h2 : HostState) (id : InstId) (q n : ℕ) (answer : TurnEnd) → 1 ≤ q → q ≤ quantum → MayGoOn h id → IsReadyFor h id
+    → ((w : World) → IsHost h w → (w2 : World) × IsTurn w id q answer w2 × HasSpent w id n w2 × IsHost h2 w2) → RunsPart h n 1 h2
+on_turned h h2 id q n answer some within goes ready turns w st reached =
+    let (w2, turned, spent, st2) = turns w st in
+    let taken = turn_taken w w2 id q n answer turned spent in
+    let r : RunsByEvents quantum w n w2 = record {
       events = turn id q ∷ [];
-      happen = (x.0, (answer, x.1), refl);
-      gets_on = (x.0, (answer, x.1), turned_gets_on h id q some goes ready w x.0 answer st reached x.1, refl);
+      happen = (w2, (answer, turned), refl);
+      gets_on = (w2, (answer, turned), turned_gets_on h id q some goes ready w w2 answer st reached turned, refl);
       own = ((some, within), tt);
-      counted = c.taken.charges;
-      modules = c.taken.modules;
-      places = c.taken.places;
+      counted = taken.charges;
+      modules = taken.modules;
+      places = taken.places;
     } in
-    (x.0, r, omega arith, x.2)
+    (w2, r, omega arith, st2)
 
 -- as many instances are there
-pub live_turned : (h h2 : HostState) (id : InstId) (q call : ℕ) (answer : TurnEnd) (before after : Option ℕ) → (w : World) × IsHost h w
-    → ((w : World) → IsHost h w → (w2 : World) × IsTurn w id q answer w2 × IsHost h2 w2)
-    → IsPresentCall h id call → TellsChargesOf h id call before → TellsChargesOf h2 id call after → h2.live ≡ h.live
-live_turned h h2 id q call answer before after some turns present told told2 =
-    let x = turns some.0 some.1 in
-    let c = turned_to h h2 id q call answer before after some.0 x.0 some.1 x.2 x.1 present told told2 in
-    x.2.live ∙ live_by_places x.0.tenants some.0.tenants c.taken.places ∙ sym some.1.live
+pub live_turned : (h h2 : HostState) (id : InstId) (q n : ℕ) (answer : TurnEnd) → (w : World) × IsHost h w
+    → ((w : World) → IsHost h w → (w2 : World) × IsTurn w id q answer w2 × HasSpent w id n w2 × IsHost h2 w2) → h2.live ≡ h.live
+live_turned h h2 id q n answer some turns =
+    let (w2, turned, spent, st2) = turns some.0 some.1 in
+    let taken = turn_taken some.0 w2 id q n answer turned spent in
+    st2.live ∙ live_by_places w2.tenants some.0.tenants taken.places ∙ sym some.1.live
 
 pub live_moved : (h h2 : HostState) → (w : World) × IsHost h w → MovesOnly h h2 → h2.live ≡ h.live
 live_moved h h2 some moves =

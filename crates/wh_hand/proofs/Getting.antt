@@ -3,23 +3,15 @@ use Rattle.std.proofs.Common.{◌≡◌, ◌≢◌, ◌≤◌, ◌<◌, ℕ, zer
 use Rattle.std.proofs.lemmas.List.{get_or-set_same}
 use Rattle.wh_model.specs.declared.memory.Need.{Need}
 use Rattle.wh_model.specs.Execution.Store.{Instance}
-use Rattle.wh_model.specs.Execution.Configuration.{config}
-use Rattle.wh_model.specs.Execution.Reduction.{stays}
-use Rattle.wh_model.specs.Execution.Replay.{Call, dead}
+use Rattle.wh_model.specs.Execution.{config, stays, Call, dead}
 use Rattle.wh_model.proofs.Asked.{one_need}
-use Rattle.wh_host_model.specs.declared.plain.InstId.{InstId}
-use Rattle.wh_host_model.specs.declared.plain.SwapError.{SwapError}
+use Rattle.wh_space_model.specs.declared.plain.InstId.{InstId}
+use Rattle.wh_space_model.specs.declared.plain.SwapError.{SwapError}
 use Rattle.wh_host_model.specs.declared.plain.TurnEnd.{TurnEnd}
-use Rattle.wh_host_model.specs.Space.Parts.{Space, wants}
-use Rattle.wh_host_model.specs.Space.Ready.{Ready}
-use Rattle.wh_host_model.specs.Host.Worlds.{Rest, Doing, Suspension, for_frame, for_device, Tenant, World, store_in}
-use Rattle.wh_host_model.specs.Owners.{Entry}
-use Rattle.wh_host_model.specs.Host.Turns.{Upshot, to_go_on, Proceeds, returns, traps, writes_all, uses_fuel, waits, waits_to_write, has_had_its_turn}
-use Rattle.wh_host_model.specs.Host.CallAnswers.{at_frame, ended_by, gone_further, Closes, faces_next, is_dead, Turn, is_idle, has_ended, has_no_fuel, has_no_frame, can_go_on, keeps_its_fault}
-use Rattle.wh_host_model.specs.Host.Events.{turn}
-use Rattle.wh_host_model.specs.Host.Happens.{AwaitsFrame, IsLive, IsTurn, of_none, of_one}
-use Rattle.wh_host_model.specs.Host.Suspensions.{CanGoOn, FirstWaitsDuly, NextAsks, a_piece, a_step, WaitsRightly}
-use Rattle.wh_host_model.specs.Host.TakenSteps.{IsStepReady, charge_is_ready, piece_is_ready}
+use Rattle.wh_space_model.specs.{Space, wants}
+use Rattle.wh_space_model.specs.Ready.{Ready}
+use Rattle.wh_host_model.specs.Host.{Rest, Doing, Suspension, for_frame, for_device, Tenant, World, store_in, Upshot, to_go_on, Proceeds, returns, traps, writes_all, uses_fuel, waits, waits_to_write, has_had_its_turn, at_frame, ended_by, gone_further, Closes, faces_next, is_dead, Turn, is_idle, has_ended, has_no_fuel, has_no_frame, can_go_on, keeps_its_fault, turn, AwaitsFrame, IsLive, IsTurn, of_none, of_one, CanGoOn, FirstWaitsDuly, NextAsks, a_piece, a_step, WaitsRightly, IsStepReady, charge_is_ready, piece_is_ready}
+use Rattle.wh_host_model.specs.{Entry}
 use Rattle.wh_host_model.proofs.Host.Holding.{suspensions_are_right}
 use Rattle.wh_host_model.proofs.Host.Stopping.{is_settled}
 use Rattle.wh_host_model.proofs.Host.Taken.{ready_steps_are_taken}

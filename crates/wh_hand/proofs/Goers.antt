@@ -5,15 +5,12 @@ use Rattle.std.specs.Bool.{MatchBool}
 use Rattle.std.proofs.lemmas.List.{get_or-set_other, get_or-set_same}
 use Rattle.std.specs.Prelude.{IfOk, Result, Ok, Err}
 use Rattle.wh_model.specs.declared.memory.Need.{Need}
-use Rattle.wh_host_model.specs.declared.plain.InstId.{InstId}
-use Rattle.wh_host_model.specs.declared.plain.SwapError.{SwapError}
-use Rattle.wh_host_model.specs.Space.Laws.{IsProvided}
-use Rattle.wh_host_model.specs.Space.Parts.{Space, wants}
-use Rattle.wh_host_model.specs.Space.Ready.{Ready}
-use Rattle.wh_host_model.specs.Host.Worlds.{Suspension, for_frame, Tenant, World, tenant, with_tenant}
-use Rattle.wh_host_model.specs.Owners.{Entry}
-use Rattle.wh_host_model.specs.Host.Admission.{live_count}
-use Rattle.wh_host_model.specs.Host.Happens.{IsLive}
+use Rattle.wh_space_model.specs.declared.plain.InstId.{InstId}
+use Rattle.wh_space_model.specs.declared.plain.SwapError.{SwapError}
+use Rattle.wh_space_model.specs.{IsProvided, Space, wants}
+use Rattle.wh_space_model.specs.Ready.{Ready}
+use Rattle.wh_host_model.specs.Host.{Suspension, for_frame, Tenant, World, tenant, with_tenant, live_count, IsLive}
+use Rattle.wh_host_model.specs.{Entry}
 use Rattle.wh_swap.specs.DeviceCalls.{call_faults}
 use Rattle.wh_journal.specs.Calls.{JournalCallState}
 use Rattle.wh_instance.specs.Tenancy.{RepresentsEach, suspension_of}
@@ -24,7 +21,7 @@ use Rattle.wh_host.proofs.Hosts.{one_value, same_or_not, some_within}
 use Rattle.wh_hand.specs.Lining.{MayGoOn, IsReadyFor, IsToSettle, KeepsGoing, KeepsOthersGoing, Lists, StandsIn}
 use Rattle.wh_hand.proofs.Standing.{IsWithout, LiesAt, few_stand, id_is, once_more, same_id, stands_before, stands_either, stands_last}
 
--- ---- the same can go on in whatever host of the definitions it stands for
+-- ---- the same can go on in whatever host of the definitions it represents
 
 none_each : (cs : List JournalCallState) (es fs : List Entry) → RepresentsEach cs es → RepresentsEach cs fs → fs ≡ [] → es ≡ []
 none_each [] [] fs a b none = refl
@@ -123,7 +120,7 @@ others_come w id t s next placed other ne u =
     (λ (there : IsLive w other u). (same ∙ there.0, there.1), λ there. (sym same ∙ there.0, there.1))))
     (same_or_not other.number (length w.tenants))
 
--- ---- and what the code stands for
+-- ---- and what the code represents
 
 abbrev pub Leads : HostState → (World → World → Type 0) → HostState → Type 0
 Leads h R h2 = (w : World) → IsHost h w → (w2 : World) × R w w2 × IsHost h2 w2
@@ -258,12 +255,11 @@ room_to_settle h line id some s tells =
     (λ (same : id ≡ x). lies x (subst (MayGoOn h) same (goes_is h id some tells)))
     (λ (there : StandsIn line x). lies x (s.goes x (λ (same : x ≡ id). s.here (subst (StandsIn line) same there)) there)) is) in
     let few : length (id ∷ line) ≤ live_count w.tenants = few_stand w.tenants (id ∷ line) (s.here, s.once) all in
-    let live = some.1.live in
-    omega (arith, few, live)
+    omega (arith, few, some.1.live)
 
 -- ---- a step that is made ready
 
--- what an instance stands for is the same in whatever host of the definitions it stands for
+-- what an instance represents is the same in whatever host of the definitions it represents
 record Stands (w2 : World) (id : InstId) (o : Option Suspension) : Type 0 where
   u : Tenant
   live : IsLive w2 id u

@@ -2,7 +2,6 @@ mod Together
 mod Sums
 mod Events
 mod Getting
-mod Turned
 mod Standing
 mod Goers
 mod Asked

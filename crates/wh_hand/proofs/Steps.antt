@@ -3,14 +3,12 @@ use Rattle.std.proofs.Common.{◌≡◌, ◌≤◌, ℕ, ◌+◌, ◌-◌, inl, 
 use Rattle.std.specs.Bool.{MatchBool}
 use Rattle.std.specs.Prelude.{IfNone, IfSome}
 use Rattle.std.proofs.lemmas.List.Sums.{sum_by-append}
-use Rattle.wh_host_model.specs.declared.Tax.{Tax}
-use Rattle.wh_host_model.specs.declared.plain.InstId.{InstId}
-use Rattle.wh_host_model.specs.declared.plain.SwapError.{SwapError}
+use Rattle.wh_space_model.specs.declared.Tax.{Tax}
+use Rattle.wh_space_model.specs.declared.plain.InstId.{InstId}
+use Rattle.wh_space_model.specs.declared.plain.SwapError.{SwapError}
 use Rattle.wh_host_model.specs.declared.plain.TurnEnd.{TurnEnd}
-use Rattle.wh_host_model.specs.Host.Worlds.{Tenant, World}
-use Rattle.wh_host_model.specs.Host.Admission.{live_count}
-use Rattle.wh_host_model.specs.Host.Events.{Event, epoch}
-use Rattle.wh_host_model.specs.Host.Happens.{AwaitsFrame, Happens, IsTurn, OnlyMoves, of_none, of_one}
+use Rattle.wh_host_model.specs.Host.{Tenant, World, live_count, Event, epoch, AwaitsFrame, IsTurn, OnlyMoves, of_none, of_one}
+use Rattle.wh_host_model.specs.Host.Happens.{Happens}
 use Rattle.wh_swap.specs.DeviceCalls.{call_faults}
 use Rattle.wh_reclaim.specs.Together.{AreTogether}
 use Rattle.wh_reclaim.proofs.Together.{new_together}
@@ -131,8 +129,7 @@ leaves_rest a b given left k f none w st reached = let x = f w st reached in (x.
 pub leaves_many : (a b : HostState) (given left k : ℕ) → most_turns ≤ k → RunsPart a (given - left) k b → LeavesOf a given left b
 leaves_many a b given left k many f w st reached =
     let x = f w st reached in
-    let turns = x.2 in
-    (x.0, x.1, inr (inr (omega (arith, many, turns))), x.3)
+    (x.0, x.1, inr (inr (omega (arith, many, x.2))), x.3)
 
 -- ---- a whole run
 
@@ -143,13 +140,12 @@ run_is a b c given left goes few f g tells w st reached =
     let y = g x.0 x.3 (reached_by w x.0 x.1.events reached x.1.happen) in
     let none : 0 + (given - left) ≡ given - left = omega arith in
     let both : RunsByEvents quantum w (0 + (given - left)) y.0 = runs_both w x.0 y.0 0 (given - left) x.1 y.1 in
-    let counts = both.counted in
     let runs : RunsByEvents quantum w (given - left) y.0 = record {
       events = x.1.events ++ y.1.events;
       happen = both.happen;
       gets_on = both.gets_on;
       own = both.own;
-      counted = omega (arith, counts, none);
+      counted = omega (arith, both.counted, none);
       modules = both.modules;
       places = both.places;
     } in

@@ -1,10 +1,8 @@
 -- What memory and device agree on, where neither tickets nor slots have changed.
 use Rattle.std.proofs.Common.{◌≡◌, ◌+◌, ◌∙◌, arith, ◌∷◌, ℕ, List, [], Option, Some, None, map, refl, sym, ap}
-use Rattle.wh_host_model.specs.declared.states.Slot.{Slot}
-use Rattle.wh_host_model.specs.declared.states.Slot.TheVariants.{Evicting, EvictVoid, Fetching, FetchVoid, Taken, Vacant}
-use Rattle.wh_host_model.specs.Frames.{tally}
-use Rattle.wh_host_model.specs.Space.Errands.{Errand, Pass, errand_for, is_ticket}
-use Rattle.wh_host_model.specs.Space.Parts.{Space}
+use Rattle.wh_space_model.specs.declared.states.Slot.{Slot}
+use Rattle.wh_space_model.specs.declared.states.Slot.TheVariants.{Evicting, EvictVoid, Fetching, FetchVoid, Taken, Vacant}
+use Rattle.wh_space_model.specs.{tally, Errand, Pass, errand_for, is_ticket, Space}
 use Rattle.wh_reclaim.specs.Together.{AreTogether}
 use Rattle.wh_reclaim.specs.Whole.{IsAsWhole}
 use Rattle.wh_host.specs.Backing.{KeepsBacking}

@@ -1,8 +1,8 @@
 -- What contracts see of a hand, and what always holds of it.
 use Rattle.std.specs.Prelude.{◌≡◌, ◌≤◌, ℕ, List}
-use Rattle.wh_host_model.specs.declared.plain.InstId.{InstId}
+use Rattle.wh_space_model.specs.declared.plain.InstId.{InstId}
 use Rattle.wh_host_model.specs.Owners.{most_instances}
-use Rattle.wh_host_model.specs.Space.Errands.{tickets}
+use Rattle.wh_space_model.specs.Errands.{tickets}
 use Rattle.wh_reclaim.specs.Together.{AreTogether}
 use Rattle.wh_host.specs.Hosting.{HostState}
 use Rattle.wh_host.specs.Showing.{RepresentsReached}

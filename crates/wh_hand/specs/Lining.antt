@@ -1,16 +1,16 @@
 -- The line of those that can go on.
 use Rattle.std.specs.Prelude.{◌≡◌, ◌≢◌, ◌==◌, ◌||◌, ◌⊎◌, Bool, not, List, [], ◌∷◌, Some}
 use Rattle.std.specs.Bool.{MatchBool}
-use Rattle.wh_host_model.specs.declared.plain.InstId.{InstId}
+use Rattle.wh_space_model.specs.declared.plain.InstId.{InstId}
 use Rattle.wh_model.specs.declared.memory.Need.{Need}
-use Rattle.wh_host_model.specs.Space.Parts.{wants}
-use Rattle.wh_host_model.specs.Space.Ready.{Ready}
+use Rattle.wh_space_model.specs.Parts.{wants}
+use Rattle.wh_space_model.specs.Ready.{Ready}
 use Rattle.wh_host_model.specs.Host.Happens.{AwaitsFrame, IsLive}
 use Rattle.wh_host_model.specs.Host.Worlds.{Tenant, World}
 use Rattle.wh_host.specs.Hosting.{HostState, IsHost}
 use Rattle.wh_host.specs.Paging.{IsGoing}
 
--- in a host for which it stands a turn or a provision can bring this instance on; so in each
+-- in whatever host it represents a turn or a provision can make this instance progress; so in each
 abbrev pub MayGoOn : HostState → InstId → Type 0
 MayGoOn h id = (w : World) × IsHost h w × IsGoing w id
 
@@ -19,18 +19,18 @@ abbrev pub StandsIn : List InstId → InstId → Type 0
 StandsIn [] id = ⊥
 StandsIn (first ∷ ids) id = (first ≡ id) ⊎ StandsIn ids id
 
--- none stands there twice
+-- none is there twice
 abbrev pub StandOnce : List InstId → Type 0
 StandOnce [] = Unit {0}
 StandOnce (id ∷ ids) = (¬ (StandsIn ids id)) × StandOnce ids
 
--- just those stand there that can go on, each once
+-- just those are there that can make progress, each once
 pub record Lists (h : HostState) (line : List InstId) : Type 0 where
   pub goes : (id : InstId) → StandsIn line id → MayGoOn h id
   pub all : (id : InstId) → MayGoOn h id → StandsIn line id
   pub once : StandOnce line
 
--- it is so of all but one, which stands there or not
+-- it is so of all but one, which is there or not
 pub record IsToSettle (h : HostState) (line : List InstId) (id : InstId) (stands : Bool) : Type 0 where
   pub goes : (other : InstId) → other ≢ id → StandsIn line other → MayGoOn h other
   pub all : (other : InstId) → other ≢ id → MayGoOn h other → StandsIn line other

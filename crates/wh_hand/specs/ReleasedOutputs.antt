@@ -1,6 +1,6 @@
 -- What a hand answers where an instance is to go.
 use Rattle.std.specs.Prelude.{◌≡◌, ℕ, List, Option, Some, None, Result, Ok, Err}
-use Rattle.wh_host_model.specs.declared.plain.InstId.{InstId}
+use Rattle.wh_space_model.specs.declared.plain.InstId.{InstId}
 use Rattle.wh_host_model.specs.Host.Worlds.{World}
 use Rattle.wh_host_model.specs.Host.Happens.{IsRelease}
 use Rattle.wh_host.specs.declared.error.HostError.{HostError}
@@ -8,7 +8,7 @@ use Rattle.wh_host.specs.declared.error.HostError.TheVariants.{NoInstance, Invok
 use Rattle.wh_host.specs.Hosting.{IsHost}
 use Rattle.wh_hand.specs.HandStates.{HandState}
 
--- what lies in the hand then is this output, or there is no such instance
+-- the output that is kept then is this one, or there is no such instance
 abbrev pub IsOutputHere : Result Unit HostError → List ℕ → Option (List ℕ) → Type 0
 IsOutputHere (Ok done) output answer = answer ≡ Some output
 IsOutputHere (Err NoInstance) output answer = answer ≡ None

@@ -2,7 +2,7 @@
 use Rattle.std.specs.Prelude.{◌≡◌, ◌≢◌, ◌+◌, ◌-◌, ◌^◌, ◌<◌, ◌≤◌, ◌⊎◌, ℕ, true, List, [], ◌∷◌, length, map, sum_by, Option, Some, None}
 use Rattle.std.specs.Bool.{MatchBool}
 use Rattle.std.specs.List.{AllByRecursion}
-use Rattle.wh_host_model.specs.declared.plain.InstId.{InstId}
+use Rattle.wh_space_model.specs.declared.plain.InstId.{InstId}
 use Rattle.wh_host_model.specs.Host.Worlds.{Tenant, World}
 use Rattle.wh_host_model.specs.Host.Events.{Event, turn, offer, provide, epoch}
 use Rattle.wh_host_model.specs.Host.Happens.{AllHappen, Happens, IsLive}
@@ -31,8 +31,8 @@ turn_count other = 0
 abbrev pub turns_among : List Event → ℕ
 turns_among events = sum_by turn_count events
 
--- In a turn the present call of an instance has got on: it has ended; or it has written more pieces or taken more charges;
--- or it waits for fuel or for a frame, where it stood for nothing.
+-- In a turn the present call of an instance has made progress: it has ended; or it has written more pieces or taken more charges;
+-- or it waits for fuel or for a frame, where it wasn't blocked.
 pub data GetsOn (t t2 : Tenant) : Type 0 where
   ends : length t.ended < length t2.ended → GetsOn t t2
   goes_further : {e : Entry} {es : List Entry} → t.open_calls ≡ e ∷ es → HasGoneOn t t2 e → GetsOn t t2
@@ -53,9 +53,9 @@ abbrev pub place_of_tenant : Option Tenant → Option ℕ
 place_of_tenant None = None
 place_of_tenant (Some t) = Some t.place
 
--- Events lead from one host to the other that are no requests, by turns of a quantum at most, in each of which its call gets
--- on. All calls of live instances together took so many charges in them. The modules are the same, and each number has the
--- instance at the place where it was, or none as before.
+-- Events lead from one host to the other that are no requests, by turns of a quantum at most, in each of which its call makes
+-- progress. All calls of live instances together took `charges` charges in them. The modules are the same, and each number has
+-- the instance at the place where it was, or none as before.
 pub record RunsByEvents (quantum : ℕ) (w : World) (charges : ℕ) (w2 : World) : Type 0 where
   pub events : List Event
   pub happen : AllHappen w events w2
@@ -65,17 +65,17 @@ pub record RunsByEvents (quantum : ℕ) (w : World) (charges : ℕ) (w2 : World)
   pub modules : w2.modules ≡ w.modules
   pub places : map place_of_tenant w2.tenants ≡ map place_of_tenant w.tenants
 
--- a turn or a provision can bring some instance on
+-- a turn or a provision can make some instance progress
 abbrev pub AnyGoesOn : World → Type 0
 AnyGoesOn w = (id : InstId) × IsGoing w id
 
--- so many turns a run has at most
+-- how many turns a run has at most
 abbrev pub most_turns : ℕ
 most_turns = 2 ^ 64 - 1
 
--- A run for so many charges at most came to this: it leads there by events that are no requests, by turns of a quantum at
--- most, in which just as many charges were taken as it says. It goes on exactly where some instance can; and then all charges
--- were taken, or calls got on in 2^64 - 1 turns.
+-- The outcome of a run for `given` charges at most: it leads there by events that are no requests, by turns of a quantum at most,
+-- in which just as many charges were taken as it says. It goes on exactly where some instance can; and then all charges were
+-- taken, or calls made progress in 2^64 - 1 turns.
 pub record IsWholeRun (quantum : ℕ) (w : World) (given : ℕ) (ran : Ran) (w2 : World) : Type 0 where
   pub runs : RunsByEvents quantum w ran.charges w2
   pub reached : IsReached w2

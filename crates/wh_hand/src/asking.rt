@@ -2,7 +2,7 @@
 
 ghost use Rattle.std.specs.Prelude.{◌≡◌, OnErr, OnOk};
 ghost use Rattle.wh_host_model.specs.Host.Happens.{IsCancel, IsRefuel, IsRetry};
-ghost use Rattle.wh_host_model.specs.Space.Stores.{ended};
+ghost use Rattle.wh_space_model.specs.Stores.{ended};
 ghost use Rattle.wh_host.specs.CallRequests.{AnswersCall, AnswersInvoke};
 ghost use Rattle.wh_host.specs.Backing.{KeepsBacking};
 
@@ -10,17 +10,18 @@ use crate::hand::Hand;
 use crate::line::settle;
 use std::alloc::Global;
 use wh_host::HostError;
-use wh_host_model::InstId;
+use wh_space_model::InstId;
 
 impl Hand {
-    /// Takes a call of the function that an instance's module exports by this name, with these arguments and so much fuel: its
-    /// place in the journal of the instance, where the start is 0. It runs by `run`, behind the calls that are open.
+    /// Queues a call of the function that an instance's module exports by this name, with these arguments and `fuel`
+    /// charges; returns its place in the journal of the instance, where the start is 0. `run` runs it after the open
+    /// calls.
     ///
     /// An argument is a number, signed or unsigned, in the bits of its type.
     ///
     /// # Errors
-    /// Those of `Host::invoke`: `NoInstance`, or the first fault of the call, in the order of their numbers. The host is as it
-    /// was then.
+    /// Those of `Host::invoke`: `NoInstance`, or the first fault of the call, in the order of their numbers. The host
+    /// is as it was then.
     pub fn invoke(
         &mut self,
         alloc: Global,
@@ -44,11 +45,11 @@ impl Hand {
         Ok(at)
     }
 
-    /// Gives the present call of an instance so much more fuel; what passes 2^64 - 1 is lost. A call that waits for fuel can
-    /// then go on, if it was given any.
+    /// Adds `fuel` charges to the present call of an instance, up to 2^64 - 1 in all. A call that waits for fuel can
+    /// then make progress, if it was given any.
     ///
     /// # Errors
-    /// `NoInstance`; `NoCall` where no call is open. Nothing is done then.
+    /// `NoInstance`; `NoCall` if no call is open. Nothing is done then.
     pub fn refuel(&mut self, id: InstId, fuel: u64) -> Result<(), HostError>
         ensures asks { AnswersCall self.old.host (λ w answer w2.
             IsRefuel w id fuel answer w2) result self.new.host }
@@ -66,11 +67,11 @@ impl Hand {
         Ok(())
     }
 
-    /// Lets the present call of an instance be tried again, if it waits for a device fault: it waits for a frame then. A
-    /// device in memory has none.
+    /// Retries the present call of an instance, if it is blocked on a device fault: it waits for a frame then. A device
+    /// in memory has no faults.
     ///
     /// # Errors
-    /// `NoInstance`; `NoCall` where it doesn't stand for one. Nothing is done then.
+    /// `NoInstance`; `NoCall` if it isn't blocked on one. Nothing is done then.
     pub fn retry(&mut self, id: InstId) -> Result<(), HostError>
         ensures asks { AnswersCall self.old.host (λ w answer w2. IsRetry w id answer w2) result
             self.new.host }
@@ -88,8 +89,8 @@ impl Hand {
         Ok(())
     }
 
-    /// Ends the present call of an instance where it is; what it has written stays. A start that is cancelled leaves the
-    /// instance dead, and the calls behind it end as dead.
+    /// Ends the present call of an instance where it is; what it has written stays. A start that is cancelled leaves
+    /// the instance dead, and the calls after it end as dead.
     ///
     /// # Errors
     /// `NoInstance`; `NoCall` where no call is open. Nothing is done then.

@@ -3,7 +3,7 @@
 ghost use Rattle.std.specs.Prelude.{◌≡◌, ℕ, IfOk, OnErr};
 ghost use Rattle.wh_params.specs.View.{view_params};
 ghost use Rattle.wh_host_model.specs.Host.Worlds.{promised};
-ghost use Rattle.wh_host_model.specs.Space.Places.{Enters};
+ghost use Rattle.wh_space_model.specs.Places.{Enters};
 ghost use Rattle.wh_host.specs.Admitting.{AnswersAdmit};
 ghost use Rattle.wh_host.specs.Backing.{KeepsBacking};
 ghost use Rattle.wh_host.specs.Loading.{AnswersLoad};
@@ -12,14 +12,15 @@ use crate::hand::Hand;
 use crate::line::settle;
 use std::alloc::Global;
 use wh_host::{AdmitError, ModuleError, ModuleId, Params};
-use wh_host_model::InstId;
+use wh_space_model::InstId;
 
 impl Hand {
-    /// Keeps the module that these bytes spell, and the bytes: its number, counted from 0.
+    /// Keeps the module that these bytes spell, and the bytes; returns its number, from 0.
     ///
     /// # Errors
-    /// Those of `Host::load`: `Bytes` with the fault of the bytes, `ModulesFull` where 1024 modules are kept, `Memory` where
-    /// room is refused; the first of them that holds. The host is as it was then.
+    /// Those of `Host::load`: `Bytes` with the fault of the bytes, or of an allocation that failed while they were
+    /// read; `ModulesFull` if 1024 modules are kept; `Memory` if there is no room to keep this one; the first of them
+    /// that holds. The host is as it was then.
     pub fn load(&mut self, alloc: Global, bytes: &[u8]) -> Result<ModuleId, ModuleError>
         ensures loads { AnswersLoad self.old.host bytes.now result self.new.host }
         ensures err { OnErr result (self.new ≡ self.old) }

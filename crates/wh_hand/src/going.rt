@@ -11,32 +11,19 @@ ghost use Rattle.wh_host_model.specs.Host.Worlds.{World};
 ghost use Rattle.wh_hand.specs.Lining.{MayGoOn, IsReadyFor, KeepsGoing, KeepsOthersGoing, Lists};
 ghost use Rattle.wh_hand.specs.Running.{AnyGoesOn};
 ghost use Rattle.wh_hand.specs.Moved.{IsMoved};
-ghost use Rattle.wh_hand.specs.RunParts.{RunsPart, charges_taken, quantum};
+ghost use Rattle.wh_hand.specs.RunParts.{RunsPart, quantum};
 
 use crate::line::settle;
-use crate::pace::Pace;
+use crate::pace::OfferPace;
 use std::collections::VecDeque;
 use wh_host::Host;
-use wh_host_model::InstId;
 use wh_kernels::{FnvHash, PageHash};
 use wh_reclaim::Buf;
+use wh_space_model::InstId;
 use wh_swap::MemSwap;
 
 // How many charges a turn has at most.
 const QUANTUM: u64 = 1000;
-
-// How many charges lie between those of a call before and after.
-fn charges_of_turn(before: Option<u64>, after: Option<u64>) -> u64
-    ensures { result ≡ charges_taken before after }
-{
-    let Some(before) = before else {
-        return 0;
-    };
-    let Some(after) = after else {
-        return 0;
-    };
-    after.saturating_sub(before)
-}
 
 // Gives an instance that can go on a turn of q charges: how many were taken.
 fn counted_turn(host: &mut Host, id: InstId, q: u64) -> u64
@@ -51,11 +38,7 @@ fn counted_turn(host: &mut Host, id: InstId, q: u64) -> u64
     ensures backing { KeepsBacking host.old.space host.new.space }
 {
     host.invariant();
-    let call = host.present_call(id);
-    let before = host.charges(id, call);
-    let _ = host.turn(id, q);
-    let after = host.charges(id, call);
-    charges_of_turn(before, after)
+    host.turn(id, q).1
 }
 
 // Makes the next step of an instance ready, where its present call waits for a frame.
@@ -72,7 +55,7 @@ fn make_ready(host: &mut Host, device: &mut MemSwap, page: &mut Buf, id: InstId)
     let _ = host.provide(device, id, page);
 }
 
-// The page of an instance with so many pages of 65536 bytes that goes with this number, if it has one.
+// The page to offer by this number of an instance of `size` pages of 65536 bytes, if it has one.
 fn page_of(number: u64, size: u32) -> Option<u32> {
     let pages = u64::from(size) * 16;
     if pages == 0 || pages > u64::from(u32::MAX) {
@@ -81,7 +64,8 @@ fn page_of(number: u64, size: u32) -> Option<u32> {
     Some((number % pages) as u32)
 }
 
-// Offers a page of this instance for sharing, that which goes with this number, where it is alone on a frame.
+// Offers for sharing the page of this instance that goes with this number, if it has a frame of its own, or shares one that
+// has no entry.
 fn offer_one(host: &mut Host, id: InstId, number: u64)
     ensures { IsMoved host.old host.new }
 {
@@ -96,8 +80,9 @@ fn offer_one(host: &mut Host, id: InstId, number: u64)
     let _ = host.offer(&FnvHash, id, page, hash);
 }
 
-// A turn took so many charges. Offers the next page of one of those that can go on, where it is time for that.
-fn offer_next(host: &mut Host, line: &VecDeque<InstId>, pace: &mut Pace, taken: u64)
+// Counts a turn that took `taken` charges. Offers the next page of one of those that can make progress, if it is time
+// for that.
+fn offer_next(host: &mut Host, line: &VecDeque<InstId>, pace: &mut OfferPace, taken: u64)
     ensures { IsMoved host.old host.new }
 {
     host.invariant();
@@ -113,15 +98,15 @@ fn offer_next(host: &mut Host, line: &VecDeque<InstId>, pace: &mut Pace, taken: 
     offer_one(host, *id, number);
 }
 
-/// Gives whoever is first in the line a turn, of so many charges at most: how many were taken. Its next step is made ready
-/// before, where it waits for a frame; it goes to the end of the line, if it can go on; and for each 32 turns a page is offered.
-/// `None`, and nothing is done, where nobody can go on.
+/// Runs a turn of at most `most` charges of the instance that is first in the line; returns how many were taken. Before
+/// that makes its next step ready, if it waits for a frame; it goes to the end of the line, if it can make progress;
+/// and for each 32 turns a page is offered. Returns `None`, and does nothing, if no instance can make progress.
 pub fn advance(
     host: &mut Host,
     device: &mut MemSwap,
     page: &mut Buf,
     line: &mut VecDeque<InstId>,
-    pace: &mut Pace,
+    pace: &mut OfferPace,
     most: u64,
 ) -> Option<u64>
     requires most { 1 ≤ most }
@@ -151,7 +136,7 @@ pub fn advance(
 }
 
 /// Begins a new epoch, where it is time for one.
-pub fn begin_epoch(host: &mut Host, pace: &mut Pace)
+pub fn begin_epoch(host: &mut Host, pace: &mut OfferPace)
     ensures { IsMoved host.old host.new }
 {
     host.invariant();

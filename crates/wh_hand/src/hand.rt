@@ -5,19 +5,19 @@ ghost use Rattle.wh_host.specs.Hosting.{IsNewHost};
 ghost use Rattle.wh_hand.specs.HandStates.{IsSoundByEvents};
 
 use crate::line::MOST_INSTANCES;
-use crate::pace::Pace;
+use crate::pace::OfferPace;
 use std::alloc::{AllocError, Global};
 use std::collections::VecDeque;
 use std::marker::Model;
 use wh_host::Host;
-use wh_host_model::{InstId, Tax};
 use wh_reclaim::Buf;
+use wh_space_model::{InstId, Tax};
 use wh_swap::MemSwap;
 
-/// A host in one hand, with all that it needs: a swap device in memory, room for a page, and who can go on. Contracts see the
-/// host, and the output of the instance that was released last.
+/// A single-threaded host, with all that it needs: a swap device in memory, room for a page, and the queue of instances
+/// that can make progress. Contracts see the host, and the output of the instance that was released last.
 ///
-/// Of each it is known that events alone lead to its host, since its device is in memory and reads right.
+/// Of each it is known that its host was reached by events alone, since its device is in memory and reads right.
 pub struct Hand {
     pub(crate) host: Host,
     pub(crate) device: MemSwap,
@@ -25,7 +25,7 @@ pub struct Hand {
     pub(crate) page: Buf,
     // Who can go on, each once, in the order of their turns. There is room for all instances of a host.
     pub(crate) line: VecDeque<InstId>,
-    pub(crate) pace: Pace,
+    pub(crate) pace: OfferPace,
     // What the instance had put out that was released last.
     pub(crate) output: Vec<u8>,
 }
@@ -61,11 +61,11 @@ impl Model for Hand {
 }
 
 impl Hand {
-    /// A host with so many frames of 4096 bytes and so many slots in memory, without modules and instances. Room for all frames
-    /// is reserved now.
+    /// Creates a host with `frames` frames of 4096 bytes and `slots` swap slots in memory, without modules and
+    /// instances. Reserves the room for all frames.
     ///
     /// # Errors
-    /// Where room is refused.
+    /// `AllocError` if an allocation fails.
     pub fn new(alloc: Global, frames: u32, slots: u32, tax: Tax) -> Result<Hand, AllocError>
         ensures host { IfOk result (λ hand. IsNewHost hand.host frames slots tax) }
         ensures output { IfOk result (λ hand. hand.output ≡ []) }
@@ -83,13 +83,13 @@ impl Hand {
             device,
             page,
             line,
-            pace: Pace::new(),
+            pace: OfferPace::new(),
             output: Vec::new(alloc),
         })
     }
 
-    /// What always holds: events alone lead to the host, and no page of it is on its way to swap or back. So the laws of all
-    /// runs hold of each call of each instance.
+    /// States what always holds: the host was reached by events alone, and no page of it is on its way to swap or back.
+    /// So the laws of all runs hold of each call of each instance. Does nothing when run.
     #[inline(always)]
     pub fn invariant(&self)
         ensures { IsSoundByEvents self.now.host }
@@ -97,7 +97,7 @@ impl Hand {
         let _ = &self.host;
     }
 
-    /// The output of the instance that was released last; nothing before the first release.
+    /// Returns the output of the instance that was released last; nothing before the first release.
     pub fn output(&self) -> &[u8]
         ensures { result.now ≡ self.now.output }
     {

@@ -1,7 +1,8 @@
-//! A host in one hand: instances of many modules on one memory, with a swap device in memory, and no threads.
+//! A single-threaded host: instances of many modules on one memory, with a swap device in memory.
 //!
-//! `Hand` holds a host, its device, and who can go on. Nothing is required of whoever calls it: modules are loaded, instances
-//! admitted and calls asked for in whatever order, and `run` lets them go on for so many charges.
+//! `Hand` holds a host, its device, and the queue of instances that can make progress. Nothing is required of whoever
+//! calls it: modules are loaded, instances admitted and calls asked for in whatever order, and `run` runs them for a
+//! number of charges.
 #![tactic(auto)]
 
 mod asking;
@@ -21,4 +22,4 @@ pub use wh_host::{
     AdmitError, CallStatus, CallValue, HostError, InstanceReport, ModuleError, ModuleId, Params,
     Report, Suspension, Transcript,
 };
-pub use wh_host_model::{InstId, Tax};
+pub use wh_space_model::{InstId, Tax};

@@ -6,7 +6,7 @@ ghost use Rattle.wh_hand.specs.Lining.{IsToSettle, Lists, differs};
 
 use std::collections::VecDeque;
 use wh_host::Host;
-use wh_host_model::InstId;
+use wh_space_model::InstId;
 
 /// How many instances a host has at most, and so how many can go on.
 pub const MOST_INSTANCES: usize = 4096;
@@ -19,8 +19,8 @@ fn leave(line: &mut VecDeque<InstId>, id: InstId)
     line.retain(|other| other.place != id.place || other.number != id.number);
 }
 
-/// The line is right of all instances but this one, which stands there or not. It is put at its end where it can go on now, and
-/// taken out where it can't.
+/// Queues or dequeues `id`, as it can now make progress or not: appends it if it can and isn't in the queue, and
+/// removes it if it can't and is. The queue has to be right for all other instances.
 pub fn settle(line: &mut VecDeque<InstId>, host: &Host, id: InstId, stands: bool)
     requires settles { IsToSettle host.now line.old.items id stands }
     requires few { host.now.live ≤ 4096 }

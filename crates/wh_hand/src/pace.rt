@@ -11,7 +11,7 @@ const STRIDE: u64 = 0x9E37_79B9_7F4A_7C15;
 
 /// What was done since pages were offered, and since an epoch began.
 #[derive(Clone, Copy, Debug, PartialEq, Eq)]
-pub struct Pace {
+pub struct OfferPace {
     // Turns since the last offer.
     turns: u32,
     // Charges since the last epoch began.
@@ -20,17 +20,17 @@ pub struct Pace {
     offered: u64,
 }
 
-impl Pace {
-    /// That of a host that had no turn yet: its first one begins an epoch.
-    pub fn new() -> Pace {
-        Pace {
+impl OfferPace {
+    /// Creates the pace of a host that had no turn yet: its first turn begins an epoch.
+    pub fn new() -> OfferPace {
+        OfferPace {
             turns: 0,
             charges: CHARGES_OF_AN_EPOCH,
             offered: 0,
         }
     }
 
-    /// A turn took so many charges. Whether a page is to be offered for it and those before.
+    /// Counts a turn that took `charges` charges; tells whether a page is to be offered now, as one is every 32 turns.
     pub fn count(&mut self, charges: u64) -> bool {
         self.charges = self.charges.saturating_add(charges);
         self.turns = self.turns.wrapping_add(1);
@@ -41,7 +41,8 @@ impl Pace {
         true
     }
 
-    /// The next offer: which of so many instances it is, and a number, by which its page is chosen. `None` where there are none.
+    /// Returns the next offer: which of the instances it is, from 0 on, and a number by which its page is chosen.
+    /// Returns `None` if there are no instances.
     pub fn next_offer(&mut self, instances: usize) -> Option<(usize, u64)> {
         if instances == 0 {
             return None;
@@ -52,7 +53,7 @@ impl Pace {
         Some(((mixed % instances as u64) as usize, number))
     }
 
-    /// Whether an epoch is to begin. It begins then.
+    /// Begins an epoch if 1000000 charges were counted in this one; tells whether it did.
     pub fn begins_epoch(&mut self) -> bool {
         if self.charges < CHARGES_OF_AN_EPOCH {
             return false;

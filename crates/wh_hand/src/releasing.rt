@@ -1,7 +1,7 @@
 //! How instances go.
 
 ghost use Rattle.std.specs.Prelude.{◌≡◌, OnErr, OnOk};
-ghost use Rattle.wh_host_model.specs.Space.Places.{Exits};
+ghost use Rattle.wh_space_model.specs.Places.{Exits};
 ghost use Rattle.wh_host.specs.Backing.{KeepsBacking};
 ghost use Rattle.wh_hand.specs.ReleasedOutputs.{AnswersReleaseHere};
 
@@ -9,11 +9,11 @@ use crate::hand::Hand;
 use crate::line::settle;
 use std::alloc::Global;
 use wh_host::HostError;
-use wh_host_model::InstId;
+use wh_space_model::InstId;
 
 impl Hand {
-    /// Lets an instance go, whatever its calls are. Its output lies in the hand from then on until the next release. Its memory
-    /// is free, and its number is never used again; its place is.
+    /// Releases an instance, whatever its calls are. Keeps its output until the next release. Its memory is free, and
+    /// its number is never used again; its place is.
     ///
     /// # Errors
     /// `NoInstance`. Nothing is done then, and the output is the one before.

@@ -11,7 +11,7 @@ ghost use Rattle.wh_hand.specs.RunParts.{LeavesOf, RunsPart};
 use crate::going::{advance, begin_epoch};
 use crate::hand::Hand;
 
-/// What a run came to.
+/// The outcome of a run.
 #[derive(Clone, Copy, Debug, PartialEq, Eq)]
 pub struct Ran {
     /// How many charges all calls together have taken.
@@ -28,7 +28,7 @@ impl Hand {
         !self.line.is_empty()
     }
 
-    // Gives whoever is first in the line a turn, of so many charges at most.
+    // Runs a turn of at most `most` charges of the instance that is first in the line.
     fn turn(&mut self, most: u64) -> Option<u64>
         requires { 1 ≤ most }
         ensures none { IfNone result ((w : World) → IsHost self.old.host w → ¬ AnyGoesOn w) }
@@ -60,7 +60,7 @@ impl Hand {
         begin_epoch(&mut self.host, &mut self.pace);
     }
 
-    // Gives turns until no call can go on, or so many charges are taken: how many are left.
+    // Runs turns until no call can make progress, or `charges` charges are taken; returns how many are left.
     fn take(&mut self, charges: u64) -> u64
         ensures leaves { LeavesOf self.old.host charges result self.new.host }
         ensures few { result ≤ charges }
@@ -80,12 +80,13 @@ impl Hand {
         left
     }
 
-    /// Lets the calls of all instances go on, until none can or they have taken so many charges together. They take turns of
-    /// 1000 charges at most, each instance one after the other; a step that waits for a frame is made ready before its turn;
-    /// for each 32 turns a page is offered for sharing. A run that begins behind 1000000 charges since the last epoch begins a
-    /// new one.
+    /// Runs the calls of all instances, until none can make progress or they have taken `charges` charges together.
+    /// They take turns of 1000 charges at most, one instance after the other; a step that waits for a frame is made
+    /// ready before its turn; for each 32 turns a page is offered for sharing. A run that begins after 1000000 charges
+    /// since the last epoch begins a new one.
     ///
-    /// It takes no memory, and looks at no instance that can't go on, but for new epochs, which go over all pages.
+    /// Allocates nothing, and looks at no instance that can't make progress, but for new epochs, which go over all
+    /// pages.
     pub fn run(&mut self, charges: u64) -> Ran
         ensures runs { RunsAll 1000 self.old.host charges result self.new.host }
         ensures whole { IsAsWhole self.old.host.space self.new.host.space }

@@ -1,9 +1,9 @@
-//! Pages with equal bytes that come to lie on one frame, and the epochs in which pages are touched.
+//! Pages with equal bytes that come to share one frame, and the epochs in which pages are touched.
 
 ghost use Rattle.std.specs.Prelude.{◌≡◌, ◌+◌, List, ℕ, IfNone, IfSome, IsSome, length};
-ghost use Rattle.wh_host_model.specs.Hash.{fnv64};
-ghost use Rattle.wh_host_model.specs.Space.Scanning.{IsDistinct};
-ghost use Rattle.wh_host_model.specs.Space.Stores.{Epochs};
+ghost use Rattle.wh_space_model.specs.Hash.{fnv64};
+ghost use Rattle.wh_space_model.specs.Scanning.{IsDistinct};
+ghost use Rattle.wh_space_model.specs.Stores.{Epochs};
 ghost use Rattle.wh_scan.specs.Pass.{HasSoManyPages, MayPass, PassesOverAll, ScansAll};
 ghost use Rattle.wh_host.specs.Backing.{KeepsBacking};
 ghost use Rattle.wh_host.specs.Paging.{MovesOnly};

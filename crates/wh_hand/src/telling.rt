@@ -9,11 +9,11 @@ ghost use Rattle.wh_transcript.specs.Transcripts.{IsReplayable};
 use crate::hand::Hand;
 use std::alloc::Global;
 use wh_host::{CallStatus, HostError, Report, Transcript};
-use wh_host_model::InstId;
+use wh_space_model::InstId;
 
 impl Hand {
-    /// How far the call at this place of the instance's journal is, where the start is at 0, and how many charges it has taken;
-    /// `None` where there is no such instance, or no call at that place. It takes constant time and no memory.
+    /// Returns the status of the call at this place of the instance's journal, where the start is at 0, and the number
+    /// of charges that it has taken; `None` if there is no such instance or call. Takes O(1), and allocates nothing.
     pub fn status(&self, id: InstId, at: u32) -> Option<(CallStatus, u64)>
         ensures tells { TellsOf self.now.host id at (option_map (λ told. told.0) result) }
         ensures charges { TellsChargesOf self.now.host id at
@@ -28,11 +28,11 @@ impl Hand {
         Some((status, charges))
     }
 
-    /// The report of the host: how frames and slots are used and shared, and what each instance has of them, by number. It goes
-    /// over all frames and all pages.
+    /// Reports how frames and slots are used and shared, and what each instance has of them, by number. Goes over all
+    /// frames and all pages.
     ///
     /// # Errors
-    /// `Memory` where room for the instances is refused.
+    /// `HostError::Memory` if the allocation for the instances fails.
     pub fn report(&self, alloc: Global) -> Result<Report, HostError>
         ensures ok { IfOk result (λ report. ReportsHost self.now.host (view_report report)) }
         ensures err { IfErr result (λ error. error ≡ HostError.Memory) }
@@ -40,11 +40,11 @@ impl Hand {
         self.host.report(alloc)
     }
 
-    /// The transcript of an instance: the bytes of its module, what its owner gave it, its calls, and for what the first open
-    /// one stands. Its calls replay.
+    /// Returns the transcript of an instance: the bytes of its module, what its owner gave it, its calls, and what the
+    /// first open one is blocked on. Its calls can be replayed.
     ///
     /// # Errors
-    /// `NoInstance`; `Memory` where room is refused.
+    /// `NoInstance` if there is no such instance; `Memory` if an allocation fails.
     pub fn transcript(&self, alloc: Global, id: InstId) -> Result<Transcript, HostError>
         ensures shows { ShowsInstance self.now.host id result }
         ensures replays { IfOk result (λ shown. IsReplayable shown) }

@@ -1,17 +1,12 @@
 -- What keeps tickets, slots, frames and the tax as they are.
 use Rattle.std.proofs.Common.{◌≡◌, ℕ, ◌==◌, nat_lt, cond, Bool, true, false, List, [], ◌∷◌, length, map, zero, suc, slice_get, Option, Some, None, inl, inr, refl, ap, ◌∙◌, arith}
 use Rattle.wh_model.specs.declared.memory.Need.{Need}
-use Rattle.wh_host_model.specs.declared.states.Offer.{Offer}
-use Rattle.wh_host_model.specs.declared.states.Offer.TheVariants.{Skipped, Zeroed, Hinted, Stale, Merged, FalseMatch}
-use Rattle.wh_host_model.specs.declared.states.Slot.{Slot}
-use Rattle.wh_host_model.specs.declared.states.Slot.TheVariants.{Vacant, Taken, Evicting, EvictVoid, Fetching, FetchVoid}
-use Rattle.wh_host_model.specs.Space.Errands.{Pass, errand_for, pass_of}
-use Rattle.wh_host_model.specs.Space.Moves.{has_pins, unpinned}
-use Rattle.wh_host_model.specs.Space.Offers.{Offers, OffersAlone, OffersUnlisted}
-use Rattle.wh_host_model.specs.Space.Parts.{Space}
-use Rattle.wh_host_model.specs.Space.Places.{Exits, released_use}
-use Rattle.wh_host_model.specs.Space.Scanning.{Scans}
-use Rattle.wh_host_model.specs.Space.Stores.{ended, stood}
+use Rattle.wh_space_model.specs.declared.states.Offer.{Offer}
+use Rattle.wh_space_model.specs.declared.states.Offer.TheVariants.{Skipped, Zeroed, Hinted, Stale, Merged, FalseMatch}
+use Rattle.wh_space_model.specs.declared.states.Slot.{Slot}
+use Rattle.wh_space_model.specs.declared.states.Slot.TheVariants.{Vacant, Taken, Evicting, EvictVoid, Fetching, FetchVoid}
+use Rattle.wh_space_model.specs.{Pass, errand_for, pass_of, has_pins, unpinned, OffersAlone, OffersUnlisted, Space, Exits, released_use, Scans, ended, stood}
+use Rattle.wh_space_model.specs.Offers.{Offers}
 use Rattle.wh_instance.specs.declared.stages.TurnResult.{TurnResult}
 use Rattle.wh_instance.specs.declared.stages.TurnResult.TheVariants as turned
 use Rattle.wh_space.specs.StepViews.{KeepsRest}
@@ -100,8 +95,7 @@ same_errands (x ∷ xs) (y ∷ ys) many each =
 pub exits_backing : (s : Space) (i : ℕ) (s2 : Space) → Exits s i s2 → KeepsBacking s s2
 exits_backing s i s2 exits =
     let out = same_errands s.slots.uses s2.slots.uses exits.slots (λ k x at. (_, exits.uses k x at, errand_released i _ x)) in
-    let held = exits.held in
-    backs _ _ (cc (out, held)) (ap (λ (zs : List (List ℕ)). length zs) exits.bytes) (exits.tax)
+    backs _ _ (cc (out, exits.held)) (ap (λ (zs : List (List ℕ)). length zs) exits.bytes) (exits.tax)
 
 -- ---- offers
 

@@ -1,18 +1,14 @@
--- A turn of an instance that was brought on beside others is a turn of the host's definitions, once all is laid back.
+-- A turn of an instance that ran beside others is a turn of the host's definitions, once all is written back.
 use Rattle.std.proofs.Common.{◌≡◌, ◌≢◌, ◌∙◌, inl, inr, ℕ, ◌≤◌, ◌&&◌, Bool, true, false, cond, min, Option, List, [], ◌∷◌, refl, slice_get, sym, ap, subst, arith}
 use Rattle.std.proofs.Math.Nat.{min-eq_left}
 use Rattle.std.proofs.lemmas.Bool.{cases_lt}
 use Rattle.wh_model.specs.declared.memory.Need.{Need}
 use Rattle.wh_model.specs.Execution.Store.{Instance}
-use Rattle.wh_model.specs.Execution.Replay.{Call}
-use Rattle.wh_host_model.specs.Host.Spaces.{StepsAlone}
-use Rattle.wh_host_model.specs.Host.Turns.{Upshot, to_end, out_of_fuel, to_wait, to_go_on, Proceeds, returns, traps, writes_all, uses_fuel, waits, waits_to_write, has_had_its_turn}
-use Rattle.wh_host_model.specs.Host.Worlds.{Rest, Doing, computing, Tenant}
-use Rattle.wh_host_model.specs.Host.CallAnswers.{ProceedsIn, gone_further}
-use Rattle.wh_host_model.specs.Owners.{Entry}
-use Rattle.wh_host_model.specs.Space.Parts.{Claimed, Space, view}
-use Rattle.wh_host_model.specs.Space.Ready.{Ready}
-use Rattle.wh_host_model.specs.Space.Sound.{IsSound}
+use Rattle.wh_model.specs.Execution.{Call}
+use Rattle.wh_host_model.specs.Host.{StepsAlone, Upshot, to_end, out_of_fuel, to_wait, to_go_on, Proceeds, Rest, Doing, computing, Tenant, ProceedsIn, gone_further}
+use Rattle.wh_host_model.specs.{Entry}
+use Rattle.wh_space_model.specs.{Claimed, Space, view, IsSound}
+use Rattle.wh_space_model.specs.Ready.{Ready}
 use Rattle.wh_imports.specs.LinkedState.{LinkedState}
 use Rattle.wh_journal.specs.Calls.{CanGoFurther, JournalCallState}
 use Rattle.wh_machine.specs.MachineRuns.{linked_parts}
@@ -40,6 +36,7 @@ use Rattle.wh_space.specs.StepViews.{KeepsRest}
 use Rattle.wh_host.specs.Beside.{CameThere, CanGoOnFrom, HasRun, RunsBeside, beside_setting, memory_with}
 use Rattle.wh_host.specs.Lent.{TurnsLent, turn_end_of}
 use Rattle.wh_host.specs.Lying.{LiesAt}
+use Rattle.wh_host.proofs.Spending.{within_turn}
 use Rattle.wh_host.proofs.Turns.{Shown, shown_turn}
 use Rattle.wh_host.proofs.Viewing.{represents_over, steps_alone, store_over, where_over}
 
@@ -52,7 +49,7 @@ plain i inst q call s r d out_of_fuel k n s2 r2 d2 never comes = comes
 plain i inst q call s r d (to_wait need) k n s2 r2 d2 never comes = absurd (never need refl)
 plain i inst q call s r d to_go_on k n s2 r2 d2 never comes = comes
 
--- so it is a turn of so many charges
+-- so it is a turn of n charges
 record GoesThere (i : ℕ) (inst : Instance) (q2 : ℕ) (call : Call) (s : Space) (r : Rest) (d : Doing) (k n : ℕ) (s2 : Space) (r2 : Rest) (d2 : Doing) (answer : TurnOutcome) : Type 0 where
   to : Upshot
   proceeds : ProceedsThere i inst q2 call s r d to k n s2 r2 d2
@@ -94,16 +91,6 @@ goes_there i inst q q2 call s r d (to_end o) k n s2 r2 d2 (came.Frame need) answ
 goes_there i inst q q2 call s r d out_of_fuel k n s2 r2 d2 (came.Frame need) answer2 is there comes = absurd is
 goes_there i inst q q2 call s r d to_go_on k n s2 r2 d2 (came.Frame need) answer2 is there comes = absurd is
 
--- charges are within the turn
-pub within_turn : {M : Type 0} {bytes : M → List ℕ} {ready : M → Need → Type 0} {keeps : M → M → Type 0} {inst : Instance} {q k n : ℕ} (call : Call) {m m2 : M} {r r2 : Rest} {d d2 : Doing} {to : Upshot} → Proceeds bytes ready keeps inst q call m r d to k n m2 r2 d2 → n ≤ q
-within_turn call (returns x typed) = x.in_turn
-within_turn call (traps x) = x.in_turn
-within_turn call (writes_all d func w) = omega arith
-within_turn call (uses_fuel x next all) = x.in_turn
-within_turn call (waits x next some asks never) = x.in_turn
-within_turn call (waits_to_write d w never) = omega arith
-within_turn call (has_had_its_turn x next all some at_hand) = x.in_turn
-
 pub came_same : (s : Space) (i : ℕ) (answer : TurnOutcome) (n q : ℕ) → ((need : Need) → answer ≢ came.Frame need) → CameThere s i answer n q answer q
 came_same s i (came.Frame need) n q never = absurd (never need refl)
 came_same s i (came.Returned result) n q never = (refl, refl)
@@ -116,14 +103,6 @@ came_ready s i answer n q need is ready = subst (λ a. CameThere s i a n q came.
 
 pub came_unready : (s : Space) (i : ℕ) (answer : TurnOutcome) (n q : ℕ) (need : Need) → answer ≡ came.Frame need → ¬ (Ready s i need) → CameThere s i answer n q answer q
 came_unready s i answer n q need is unready = subst (λ a. CameThere s i a n q a q) (sym is) (inr (unready, refl, refl))
-
-pub least_charges : (s : Space) (i : ℕ) (answer : TurnOutcome) (n q : ℕ) (answer2 : TurnOutcome) (q2 : ℕ) → n ≤ q → CameThere s i answer n q answer2 q2 → n ≤ q2
-least_charges s i (came.Frame need) n q answer2 q2 few (inl (ready, same, many)) = omega (arith, many)
-least_charges s i (came.Frame need) n q answer2 q2 few (inr (unready, same, many)) = omega (arith, many, few)
-least_charges s i (came.Returned result) n q answer2 q2 few (same, many) = omega (arith, many, few)
-least_charges s i (came.Trapped trap) n q answer2 q2 few (same, many) = omega (arith, many, few)
-least_charges s i came.Fuel n q answer2 q2 few (same, many) = omega (arith, many, few)
-least_charges s i came.Again n q answer2 q2 few (same, many) = omega (arith, many, few)
 
 -- it was a whole turn, or one that was cut short
 pub whole_or_cut : (s : Space) (i : ℕ) (answer : TurnOutcome) (n q : ℕ) (answer2 : TurnOutcome) (q2 : ℕ) (end : TurnEnd) → n ≤ q → CameThere s i answer n q answer2 q2 → (answer2 ≡ came.Again → end ≡ turn_answer.Again) → IsWholeOrCut q q2 n end
@@ -242,7 +221,7 @@ module _ (l : LinkedState) (limit q : ℕ) (s0 s : Space) (place : ℕ) (x : Hos
       let a = h.runs.advances c.entry c.others c.calls in
       within_turn c.entry.call a.proceeds
 
--- it is laid back, and finished
+-- it is written back, and finished
 pub record Finishing (l : LinkedState) (limit q : ℕ) (s0 s : Space) (place : ℕ) (x : HostInstanceState) (t : Tenant) (answer : TurnOutcome) (k n : ℕ) (x1 : HostInstanceState) (u : UpperState) (s2 : Space) (answer2 : TurnOutcome) (q2 : ℕ) (made : TurnResult) (x3 : HostInstanceState) : Type 0 where
   pub run : HasRun l limit q s0 s place x t answer k n x1 u
   pub sound : IsSound s
@@ -269,7 +248,7 @@ module _ (l : LinkedState) (limit q : ℕ) (s0 s : Space) (place : ℕ) (x : Hos
         subst (λ z. IsTenant l z x3 (view s2 place) t2) (least l limit q s0 s place x t answer k n x1 u h.run)
         (represents_over (linked_parts l) (most_of limit s0 place) (λ z. view z place) (λ z need. Ready z place need) (StepsAlone place) (λ b. b) (λ b need. Unit {0}) (λ b b2. Unit {0}) s2 (view s2 place) refl x3 t2 rep)
 
-    -- what was written is laid back, also where nothing was
+    -- what was written is written back, also where nothing was
     laid_there : (e : Entry) (es : List Entry) → t.open_calls ≡ e ∷ es → IsLaid s place u s2
     laid_there e es is_open =
         let runs = h.run.runs in
@@ -302,14 +281,13 @@ module _ (l : LinkedState) (limit q : ℕ) (s0 s : Space) (place : ℕ) (x : Hos
     advances : (e : Entry) (es : List Entry) → t.open_calls ≡ e ∷ es → AdvancesTenant all_setting q2 s t e es answer2 k n x1 s2
     advances e es is_open =
         let runs = h.run.runs in
-        let looks = h.run.looks in
         let a = runs.advances e es is_open in
         let c = runs.computes in
         let goes = subst (λ d. Proceeds sees IsReadyOver IsOverSame t.inst q e.call (memory_with s0 place limit runs.first) t.rest d a.to k n (memory_with s0 place limit u) a.rest a.doing) c.doing a.proceeds in
         let comes : ComesThere place t.inst q e.call s t.rest (computing c.term) a.to k n s2 a.rest a.doing = proceeds_laid s0 s place s s2 (laying e es is_open) goes in
         let g = goes_there place t.inst q q2 e.call s t.rest (computing c.term) a.to k n s2 a.rest a.doing answer answer2 a.is_came h.there comes in
         let last = laid_there e es is_open in
-        let seen : view s2 place ≡ sees (memory_with s0 place limit u) = last.sees ∙ ap (λ b. with_upper b u) looks.sees in
+        let seen : view s2 place ≡ sees (memory_with s0 place limit u) = last.sees ∙ ap (λ b. with_upper b u) h.run.looks.sees in
         record {
           to = g.to;
           rest = a.rest;
@@ -323,12 +301,12 @@ module _ (l : LinkedState) (limit q : ℕ) (s0 s : Space) (place : ℕ) (x : Hos
           in_fuel = a.in_fuel;
         }
 
-    turns : (e : Entry) (es : List Entry) → t.open_calls ≡ e ∷ es → (is : TurnsTenant all_setting q2 s t e es made x3 s2) × ProceedsIn q2 s t e is.to is.pieces is.charges s2 is.rest is.doing
+    turns : (e : Entry) (es : List Entry) → t.open_calls ≡ e ∷ es → (is : TurnsTenant all_setting q2 s t e es made n x3 s2) × ProceedsIn q2 s t e is.to is.pieces n s2 is.rest is.doing
     turns e es is_open =
         let is = finishes all_setting q2 x x1 s s2 t e es answer2 k n made x3 represents is_open h.run.runs.stays (advances e es is_open) h.is_finished in
-        (is, subst (λ i. ProceedsThere i t.inst q2 e.call s t.rest t.doing is.to is.pieces is.charges s2 is.rest is.doing) (sym h.run.lies.place_is) is.proceeds)
+        (is, subst (λ i. ProceedsThere i t.inst q2 e.call s t.rest t.doing is.to is.pieces n s2 is.rest is.doing) (sym h.run.lies.place_is) is.proceeds)
 
-    shown : Shown all_setting l limit q2 x x3 s s2 s s2 place t made
+    shown : Shown all_setting l limit q2 x x3 s s2 s s2 place t made n
     shown = record {
       lies = h.run.lies;
       steps = steps_alone place s s2 h.sound h.keeps;
@@ -340,7 +318,6 @@ module _ (l : LinkedState) (limit q : ℕ) (s0 s : Space) (place : ℕ) (x : Hos
       turns = turns;
     }
 
-    pub finished_turn : TurnsLent l limit q2 s t place x3 s2 made
+    pub finished_turn : TurnsLent l limit q2 s t place x3 s2 made n
     finished_turn =
-        let c = h.run.runs.computes in
-        shown_turn all_setting l limit q2 x x3 s s2 s s2 place t made shown (λ none. let bad = sym c.calls ∙ none in cc bad) made refl
+        shown_turn all_setting l limit q2 x x3 s s2 s s2 place t made n shown (λ none. let bad = sym h.run.runs.computes.calls ∙ none in cc bad)

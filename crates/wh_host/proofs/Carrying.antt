@@ -1,30 +1,23 @@
 -- Pages in transit under a host, and the host for which the code's host stands.
 use Rattle.std.proofs.Common.{◌≡◌, ◌≢◌, ℕ, zero, suc, ◌<◌, ◌⊎◌, ⊎_elim, inl, inr, cond, Bool, true, List, [], ◌∷◌, Option, Some, None, Result, Ok, Err, OnOk, is_ok, length, map, get_or, slice_get, refl, sym, ap, subst, ◌∙◌, arith}
 use Rattle.std.proofs.lemmas.List.{get_or-set_same}
-use Rattle.wh_host_model.specs.declared.plain.InstId.{InstId}
-use Rattle.wh_host_model.specs.declared.plain.SwapError.{SwapError}
-use Rattle.wh_host_model.specs.declared.states.EvictEnd.{EvictEnd}
-use Rattle.wh_host_model.specs.declared.states.FetchEnd.{FetchEnd}
-use Rattle.wh_host_model.specs.declared.states.Slot.{Slot}
-use Rattle.wh_host_model.specs.declared.states.Slot.TheVariants.{Vacant, Taken, Evicting, EvictVoid, Fetching, FetchVoid}
-use Rattle.wh_host_model.specs.Space.Errands.{errand_for, to_read, to_write}
-use Rattle.wh_host_model.specs.Space.Parts.{Occupant, Space, occupant_at, view}
-use Rattle.wh_host_model.specs.Space.Places.{IsFreePlace}
-use Rattle.wh_host_model.specs.Space.Sound.{IsSound}
-use Rattle.wh_host_model.specs.Space.Tickets.{BeginsEvict, BeginsFetch, CommitsFetch, IsEvicting, IsWritten}
-use Rattle.wh_host_model.specs.Host.Events.{Event, evict_begin, evict_commit, fetch_begin, fetch_commit}
-use Rattle.wh_host_model.specs.Host.Happens.{AwaitsFrameFor, Happens, IsLive, MovesPages, OnlyMoves}
-use Rattle.wh_host_model.specs.Host.Spaces.{AllLeftAlone}
-use Rattle.wh_host_model.specs.Host.Worlds.{Tenant, World}
+use Rattle.wh_space_model.specs.declared.plain.InstId.{InstId}
+use Rattle.wh_space_model.specs.declared.plain.SwapError.{SwapError}
+use Rattle.wh_space_model.specs.declared.states.EvictEnd.{EvictEnd}
+use Rattle.wh_space_model.specs.declared.states.FetchEnd.{FetchEnd}
+use Rattle.wh_space_model.specs.declared.states.Slot.{Slot}
+use Rattle.wh_space_model.specs.declared.states.Slot.TheVariants.{Vacant, Taken, Evicting, EvictVoid, Fetching, FetchVoid}
+use Rattle.wh_space_model.specs.{errand_for, to_read, to_write, Occupant, Space, occupant_at, view, IsFreePlace, IsSound, BeginsEvict, BeginsFetch, CommitsFetch, IsEvicting, IsWritten}
+use Rattle.wh_host_model.specs.Host.{Event, evict_begin, evict_commit, fetch_begin, fetch_commit, AwaitsFrameFor, IsLive, MovesPages, OnlyMoves, AllLeftAlone, Tenant, World, IsMisread}
+use Rattle.wh_host_model.specs.Host.Happens.{Happens}
 use Rattle.wh_host_model.proofs.Host.Bridges.{evictions_begin, evictions_end, fetches_begin, fetches_end, writes_leave_all}
-use Rattle.wh_host_model.proofs.Space.Putting.{there_of}
+use Rattle.wh_space_model.proofs.Putting.{there_of}
 use Rattle.wh_instance.specs.OwnerRequests.{OfAnyTenant}
 use Rattle.wh_space.specs.Transits.{IsFetching}
 use Rattle.wh_host.specs.declared.parts.InstanceEntry.{InstanceEntry}
 use Rattle.wh_host.specs.TicketsOut.{EndsEvict, IsOut, IsPresentCall, KeepsFault, OnlyReleasedGo}
 use Rattle.wh_host.specs.Hosting.{HostState, IsHost, entry_at}
 use Rattle.wh_host.proofs.Hosts.{of_who_is_there, one_value}
-use Rattle.wh_host_model.specs.Host.Misreading.{IsMisread}
 use Rattle.wh_host_model.proofs.Host.AsMany.{fetches_see_as_many}
 use Rattle.wh_host.proofs.Paged.{all_stay, alone_in, alone_on, as_many_in, fault_here, misread_host, moved_as, only_moved, same_tenant, sound_in}
 use Rattle.wh_host.proofs.Requests.{get_mapped, lives_there}
@@ -82,8 +75,7 @@ use_there s k (inr (j, e)) = there_of s.slots.uses k (EvictVoid j) e
 pub written_holds : (s : Space) (k : ℕ) (bytes : List ℕ) (wrote : Bool) (mid : Space) → IsSound s → IsWritten s k bytes wrote mid → wrote ≡ true → get_or mid.slots.held k [] ≡ bytes
 written_holds s k bytes wrote mid sound (evicting, is) e =
     let within = use_there s k evicting in
-    let long = sound.slots.held in
-    let less : k < length s.slots.held = omega (arith, within, long) in
+    let less : k < length s.slots.held = omega (arith, within, sound.slots.held) in
     ap (λ (z : Space). get_or z.slots.held k []) is ∙ get_or-set_same s.slots.held k (cond wrote bytes []) [] less ∙ ap (λ (b : Bool). cond b bytes []) e
 
 pub evict_alone : (s : Space) (k : ℕ) (wrote : Bool) (bytes : List ℕ) (end : EvictEnd) (s2 : Space) → IsSound s → EndsEvict s k wrote bytes end s2 → AllLeftAlone s s2

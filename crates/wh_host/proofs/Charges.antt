@@ -1,9 +1,8 @@
 -- What is told of the charges of a call of who is there.
 use Rattle.std.proofs.Common.{◌≡◌, ℕ, zero, suc, ◌++◌, List, [], ◌∷◌, option_map, slice_get, Option, Some, None, refl, sym, ap, ◌∙◌}
-use Rattle.wh_host_model.specs.declared.plain.InstId.{InstId}
-use Rattle.wh_host_model.specs.Host.Happens.{IsLive, NoInstance}
-use Rattle.wh_host_model.specs.Host.Worlds.{Tenant, World, journal}
-use Rattle.wh_host_model.specs.Owners.{Entry}
+use Rattle.wh_space_model.specs.declared.plain.InstId.{InstId}
+use Rattle.wh_host_model.specs.Host.{IsLive, NoInstance, Tenant, World, journal}
+use Rattle.wh_host_model.specs.{Entry}
 use Rattle.wh_journal.specs.Calls.{JournalCallState}
 use Rattle.wh_instance.specs.Tenancy.{RepresentsEach}
 use Rattle.wh_instance.proofs.Told.{join_each}

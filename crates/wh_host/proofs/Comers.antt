@@ -2,19 +2,13 @@
 use Rattle.std.proofs.Common.{◌≡◌, ◌≢◌, ℕ, zero, suc, ◌+◌, ◌*◌, ◌/◌, ◌<◌, ◌≤◌, ◌⊎◌, ⊎_elim, inl, inr, false, Option, Some, None, List, [], ◌∷◌, ◌++◌, length, map, get_or, slice_get, replicate, refl, sym, ap, subst, ◌∙◌, arith}
 use Rattle.std.proofs.lemmas.List.{length-replicate}
 use Rattle.slab.specs.Slab.{Slab, Updates}
-use Rattle.wh_model.specs.Format.Limits.{most_segments}
-use Rattle.wh_model.specs.Format.Spelling.{Small}
-use Rattle.wh_model.specs.Format.Syntax.{Module, Limits}
-use Rattle.wh_model.specs.Execution.Instance.{first_size, last_size, fragments}
-use Rattle.wh_host_model.specs.declared.plain.InstId.{InstId}
-use Rattle.wh_host_model.specs.Space.Parts.{Space, minima, spreads, view}
-use Rattle.wh_host_model.specs.Space.Places.{Enters, HasRoomFor}
-use Rattle.wh_host_model.specs.Host.Spaces.{Arrives}
-use Rattle.wh_host_model.specs.Host.Worlds.{Tenant, World, promised}
-use Rattle.wh_host_model.specs.Owners.{Params, given_of, AdmitFault, no_module, shares, min_max, frames, swap, instances, memory, segments, admit_rank}
-use Rattle.wh_host_model.specs.Host.Admission.{StartsAs, MeetsFault, LetsIn, rest_of}
-use Rattle.wh_host_model.specs.Host.Events.{admit}
-use Rattle.wh_host_model.specs.Host.Happens.{admit_ok, admit_refused, IsAdmit, is_admitted, isnt_admitted, no_memory_to_admit}
+use Rattle.wh_model.specs.Format.{most_segments, Small, Module}
+use Rattle.wh_model.specs.Format.Syntax.{Limits}
+use Rattle.wh_model.specs.Execution.{first_size, last_size, fragments}
+use Rattle.wh_space_model.specs.declared.plain.InstId.{InstId}
+use Rattle.wh_space_model.specs.{Space, minima, spreads, view, Enters, HasRoomFor}
+use Rattle.wh_host_model.specs.Host.{Arrives, Tenant, World, promised, StartsAs, MeetsFault, LetsIn, rest_of, admit, admit_ok, admit_refused, IsAdmit, is_admitted, isnt_admitted, no_memory_to_admit}
+use Rattle.wh_host_model.specs.{Params, given_of, AdmitFault, no_module, shares, min_max, frames, swap, instances, memory, segments, admit_rank}
 use Rattle.wh_host_model.proofs.Host.Bridges.{entrants_arrive}
 use Rattle.wh_host_model.proofs.Host.Lasting.{modules_stay_accepted}
 use Rattle.wh_syntax.specs.View.{view_data}
@@ -95,8 +89,7 @@ room_for h w k number m p a st none b =
     let some_frames = none frames in
     let some_slots = none swap in
     let least = b.min in
-    let most = b.max in
-    subst (λ (s : Space). HasRoomFor s (claimed (promise_of number a))) (sym st.space) (omega (arith, some_frames, least), omega (arith, some_slots, least, most))
+    subst (λ (s : Space). HasRoomFor s (claimed (promise_of number a))) (sym st.space) (omega (arith, some_frames, least), omega (arith, some_slots, least, b.max))
 
 pub few_live : (h : HostState) (w : World) (k : ℕ) (p : Params) → IsHost h w → ((fault : AdmitFault) → ¬ (MeetsFault w k p fault)) → h.live < 4096
 few_live h w k p st none = let some = none instances in let e = st.live in omega (arith, some, e)

@@ -1,18 +1,17 @@
--- The roll is that of whatever host the code's stands for.
+-- The roll is that of whatever host the code's represents.
 use Rattle.std.proofs.Common.{◌≡◌, ℕ, zero, suc, ◌+◌, ◌<◌, ◌++◌, Bool, Option, Some, None, List, [], ◌∷◌, length, map, take, get_or, slice_get, refl, sym, ap, subst, ◌∙◌, arith}
 use Rattle.std.proofs.lemmas.List.{append-nil, append_assoc, length-append, map-append}
-use Rattle.wh_host_model.specs.Space.Errands.{tickets}
-use Rattle.wh_host_model.specs.Host.Worlds.{Suspension, Tenant, World, journal, tenant}
-use Rattle.wh_host_model.specs.Owners.{Entry}
-use Rattle.wh_host_model.specs.Owners.{Params}
+use Rattle.wh_space_model.specs.{tickets}
+use Rattle.wh_host_model.specs.Host.{Suspension, Tenant, World, journal, tenant}
+use Rattle.wh_host_model.specs.{Entry, Params}
 use Rattle.wh_host_model.proofs.Host.Lasting.{inputs_stay}
 use Rattle.wh_journal.specs.Calls.{JournalCallState}
 use Rattle.wh_instance.specs.Tenancy.{RepresentsEach, suspension_of}
 use Rattle.wh_host.specs.declared.parts.LoadedModule.{LoadedModule}
 use Rattle.wh_host.specs.declared.parts.InstanceEntry.{InstanceEntry}
 use Rattle.wh_host.specs.declared.parts.InstanceRef.{InstanceRef}
-use Rattle.wh_host.specs.declared.rolling.Enrolled.{Enrolled}
-use Rattle.wh_host.specs.declared.rolling.EnrolledModule.{EnrolledModule}
+use Rattle.wh_host.specs.declared.rolling.RollInstance.{RollInstance}
+use Rattle.wh_host.specs.declared.rolling.RollModule.{RollModule}
 use Rattle.wh_host.specs.Hosting.{HostState, IsHost, IsEntryOf, kept_as, entry_at}
 use Rattle.wh_host.specs.Rolls.{IsRollOf, Listed, ListedModule, RollState, all_listed, all_modules, listed_as, listed_by, listed_in, listed_refs, module_by, modules_from, view_listed, view_listed_module}
 use Rattle.wh_host.specs.InstanceRefs.{AreInstanceRefs, refs_by}
@@ -42,7 +41,7 @@ module_found [] k m less = absurd (omega (arith, less))
 module_found (x ∷ ms) zero m less = refl
 module_found (x ∷ ms) (suc k) m less = module_found ms k m (omega (arith, less))
 
-pub module_step : (ms : List LoadedModule) (k : ℕ) (m : LoadedModule) (a b : List EnrolledModule) (e : EnrolledModule) → slice_get ms k ≡ Some m → map view_listed_module a ≡ modules_from 0 (take k ms) → b ≡ a ++ e ∷ [] → view_listed_module e ≡ module_by k m → map view_listed_module b ≡ modules_from 0 (take (k + 1) ms)
+pub module_step : (ms : List LoadedModule) (k : ℕ) (m : LoadedModule) (a b : List RollModule) (e : RollModule) → slice_get ms k ≡ Some m → map view_listed_module a ≡ modules_from 0 (take k ms) → b ≡ a ++ e ∷ [] → view_listed_module e ≡ module_by k m → map view_listed_module b ≡ modules_from 0 (take (k + 1) ms)
 module_step ms k m a b e at before is same =
     let next : k + 1 ≡ suc k = omega arith in
     let here : 0 + k ≡ k = omega arith in
@@ -69,7 +68,6 @@ same_listed h w i t x st live is =
     let opens = as_long x.tenant.journal.open_calls t.open_calls over.open_calls in
     let both = length-append t.ended t.open_calls in
     let calls : length x.tenant.journal.ended + length x.tenant.journal.open_calls ≡ length (journal t) = omega (arith, ended, opens, both) in
-    let dead = over.dead in
     let stands = sym over.waiting_for in
     let of = is.of in
     ap (λ n. put n (given_with x.given x.tenant.store.inputs.items) (length x.tenant.journal.ended + length x.tenant.journal.open_calls) x.copied (length x.tenant.journal.open_calls) x.tenant.dead (suspension_of x.tenant.waiting_for)) of
@@ -77,7 +75,7 @@ same_listed h w i t x st live is =
     ∙ ap (λ n. put t.of t.params n x.copied (length x.tenant.journal.open_calls) x.tenant.dead (suspension_of x.tenant.waiting_for)) calls
     ∙ ap (λ n. put t.of t.params (length (journal t)) n (length x.tenant.journal.open_calls) x.tenant.dead (suspension_of x.tenant.waiting_for)) is.copied
     ∙ ap (λ n. put t.of t.params (length (journal t)) t.copied n x.tenant.dead (suspension_of x.tenant.waiting_for)) opens
-    ∙ ap (λ b. put t.of t.params (length (journal t)) t.copied (length t.open_calls) b (suspension_of x.tenant.waiting_for)) dead
+    ∙ ap (λ b. put t.of t.params (length (journal t)) t.copied (length t.open_calls) b (suspension_of x.tenant.waiting_for)) over.dead
     ∙ ap (put t.of t.params (length (journal t)) t.copied (length t.open_calls) t.dead) stands
   where
     put : ℕ → Params → ℕ → ℕ → ℕ → Bool → Option Suspension → Listed
@@ -92,7 +90,7 @@ one_more_listed rs (z ∷ zs) (suc k) instance_ref is =
     let first = listed_in z (entry_at rs z.place) in
     ap (λ more. first ++ more) (one_more_listed rs zs k instance_ref is) ∙ sym (append_assoc first (listed_refs rs (take k zs)) (listed_in instance_ref (entry_at rs instance_ref.place)))
 
-pub pushed_listed : (a b : List Enrolled) (e : Enrolled) (l : Listed) → b ≡ a ++ e ∷ [] → view_listed e ≡ l → map view_listed b ≡ map view_listed a ++ l ∷ []
+pub pushed_listed : (a b : List RollInstance) (e : RollInstance) (l : Listed) → b ≡ a ++ e ∷ [] → view_listed e ≡ l → map view_listed b ≡ map view_listed a ++ l ∷ []
 pushed_listed a b e l is same = ap (map view_listed) is ∙ map-append view_listed a (e ∷ []) ∙ ap (λ (z : Listed). map view_listed a ++ z ∷ []) same
 
 pub listed_step : (rs : List (Option InstanceEntry)) (instance_refs : List InstanceRef) (k : ℕ) (instance_ref : InstanceRef) (a b : List Listed) → slice_get instance_refs k ≡ Some instance_ref → a ≡ listed_refs rs (take k instance_refs) → b ≡ a ++ listed_in instance_ref (entry_at rs instance_ref.place) → b ≡ listed_refs rs (take (k + 1) instance_refs)

@@ -1,21 +1,14 @@
 -- What each call leaves of the host for which the code's host stands.
 use Rattle.std.proofs.Common.{◌≡◌, ◌≢◌, ℕ, zero, suc, ◌+◌, ◌*◌, ◌/◌, ◌<◌, ◌≤◌, ◌⊎◌, ⊎_elim, inl, inr, Option, Some, None, List, [], ◌∷◌, ◌++◌, length, get_or, slice_get, slice_set, refl, sym, ap, subst, ◌∙◌, arith}
 use Rattle.std.proofs.lemmas.List.{get_or-set_same, get_or-set_other, set-get_or}
-use Rattle.wh_host_model.specs.declared.plain.InstId.{InstId}
+use Rattle.wh_space_model.specs.declared.plain.InstId.{InstId}
 use Rattle.wh_host_model.specs.declared.plain.TurnEnd.{TurnEnd}
 use Rattle.wh_host_model.specs.declared.plain.TurnEnd.TheVariants.{Idle}
-use Rattle.wh_host_model.specs.Space.Parts.{Space, Claimed, claim, empty_space, view}
-use Rattle.wh_host_model.specs.declared.Tax.{Tax}
-use Rattle.wh_host_model.specs.Space.Sound.{IsSound}
-use Rattle.wh_host_model.specs.Host.Spaces.{LeftAlone, OthersLeftAlone}
-use Rattle.wh_host_model.specs.Host.Worlds.{Tenant, World, tenant, with_tenant, promised, empty_world}
-use Rattle.wh_host_model.specs.Owners.{Params}
-use Rattle.wh_host_model.specs.Host.CallAnswers.{Closes, faces_next, is_dead, Turn, is_idle, has_ended, has_no_fuel, has_no_frame, can_go_on, keeps_its_fault}
-use Rattle.wh_host_model.specs.Host.Laws.{PlacesAreTenants}
-use Rattle.wh_host_model.specs.Host.OwnerCalls.{Refuels, has_more, Retries, may_try}
-use Rattle.wh_host_model.specs.Host.Events.{Event, turn, epoch}
-use Rattle.wh_host_model.specs.Host.Happens.{AllHappen, Happens, IsLive, IsTurn, NoInstance, of_none, of_one}
-use Rattle.wh_host_model.specs.Host.Misreading.{AllBefall, Befalls, ComesAbout, IsMisread, Step, by_event, by_misreading}
+use Rattle.wh_space_model.specs.{Space, Claimed, claim, empty_space, view, IsSound}
+use Rattle.wh_space_model.specs.declared.Tax.{Tax}
+use Rattle.wh_host_model.specs.Host.{LeftAlone, OthersLeftAlone, Tenant, World, tenant, with_tenant, promised, empty_world, Closes, faces_next, is_dead, Turn, is_idle, has_ended, has_no_fuel, has_no_frame, can_go_on, keeps_its_fault, PlacesAreTenants, Refuels, has_more, Retries, may_try, Event, turn, epoch, AllHappen, IsLive, IsTurn, NoInstance, of_none, of_one, AllBefall, Befalls, ComesAbout, IsMisread, Step, by_event, by_misreading, live_count}
+use Rattle.wh_host_model.specs.{Params}
+use Rattle.wh_host_model.specs.Host.Happens.{Happens}
 use Rattle.wh_host_model.proofs.Host.Lasting.{places_stay_right}
 use Rattle.wh_host_model.proofs.Host.Opening.{apart_none, apart_steps, apart_then, proceeds_apart}
 use Rattle.wh_instance.specs.OwnerRequests.{OfAnyTenant}
@@ -27,10 +20,9 @@ use Rattle.wh_host.specs.declared.parts.InstanceEntry.{InstanceEntry}
 use Rattle.wh_instance.specs.Bursts.{AreUsed}
 use Rattle.wh_host.specs.Beside.{EndsTurn}
 use Rattle.wh_host.specs.Lying.{LiesAt}
-use Rattle.wh_host.specs.Series.{SeriesOf}
-use Rattle.wh_host.proofs.Splitting.{series_of_turns}
+use Rattle.wh_host.specs.Series.{HasSpent, SeriesOf}
+use Rattle.wh_host.proofs.Splitting.{has_spent, series_of_turns}
 use Rattle.wh_host.specs.Lent.{TurnsTo}
-use Rattle.wh_host_model.specs.Host.Admission.{live_count}
 use Rattle.wh_host.specs.Entries.{OthersStay}
 use Rattle.wh_host.specs.Hosting.{AreGivenAs, HostState, IsHost, IsNewHost, IsReached, IsEntryOf, entry_at}
 
@@ -155,8 +147,7 @@ pub one_there : (h : HostState) (w : World) (place i : ℕ) (x : InstanceEntry) 
 one_there h w place i x st at number =
     let f = found h w place i x st at number in
     let counts = one_fewer w.tenants i f.t f.live in
-    let e = st.live in
-    omega (arith, counts, e)
+    omega (arith, counts, st.live)
 
 -- and lies there
 pub lies_there : (h : HostState) (w : World) (place i : ℕ) (x : InstanceEntry) → IsHost h w → (f : Found h w place i x) → LiesAt f.is.loaded.linked x.page_limit x.tenant w.space place f.t
@@ -269,21 +260,20 @@ turn_stays q s s2 t t2 answer (can_go_on {e = e} is_open goes alone pins keeps) 
 turn_stays q s s2 t t2 answer (keeps_its_fault is_open stands doing none next left ready) = record { place = refl; of = refl; params = refl; copied = refl; others = (apart_none t.place s).others }
 
 -- of nobody
-pub idle_host : (h : HostState) (w : World) (id : InstId) (q : ℕ) → IsHost h w → NoInstance w id → (w2 : World) × IsTurn w id q Idle w2 × IsHost h w2
-idle_host h w id q st none = (w, of_none none, st)
+pub idle_host : {h : HostState} (w : World) (id : InstId) (q : ℕ) → NoInstance w id → IsHost h w → (w2 : World) × IsTurn w id q Idle w2 × HasSpent w id 0 w2 × IsHost h w2
+idle_host w id q none st = (w, of_none none, (λ gone. refl, λ t t2 live. absurd (none t live)), st)
 
-pub turned_host : (h : HostState) (w : World) (id : InstId) (q : ℕ) (x : InstanceEntry) (z : HostInstanceState) (answer : TurnEnd) (s2 : Space) (st : IsHost h w) → entry_at h.entries id.place ≡ Some x → x.number ≡ Some id.number → (f : Found h w id.place id.number x)
-    → TurnsTo f.is.loaded.linked x.page_limit q w.space f.t answer id.place z s2
-    → (w2 : World) × IsTurn w id q answer w2 × IsHost (record h { entries = slice_set h.entries id.place (Some (record x { tenant = z })); space = s2 }) w2
-turned_host h w id q x z answer s2 st at number f to =
-    let t2 = to.0 in
-    let stays = turn_stays q w.space s2 f.t t2 answer to.1 in
+pub turned_host : (h : HostState) (w : World) (id : InstId) (q : ℕ) (x : InstanceEntry) (z : HostInstanceState) (answer : TurnEnd) (n : ℕ) (s2 : Space) (st : IsHost h w) → entry_at h.entries id.place ≡ Some x → x.number ≡ Some id.number → (f : Found h w id.place id.number x)
+    → TurnsTo f.is.loaded.linked x.page_limit q w.space f.t answer n id.place z s2
+    → (w2 : World) × IsTurn w id q answer w2 × HasSpent w id n w2 × IsHost (record h { entries = slice_set h.entries id.place (Some (record x { tenant = z })); space = s2 }) w2
+turned_host h w id q x z answer n s2 st at number f (few, t2, its_turn, spends, lies2) =
+    let stays = turn_stays q w.space s2 f.t t2 answer its_turn in
     let w2 = with_tenant w id.number (Some t2) s2 in
-    let happens : IsTurn w id q answer w2 = of_one (f.live, f.at) to.1 in
-    let over : IsTenant f.is.loaded.linked x.page_limit z (view s2 t2.place) t2 = subst (λ i. IsTenant f.is.loaded.linked x.page_limit z (view s2 i) t2) (sym to.2.place_is) to.2.is in
+    let happens : IsTurn w id q answer w2 = of_one (f.live, f.at) its_turn in
+    let over : IsTenant f.is.loaded.linked x.page_limit z (view s2 t2.place) t2 = subst (λ i. IsTenant f.is.loaded.linked x.page_limit z (view s2 i) t2) (sym lies2.place_is) lies2.is in
     let represents = same_owner h.modules x w.space s2 id.number f.t t2 z f.is stays.of stays.params stays.copied over in
     let sees : (j : ℕ) → j ≢ id.place → view s2 j ≡ view w.space j = λ j other. (stays.others j (λ e. other (e ∙ f.at))).view in
-    (w2, happens, changed h w id.place id.number x (record x { tenant = z }) t2 s2 st at number to.2.place_is represents sees (comes_on w w2 (turn id q) st.comes (answer, happens)))
+    (w2, happens, has_spent w id n f.t t2 s2 (f.live, f.at) spends, changed h w id.place id.number x (record x { tenant = z }) t2 s2 st at number lies2.place_is represents sees (comes_on w w2 (turn id q) st.comes (answer, happens)))
 
 -- the module of who is there
 pub module_is : (h : HostState) (w : World) (place i : ℕ) (x : InstanceEntry) (m : LoadedModule) → (f : Found h w place i x) → slice_get h.modules x.of ≡ Some m → f.is.loaded ≡ m
@@ -297,17 +287,17 @@ lies_here h w place i x m st at number is =
     let by_module = subst (λ (z : LoadedModule). LiesAt z.linked x.page_limit x.tenant w.space place f.t) (module_is h w place i x m f is) lies in
     (f.t, f.live, subst (λ s. LiesAt m.linked x.page_limit x.tenant s place f.t) (sym st.space) by_module)
 
-pub turned_here : (h : HostState) (w : World) (id : InstId) (q : ℕ) (x : InstanceEntry) (z : HostInstanceState) (m : LoadedModule) (answer : TurnEnd) (s2 : Space) → IsHost h w → entry_at h.entries id.place ≡ Some x → x.number ≡ Some id.number → slice_get h.modules x.of ≡ Some m
-    → ((t : Tenant) → LiesAt m.linked x.page_limit x.tenant h.space id.place t → TurnsTo m.linked x.page_limit q h.space t answer id.place z s2)
-    → (w2 : World) × IsTurn w id q answer w2 × IsHost (record h { entries = slice_set h.entries id.place (Some (record x { tenant = z })); space = s2 }) w2
-turned_here h w id q x z m answer s2 st at number is turns =
+pub turned_here : (h : HostState) (w : World) (id : InstId) (q : ℕ) (x : InstanceEntry) (z : HostInstanceState) (m : LoadedModule) (answer : TurnEnd) (n : ℕ) (s2 : Space) → IsHost h w → entry_at h.entries id.place ≡ Some x → x.number ≡ Some id.number → slice_get h.modules x.of ≡ Some m
+    → ((t : Tenant) → LiesAt m.linked x.page_limit x.tenant h.space id.place t → TurnsTo m.linked x.page_limit q h.space t answer n id.place z s2)
+    → (w2 : World) × IsTurn w id q answer w2 × HasSpent w id n w2 × IsHost (record h { entries = slice_set h.entries id.place (Some (record x { tenant = z })); space = s2 }) w2
+turned_here h w id q x z m answer n s2 st at number is turns =
     let f = found h w id.place id.number x st at number in
     let lies = lies_there h w id.place id.number x st f in
     let one = module_is h w id.place id.number x m f is in
     let by_module = subst (λ (l : LoadedModule). LiesAt l.linked x.page_limit x.tenant w.space id.place f.t) one lies in
     let to = turns f.t (subst (λ s. LiesAt m.linked x.page_limit x.tenant s id.place f.t) (sym st.space) by_module) in
-    let in_world = subst (λ s. TurnsTo m.linked x.page_limit q s f.t answer id.place z s2) st.space to in
-    turned_host h w id q x z answer s2 st at number f (subst (λ (l : LoadedModule). TurnsTo l.linked x.page_limit q w.space f.t answer id.place z s2) (sym one) in_world)
+    let in_world = subst (λ s. TurnsTo m.linked x.page_limit q s f.t answer n id.place z s2) st.space to in
+    turned_host h w id q x z answer n s2 st at number f (subst (λ (l : LoadedModule). TurnsTo l.linked x.page_limit q w.space f.t answer n id.place z s2) (sym one) in_world)
 
 -- The turns of who is there, which came to that as one, are a series of turns.
 pub series_here : (h : HostState) (w : World) (id : InstId) (q turns n : ℕ) (x : InstanceEntry) (z : HostInstanceState) (m : LoadedModule) (end : TurnEnd) (s2 : Space) → IsHost h w → entry_at h.entries id.place ≡ Some x → x.number ≡ Some id.number → slice_get h.modules x.of ≡ Some m → AreUsed q turns n
@@ -320,7 +310,7 @@ series_here h w id q turns n x z m end s2 st at number is used ends =
     let by_module = subst (λ (l : LoadedModule). LiesAt l.linked x.page_limit x.tenant w.space id.place f.t) one lies in
     let to = ends f.t (subst (λ s. LiesAt m.linked x.page_limit x.tenant s id.place f.t) (sym st.space) by_module) in
     let in_world = subst (λ s. EndsTurn m.linked x.page_limit (turns * q) n s f.t end id.place z s2) st.space to.1 in
-    let (few, least, most, t2, its_turn, spends, lies2) = subst (λ (l : LoadedModule). EndsTurn l.linked x.page_limit (turns * q) n w.space f.t end id.place z s2) (sym one) in_world in
+    let (few, least, (most, t2, its_turn, spends, lies2)) = subst (λ (l : LoadedModule). EndsTurn l.linked x.page_limit (turns * q) n w.space f.t end id.place z s2) (sym one) in_world in
     let stays = turn_stays few w.space s2 f.t t2 end its_turn in
     let w2 = with_tenant w id.number (Some t2) s2 in
     let over : IsTenant f.is.loaded.linked x.page_limit z (view s2 t2.place) t2 = subst (λ i. IsTenant f.is.loaded.linked x.page_limit z (view s2 i) t2) (sym lies2.place_is) lies2.is in

@@ -1,7 +1,7 @@
 -- What a turn leaves of the memory of all, by what the instance came to.
 use Rattle.std.proofs.Common.{◌≡◌, ℕ, inl, inr, true, false, sym, subst}
 use Rattle.wh_host_model.specs.declared.plain.TurnEnd.{TurnEnd}
-use Rattle.wh_host_model.specs.Space.Parts.{Space}
+use Rattle.wh_space_model.specs.{Space}
 use Rattle.wh_instance.specs.declared.stages.TurnResult.{TurnResult}
 use Rattle.wh_instance.specs.declared.stages.TurnResult.TheVariants as turned
 use Rattle.wh_space.specs.InstanceSteps.{TakesSteps}

@@ -1,17 +1,11 @@
 -- A memory that is lent to one instance: what a call comes to over what is lent, it comes to over the whole.
 use Rattle.std.proofs.Common.{◌≡◌, ℕ, List, [], length, reverse, sym, ap, subst, ◌∙◌}
 use Rattle.wh_model.specs.declared.memory.Need.{Need}
-use Rattle.wh_model.specs.Format.Syntax.{nothing}
-use Rattle.wh_model.specs.Execution.Store.{Instance, written}
-use Rattle.wh_model.specs.Execution.Configuration.{code, Config, config, trapped}
-use Rattle.wh_model.specs.Execution.Reduction.{After, IsNext}
-use Rattle.wh_model.specs.Execution.Asking.{Asks}
+use Rattle.wh_model.specs.Format.{nothing}
+use Rattle.wh_model.specs.Execution.Store.{Instance}
+use Rattle.wh_model.specs.Execution.{written, code, Config, config, trapped, After, IsNext, Asks, Piece, Call, Invocation, Writes, wrote_all, wrote, Takes, took_all, took}
 use Rattle.wh_model.specs.Execution.Memory.{writing}
-use Rattle.wh_model.specs.Execution.Instance.{Piece}
-use Rattle.wh_model.specs.Execution.Replay.{Call, Invocation}
-use Rattle.wh_model.specs.Execution.Taking.{Writes, wrote_all, wrote, Takes, took_all, took}
-use Rattle.wh_host_model.specs.Host.Worlds.{Rest, Doing, store_with}
-use Rattle.wh_host_model.specs.Host.Turns.{Opens, by_invocation, as_it_was, Computes, Upshot, Proceeds, returns, traps, writes_all, uses_fuel, waits, waits_to_write, has_had_its_turn}
+use Rattle.wh_host_model.specs.Host.{Rest, Doing, store_with, Opens, by_invocation, as_it_was, Computes, Upshot, Proceeds, returns, traps, writes_all, uses_fuel, waits, waits_to_write, has_had_its_turn}
 
 -- from a first memory on, all that calls may lead to has the bytes and the readiness of the whole that it is a part of
 pub record Lent {M N : Type 0} (bytes : M → List ℕ) (ready : M → Need → Type 0) (keeps : M → M → Type 0) (bytes2 : N → List ℕ) (ready2 : N → Need → Type 0) (keeps2 : N → N → Type 0) (f : M → N) (first : M) : Type 0 where

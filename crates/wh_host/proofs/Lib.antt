@@ -4,13 +4,14 @@ mod Lending
 mod Viewing
 mod Turns
 mod Splitting
-mod Spending
+pub mod Spending
 mod BesideTurns
 mod Unmoved
 mod RunnerLists
 mod RunnerTurns
 mod Reaching
 pub mod Hosts
+mod Fields
 mod Requests
 mod Comers
 mod Paged

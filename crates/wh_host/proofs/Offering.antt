@@ -1,15 +1,9 @@
 -- What offers leave of the host for which the code's host stands.
 use Rattle.std.proofs.Common.{ℕ, inl, List, [], ◌∷◌, refl, sym, subst}
-use Rattle.wh_host_model.specs.declared.states.Offer.{Offer}
-use Rattle.wh_host_model.specs.declared.plain.InstId.{InstId}
-use Rattle.wh_host_model.specs.Space.Offers.{OffersOf}
-use Rattle.wh_host_model.specs.Space.Parts.{Space, found_at}
-use Rattle.wh_host_model.specs.Space.Scanning.{Scans}
-use Rattle.wh_host_model.specs.Space.Sound.{IsSound}
-use Rattle.wh_host_model.specs.Host.Events.{epoch, offer}
-use Rattle.wh_host_model.specs.Host.Happens.{OnlyMoves}
-use Rattle.wh_host_model.specs.Host.Spaces.{AllLeftAlone}
-use Rattle.wh_host_model.specs.Host.Worlds.{World}
+use Rattle.wh_space_model.specs.declared.states.Offer.{Offer}
+use Rattle.wh_space_model.specs.declared.plain.InstId.{InstId}
+use Rattle.wh_space_model.specs.{OffersOf, Space, found_at, Scans, IsSound}
+use Rattle.wh_host_model.specs.Host.{epoch, offer, OnlyMoves, AllLeftAlone, World}
 use Rattle.wh_host_model.proofs.Host.Bridges.{offers_leave_all}
 use Rattle.wh_host.specs.Hosting.{HostState, IsHost}
 use Rattle.wh_host.proofs.Paged.{alone_in, alone_on, only_moved, sound_in}

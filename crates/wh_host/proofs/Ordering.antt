@@ -5,9 +5,9 @@ use Rattle.std.specs.List.Sorted.{IsNonDecreasingBy, IsPermutation}
 use Rattle.std.proofs.lemmas.Bool.{cases_lt}
 use Rattle.std.proofs.lemmas.List.Sorted.{All-permutation, sum_by-IsPermutation}
 use Rattle.std.proofs.lemmas.List.Sums.{sum_by-append, sum_by-cons}
-use Rattle.wh_host_model.specs.Frames.{one_if, tally}
-use Rattle.wh_host_model.specs.Host.Worlds.{Tenant}
-use Rattle.wh_host_model.proofs.Tally.{one_other, one_same}
+use Rattle.wh_space_model.specs.{one_if, tally}
+use Rattle.wh_host_model.specs.Host.{Tenant}
+use Rattle.wh_space_model.proofs.Tally.{one_other, one_same}
 use Rattle.wh_host.specs.declared.parts.InstanceRef.{InstanceRef}
 use Rattle.wh_host.specs.InstanceRefs.{ref_at, refs_below, refs_by}
 

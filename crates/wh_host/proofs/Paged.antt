@@ -2,21 +2,14 @@
 use Rattle.std.proofs.Common.{◌≡◌, ◌≢◌, ℕ, zero, suc, ◌⊎◌, inl, Bool, true, false, List, [], ◌∷◌, Option, Some, None, get_or, slice_get, slice_set, refl, sym, subst, ◌∙◌}
 use Rattle.std.specs.Bool.{MatchBool}
 use Rattle.wh_model.specs.declared.memory.Need.{Need}
-use Rattle.wh_host_model.specs.declared.plain.InstId.{InstId}
-use Rattle.wh_host_model.specs.declared.plain.SwapError.{SwapError}
-use Rattle.wh_host_model.specs.Space.Errands.{tickets}
-use Rattle.wh_host_model.specs.Space.Parts.{Occupant, Space, need_of, view, wants}
-use Rattle.wh_host_model.specs.Space.Provide.{FailsToProvide, FailsTruly, Provides, ProvidesTruly}
-use Rattle.wh_host_model.specs.Space.Sound.{IsSound}
-use Rattle.wh_host_model.specs.Space.Tickets.{WaitsForBytes}
-use Rattle.wh_host_model.specs.Host.Events.{Event, provide}
-use Rattle.wh_host_model.specs.Host.Happens.{AwaitsFrame, Happens, IsLive, MovesPages, OnlyMoves, has_failed, moved}
-use Rattle.wh_host_model.specs.Host.Spaces.{AllLeftAlone}
-use Rattle.wh_host_model.specs.Host.Worlds.{Tenant, World, for_device, with_tenant}
+use Rattle.wh_space_model.specs.declared.plain.InstId.{InstId}
+use Rattle.wh_space_model.specs.declared.plain.SwapError.{SwapError}
+use Rattle.wh_space_model.specs.{tickets, Occupant, Space, need_of, view, wants, FailsToProvide, FailsTruly, Provides, ProvidesTruly, IsSound, WaitsForBytes}
+use Rattle.wh_host_model.specs.Host.{Event, provide, AwaitsFrame, IsLive, MovesPages, OnlyMoves, has_failed, moved, AllLeftAlone, Tenant, World, for_device, with_tenant, AllSeeAsMany, IsMisread, SeesAsMany}
+use Rattle.wh_host_model.specs.Host.Happens.{Happens}
 use Rattle.wh_host_model.proofs.Host.Bridges.{failures_leave_all, provisions_leave_all}
 use Rattle.wh_host_model.proofs.Host.Lasting.{frames_are_awaited}
 use Rattle.wh_host_model.proofs.Host.Leaving.{left_then}
-use Rattle.wh_host_model.specs.Host.Misreading.{AllSeeAsMany, IsMisread, SeesAsMany}
 use Rattle.wh_host_model.proofs.Host.AsMany.{failures_see_as_many, provisions_see_as_many}
 use Rattle.wh_machine.specs.MachineRuns.{linked_parts}
 use Rattle.wh_instance.specs.OwnerRequests.{AwaitsNoFrame, FailsTenant, OfAnyTenant}

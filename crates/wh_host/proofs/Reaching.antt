@@ -2,16 +2,11 @@
 use Rattle.std.proofs.Common.{⊎_elim, ◌≡◌, ◌∙◌, ◌⊎◌, inl, inr, ℕ, suc, ◌+◌, ◌-◌, ◌*◌, ◌≤◌, true, List, [], Option, Some, length, slice_get, refl, sym, ap, subst, arith}
 use Rattle.std.proofs.Math.Nat.{one-mul, suc-mul}
 use Rattle.wh_model.specs.declared.memory.Need.{Need}
-use Rattle.wh_model.specs.Execution.Asking.{Asks}
-use Rattle.wh_model.specs.Execution.Configuration.{Config, Term, config}
-use Rattle.wh_model.specs.Execution.Reduction.{After}
-use Rattle.wh_model.specs.Execution.Replay.{Call}
+use Rattle.wh_model.specs.Execution.{Asks, Config, Term, config, After, Call, Takes, took_all, took}
 use Rattle.wh_model.specs.Execution.Store.{Instance}
-use Rattle.wh_model.specs.Execution.Taking.{Takes, took_all, took}
-use Rattle.wh_host_model.specs.declared.plain.InstId.{InstId}
-use Rattle.wh_host_model.specs.Host.Turns.{Opens, as_it_was, Computes, Upshot, to_end, out_of_fuel, to_wait, to_go_on, Proceeds, returns, traps, writes_all, uses_fuel, waits, waits_to_write, has_had_its_turn}
-use Rattle.wh_host_model.specs.Host.Worlds.{Doing, Rest, Tenant, World, computing, store_with, tenant}
-use Rattle.wh_host_model.specs.Space.Parts.{Space, view}
+use Rattle.wh_space_model.specs.declared.plain.InstId.{InstId}
+use Rattle.wh_host_model.specs.Host.{Opens, as_it_was, Computes, Upshot, to_end, out_of_fuel, to_wait, to_go_on, Proceeds, returns, traps, writes_all, uses_fuel, waits, waits_to_write, has_had_its_turn, Doing, Rest, Tenant, World, computing, store_with, tenant}
+use Rattle.wh_space_model.specs.{Space, view}
 use Rattle.wh_instance.specs.Bursts.{AreUsed}
 use Rattle.wh_instance.specs.Tenancy.{HostInstanceState}
 use Rattle.wh_instance.specs.Turned.{IsCame}
@@ -156,8 +151,7 @@ each_takes_some h w q most F m ys ys2 st some run answers k y2 there made t answ
         let l = lies_here h w y.id.place y.id.number x loaded st o.was o.number f.is.is_loaded in
         let lies = l.2 in
         let runs = so.3 loaded f.is.is_loaded l.0 lies in
-        let burst = so.2 in
-        let reach = out_of_reach loaded.linked x.page_limit (y.ran.turns * q) h.space y.id.place x.tenant l.0 y.ran.came y.ran.pieces y.ran.charges y.tenant so.0 runs lies.place_is charges (least_in_all q y.ran.turns y.ran.charges burst.1 some) can in
+        let reach = out_of_reach loaded.linked x.page_limit (y.ran.turns * q) h.space y.id.place x.tenant l.0 y.ran.came y.ran.pieces y.ran.charges y.tenant so.0 runs lies.place_is charges (least_in_all q y.ran.turns y.ran.charges so.2.1 some) can in
         let one : l.0 ≡ t = one_tenant l.0 t (sym l.1 ∙ ap (λ (i : InstId). tenant w i.number) (sym has.0) ∙ live.0) in
         (with_nothing so.0, p.3 so.0 so.1, subst (λ s. IsOutOfReach s t (with_nothing so.0)) st.space (subst (λ z. IsOutOfReach h.space z (with_nothing so.0)) one reach))
 
@@ -172,6 +166,4 @@ each_had_leave h q most F m ys ys2 run answers k y2 there made answered =
         let p = has.1 sits in
         let same : series_end y.ran p.0 ≡ made = one_series (series_end y.ran p.0) made (sym p.1 ∙ answered) in
         let o = run.out.each k y at sits in
-        let so = o.so in
-        let burst = so.2 in
-        subst (λ (z : SeriesEnd). z.turns ≤ z.leave.reads + 1) same burst.2
+        subst (λ (z : SeriesEnd). z.turns ≤ z.leave.reads + 1) same o.so.2.2

@@ -1,19 +1,16 @@
--- The report is that of whatever host the code's stands for.
+-- The report is that of whatever host the code's represents.
 use Rattle.std.proofs.Common.{◌≡◌, ℕ, zero, suc, ◌+◌, ◌++◌, ◌≤◌, Result, Ok, Err, IfOk, Option, Some, None, List, [], ◌∷◌, length, map, take, get_or, slice_get, refl, sym, ap, subst, ◌∙◌, arith, true}
 use Rattle.std.specs.List.{All}
 use Rattle.std.proofs.lemmas.List.{append-nil, append_assoc, map-append}
-use Rattle.wh_host_model.specs.Frames.{one_if, tally}
-use Rattle.wh_host_model.specs.declared.states.Slot.{Slot}
-use Rattle.wh_host_model.specs.declared.states.Slot.TheVariants.{Vacant, Taken, Evicting, EvictVoid, Fetching, FetchVoid}
-use Rattle.wh_host_model.specs.Space.Parts.{Claimed, Occupant, Space, claim_of}
-use Rattle.wh_host_model.specs.Space.Sound.{IsSound, IsUsed}
-use Rattle.wh_host_model.specs.Host.Worlds.{Tenant, World, promised, tenant}
-use Rattle.wh_host_model.proofs.Space.Putting.{there_of}
-use Rattle.wh_host_model.proofs.Tally.{length-le_from_once}
+use Rattle.wh_space_model.specs.{one_if, tally, Claimed, Occupant, Space, claim_of, IsSound, IsUsed}
+use Rattle.wh_space_model.specs.declared.states.Slot.{Slot}
+use Rattle.wh_space_model.specs.declared.states.Slot.TheVariants.{Vacant, Taken, Evicting, EvictVoid, Fetching, FetchVoid}
+use Rattle.wh_host_model.specs.Host.{Tenant, World, promised, tenant, ComesAbout}
+use Rattle.wh_space_model.proofs.Putting.{there_of}
+use Rattle.wh_space_model.proofs.Tally.{length-le_from_once}
 use Rattle.wh_host.specs.declared.parts.InstanceEntry.{InstanceEntry}
 use Rattle.wh_host.specs.declared.parts.InstanceRef.{InstanceRef}
 use Rattle.wh_host.specs.declared.report.InstanceReport.{InstanceReport}
-use Rattle.wh_host_model.specs.Host.Misreading.{ComesAbout}
 use Rattle.wh_host.specs.Hosting.{AreGivenAs, HostState, IsHost, entry_at}
 use Rattle.wh_host.specs.Reporting.{ReportRow, ReportState, ReportsHost, report_with, row_in, rows_in, view_row}
 use Rattle.wh_host.specs.InstanceRefs.{AreInOrder, AreInstanceRefs, CanBeShown, number_at, number_of_entry, refs_by, row_at, row_by, rows_by}
@@ -74,7 +71,7 @@ shares_of t c live is =
     let z : claim_of (Some t) ≡ Some mine = rw live refl in
     ap (λ (k : Claimed). k.shares) (one_value c mine (sym is ∙ z))
 
--- a live instance has at most so many
+-- a live instance has at most n
 shares_few : (w : World) (i : ℕ) (t : Tenant) → ComesAbout w → IsSound w.space → tenant w i ≡ Some t → t.params.shares ≤ 1000000
 shares_few w i t comes sound live =
     let claims = (places w comes).claimed i t live in
@@ -82,17 +79,15 @@ shares_few w i t comes sound live =
     let mine : claim_of (Some o.0) ≡ Some (promised i t.params) = ap claim_of (sym (get_at w.space.occupants t.place (Some o.0) o.1)) ∙ claims in
     let same = shares_of o.0 (promised i t.params) o.2 mine in
     let has = sound.occupants.have t.place (Some o.0) o.1 in
-    let most = has.6 in
-    omega (arith, same, most)
+    omega (arith, same, has.6)
 
 seat_shown : (h : HostState) (w : World) → IsHost h w → (instance_ref : InstanceRef) → IsSeatOf w.tenants instance_ref → CanBeShown h.entries instance_ref
 seat_shown h w st instance_ref of x at =
     let f = st.there instance_ref.number of.0 of.1 in
     let same : f.0 ≡ x = one_value f.0 x (sym f.1 ∙ ap (entry_at h.entries) of.2 ∙ at) in
     let given = ap (λ (z : InstanceEntry). z.given.shares) same in
-    let as_given = f.2.given.shares in
     let few = shares_few w instance_ref.number of.0 st.comes (sound_here h w st) of.1 in
-    omega (arith, given, as_given, few)
+    omega (arith, given, f.2.given.shares, few)
 
 pub all_shown : (h : HostState) (w : World) (instance_refs : List InstanceRef) → IsHost h w → AreInstanceRefs h instance_refs → All (CanBeShown h.entries) instance_refs
 all_shown h w instance_refs st are =

@@ -1,14 +1,14 @@
 -- What calls, ends of calls, epochs, modules and releases leave of the host for which the code's host stands.
 use Rattle.std.proofs.Common.{true, ◌≡◌, ◌≢◌, ℕ, zero, suc, ◌+◌, ◌<◌, ◌⊎◌, ⊎_elim, inl, inr, ◌≤◌, ℤ, Option, Some, None, List, [], ◌∷◌, ◌++◌, length, map, get_or, slice_get, slice_set, refl, sym, ap, subst, ◌∙◌, arith}
 use Rattle.std.proofs.lemmas.List.{get_or-set_other, length-append}
-use Rattle.wh_model.specs.Linking.Accepting.{IsAccepted, IsModule}
+use Rattle.wh_model.specs.Linking.{IsAccepted, IsModule}
 use Rattle.wh_model.specs.declared.faults.FaultKind.{FaultKind}
 use Rattle.wh_model.specs.declared.faults.FaultKind.TheVariants.{Magic, Version, Truncated, SectionOrder, SectionSize, Leb, Utf8, UnknownByte, Float, Unsupported, Limit, CountMismatch, Memory as NoRoom}
 use Rattle.wh_model.specs.declared.faults.ValidKind.{ValidKind}
 use Rattle.wh_model.specs.declared.faults.ValidKind.TheVariants.{BadType, Index, Align, Arity, Const, DuplicateExport, Start, Limits, Height, ConstImmutable, Memory as NoRoomToCheck}
-use Rattle.wh_model.specs.Format.Syntax.{Module}
+use Rattle.wh_model.specs.Format.{Module}
 use Rattle.wh_model.specs.Validity.Valid.{Valid}
-use Rattle.wh_model.specs.Validity.Heights.{Fits}
+use Rattle.wh_model.specs.Validity.{Fits}
 use Rattle.wh_imports.specs.declared.error.LinkError.{LinkError}
 use Rattle.wh_imports.specs.declared.error.LinkError.TheVariants.{NoItem, Memory as NoRoomToLink}
 use Rattle.wh_imports.specs.LinkRefusals.{RefusesLink}
@@ -16,21 +16,12 @@ use Rattle.wh_load.specs.declared.error.LoadError.{LoadError}
 use Rattle.wh_load.specs.declared.error.LoadError.TheVariants.{Decode, Valid as Invalid, Link}
 use Rattle.wh_load.specs.Refusing.{RefusesBytes}
 use Rattle.wh_host.specs.Loading.{IsBytesAnswer, IsLinkAnswer, KeepsModule}
-use Rattle.wh_host_model.specs.declared.plain.InstId.{InstId}
-use Rattle.wh_host_model.specs.Space.Parts.{Space, Occupant, claim, occupant_at, view}
-use Rattle.wh_host_model.specs.Space.Sound.{IsSound}
-use Rattle.wh_host_model.specs.Space.Stores.{Epochs, ended}
-use Rattle.wh_host_model.specs.Space.Places.{Exits}
-use Rattle.wh_host_model.specs.Host.Spaces.{AllLeftAlone, Departs, OthersLeftAlone, WaitsAlone}
-use Rattle.wh_host_model.specs.Space.Sight.{HasNoPins}
-use Rattle.wh_host_model.specs.Host.Worlds.{Tenant, Loaded, World, tenant, with_tenant, promised, loaded_of}
-use Rattle.wh_host_model.specs.Host.OwnerCalls.{IsFirst, Meets, TakesCall, Cancels, ends}
-use Rattle.wh_host_model.specs.Owners.{InvokeFault}
-use Rattle.wh_host_model.specs.Host.Admission.{LoadsModule, LetsGo, module_count, broken, invalid, unlinked, modules_full, decoder_out_of_memory, validator_out_of_memory, linker_out_of_memory, host_out_of_memory}
-use Rattle.wh_host_model.specs.Host.Events.{epoch, invoke, cancel, load, release}
-use Rattle.wh_host_model.specs.Host.Happens.{IsLive, OnlyMoves, IsCancel, is_cancelled, IsInvoke, is_invoked, isnt_invoked, no_memory_to_invoke, invoke_ok, call_ok, LoadAnswer, load_refused, load_out_of_memory, IsLoad, is_loaded, isnt_loaded, no_memory_to_load, load_ok, IsRelease, is_released}
+use Rattle.wh_space_model.specs.declared.plain.InstId.{InstId}
+use Rattle.wh_space_model.specs.{Space, Occupant, claim, occupant_at, view, IsSound, Epochs, ended, Exits, HasNoPins}
+use Rattle.wh_host_model.specs.Host.{AllLeftAlone, Departs, OthersLeftAlone, WaitsAlone, Tenant, Loaded, World, tenant, with_tenant, promised, loaded_of, IsFirst, Meets, TakesCall, Cancels, LoadsModule, LetsGo, module_count, broken, invalid, unlinked, modules_full, decoder_out_of_memory, validator_out_of_memory, linker_out_of_memory, host_out_of_memory, epoch, invoke, cancel, load, release, IsLive, OnlyMoves, IsCancel, is_cancelled, IsInvoke, is_invoked, isnt_invoked, no_memory_to_invoke, invoke_ok, call_ok, LoadAnswer, load_refused, load_out_of_memory, IsLoad, is_loaded, isnt_loaded, no_memory_to_load, load_ok, IsRelease, is_released, ComesAbout}
+use Rattle.wh_host_model.specs.Host.OwnerCalls.{ends}
+use Rattle.wh_host_model.specs.{InvokeFault}
 use Rattle.wh_host_model.proofs.Host.Bridges.{ends_well, epochs_leave_all, exits_depart}
-use Rattle.wh_host_model.specs.Host.Misreading.{ComesAbout}
 use Rattle.wh_host_model.proofs.Host.Lasting.{memory_stays_sound}
 use Rattle.wh_imports.specs.LinkedState.{LinkedState}
 use Rattle.wh_load.specs.Refusing.{view_linked}

@@ -2,15 +2,15 @@
 use Rattle.std.proofs.Common.{◌≡◌, ◌≢◌, ◌∙◌, ◌⊎◌, inl, inr, ℕ, ◌+◌, ◌<◌, ◌≤◌, cond, Bool, true, false, List, [], ◌∷◌, Option, Some, None, length, slice_get, slice_index_or, slice_set, zero, suc, refl, sym, ap, subst, arith}
 use Rattle.std.proofs.lemmas.Bool.{cases_eq, cases_lt}
 use Rattle.wh_overlay.proofs.Marks.{set_there}
-use Rattle.wh_host_model.proofs.Space.Putting.{set_other, there_of}
+use Rattle.wh_space_model.proofs.Putting.{set_other, there_of}
 use Rattle.wh_instance.specs.OwnerRequests.{OfAnyTenant}
 use Rattle.wh_instance.specs.Seen.{IsAtTerm}
-use Rattle.wh_host_model.specs.declared.plain.InstId.{InstId}
+use Rattle.wh_space_model.specs.declared.plain.InstId.{InstId}
 use Rattle.wh_host.specs.declared.parts.InstanceEntry.{InstanceEntry}
 use Rattle.wh_host.specs.declared.rounds.Runner.{Runner}
 use Rattle.wh_host.specs.Hosting.{entry_at}
 use Rattle.wh_overlay.specs.LaidPages.{UpperState}
-use Rattle.wh_host_model.proofs.Space.Sums.{set_tally}
+use Rattle.wh_space_model.proofs.Sums.{set_tally}
 use Rattle.wh_host.specs.Rounds.{AllAreFree, AreTakenOut, RunnersStay, IsFree, IsOut, SitsThere, lent_in, lent_to, lent_to_all}
 use Rattle.wh_host.specs.Joining.{IsLeftOut, IsTakenOut, TakesOut, with_lent}
 use Rattle.wh_host.proofs.Hosts.{one_value, seat_set}
@@ -24,9 +24,6 @@ one_runner y z e = cc e
 pub record EachSoFar (R : Runner → Runner → Type 0) (xs ys : List Runner) (i : ℕ) : Type 0 where
   pub done : (k : ℕ) (z : Runner) → k < i → slice_get ys k ≡ Some z → (y : Runner) × (slice_get xs k ≡ Some y) × R y z
   pub rest : (k : ℕ) (z : Runner) → i ≤ k → slice_get ys k ≡ Some z → slice_get xs k ≡ Some z
-
-pub each_none : (R : Runner → Runner → Type 0) (xs : List Runner) → EachSoFar R xs xs 0
-each_none R xs = record { done = λ k z less there. absurd (omega (arith, less)); rest = λ k z least there. there }
 
 pub each_next : (R : Runner → Runner → Type 0) (xs ys : List Runner) (i : ℕ) (y z : Runner) → EachSoFar R xs ys i → slice_get ys i ≡ Some y → R y z → EachSoFar R xs (slice_set ys i z) (i + 1)
 each_next R xs ys i y z h there so = record {
@@ -319,7 +316,7 @@ lent_most : (n : ℕ) (o : Option UpperState) → lent_in (with_lent n o) ≤ n
 lent_most n None = omega arith
 lent_most n (Some u) = omega arith
 
--- one more has so many at most
+-- one more has n at most
 pub lent_next : (rs : List (Option InstanceEntry)) (ys : List Runner) (i : ℕ) (y : Runner) (n : ℕ) (rs2 : List (Option InstanceEntry)) (y2 : Runner) → slice_get ys i ≡ Some y → TakesOut rs y n rs2 y2 → lent_to_all (slice_set ys i y2) ≤ lent_to_all ys + n
 lent_next rs ys i y n rs2 y2 there (inl s) =
     let sum = lent_set ys i y y2 there in
@@ -339,9 +336,8 @@ lent_all [] (y ∷ ys) same = absurd (let x = same 0 y refl in cc x.1)
 lent_all (x ∷ xs) (y ∷ ys) same =
     let first = same 0 y refl in
     let one = ap (λ (z : Runner). cond z.taken (lent_to z) 0) (one_runner x first.0 first.1) in
-    let is = first.2 in
     let rest = lent_all xs ys (λ k z there. same (suc k) z there) in
-    omega (arith, one, is, rest)
+    omega (arith, one, first.2, rest)
 
 pub at_index : (xs : List Runner) (i : ℕ) (d : Runner) → i < length xs → slice_get xs i ≡ Some (slice_index_or xs i d)
 at_index [] i d less = absurd (omega (arith, less))

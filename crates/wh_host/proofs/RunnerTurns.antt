@@ -1,13 +1,13 @@
 -- The turns of those at the runners of a round, finished one after the other.
 use Rattle.std.proofs.Common.{⊎_elim, ◌≡◌, ◌≢◌, ◌∙◌, inl, inr, ℕ, ◌+◌, ◌*◌, ◌<◌, ◌≤◌, true, false, List, [], ◌∷◌, ◌++◌, Option, Some, None, length, cond, take, slice_get, slice_index_or, slice_set, zero, suc, refl, sym, ap, subst, arith}
 use Rattle.std.proofs.lemmas.Bool.{cases_eq, cases_lt}
-use Rattle.wh_host_model.specs.declared.plain.InstId.{InstId}
-use Rattle.wh_host_model.specs.Host.Worlds.{Tenant, World}
-use Rattle.wh_host_model.specs.Space.Parts.{Claimed, Space, view}
+use Rattle.wh_space_model.specs.declared.plain.InstId.{InstId}
+use Rattle.wh_host_model.specs.Host.{Tenant, World}
+use Rattle.wh_space_model.specs.{Claimed, Space, view}
 use Rattle.wh_instance.specs.Seen.{IsAtTerm}
 use Rattle.wh_instance.specs.Tenancy.{HostInstanceState, IsTenant}
 use Rattle.wh_overlay.specs.LaidBack.{LooksSame}
-use Rattle.wh_host_model.proofs.Space.Putting.{set_other}
+use Rattle.wh_space_model.proofs.Putting.{set_other}
 use Rattle.wh_overlay.proofs.Marks.{set_there}
 use Rattle.wh_imports.specs.LinkedState.{LinkedState}
 use Rattle.wh_space.specs.Steps.{limit_by}
@@ -93,8 +93,7 @@ can_finish_at h s q most w F m ys i k y st there sits =
     let o = z.out in
     let x = o.entry in
     let so = o.so in
-    let loaded = z.loaded in
-    (so.0, so.1, loaded.linked, x.page_limit, s, x.tenant, z.tenant, z.run z.tenant z.lies)
+    (so.0, so.1, z.loaded.linked, x.page_limit, s, x.tenant, z.tenant, z.run z.tenant z.lies)
 
 -- ---- lists of turns
 
@@ -151,10 +150,9 @@ module _ (h : HostState) (s : Space) (q most : ℕ) (w : World) (F : List (Optio
       series_here (host_with h st.before m) st.world y.id q y.ran.turns y.ran.charges entry r.tenant loaded r.end m2 st.host o.was o.number it.is_loaded so.2.1
       (λ t lies.
       (let run = it.run t lies in
-      let c = run.runs.computes in
-      (λ none. (let bad = sym none ∙ c.calls in cc bad), r.finishes.turns so.0 so.1 loaded.linked entry.page_limit s entry.tenant t run)))
+      (λ none. (let bad = sym none ∙ run.runs.computes.calls in cc bad), r.finishes.turns so.0 so.1 loaded.linked entry.page_limit s entry.tenant t run)))
 
-  -- it computes, so that a turn can bring it on
+  -- it computes, so that a turn can run it
   goes : IsGoing st.world y.id
   goes =
       let o = it.out in
@@ -209,9 +207,7 @@ module _ (h : HostState) (s : Space) (q most : ℕ) (w : World) (F : List (Optio
       let f = r.finishes in
       let left_so = subst (λ z. LeavesTurned y.id.place r.end st.world.space z) host.space (subst (λ z. LeavesTurned y.id.place r.end z m2) st.host.space f.memory) in
       let backs = subst (λ z. KeepsBacking st.world.space z) host.space (subst (λ z. KeepsBacking z m2) st.host.space f.backing) in
-      let o = it.out in
-      let so = o.so in
-      let takes : TakesTurns q most st.world y.id (Some made) t.0 = (goes, so.2.0, t.1, left_so, backs) in
+      let takes : TakesTurns q most st.world y.id (Some made) t.0 = (goes, it.out.so.2.0, t.1, left_so, backs) in
       let takes2 = subst (λ a. TakesTurns q most st.world y2.id a t.0) (sym r.answer) (subst (λ (n : InstId). TakesTurns q most st.world n (Some made) t.0) (sym r.id) takes) in
       record {
         before = slice_set st.before y.id.place (Some entry2);
@@ -222,9 +218,7 @@ module _ (h : HostState) (s : Space) (q most : ℕ) (w : World) (F : List (Optio
             (let sum = lent_set ys i y y2 there in
             let had = lent_if y sits in
             let has = lent_none y2 r.free.0 in
-            let all = st.frames in
-            let few = f.frames in
-            omega (arith, sum, had, has, all, few));
+            omega (arith, sum, had, has, st.frames, f.frames));
         host = host;
         turned = subst (λ zs. AllTurn q most w zs t.0) (sym (take_one ys i y2 y there)) (turn_behind q most w st.world t.0 (take i ys) y2 st.turned takes2);
       }
@@ -329,7 +323,7 @@ all_laid h s q most w F m ys i st long free = (
   host_same h st.before F m st.world (λ p. st.out.elsewhere p (λ k y there sits. absurd (let f = free k y there in not_both y sits f.0))) st.host,
 )
 
--- ---- before all are laid back
+-- ---- before all are written back
 
 -- all who are out can run
 pub may_run_all : (h : HostState) (w : World) (F : List (Option InstanceEntry)) (ys : List Runner) → IsHost h w → AreTakenOut h.entries F ys SitsThere → AllMayRun h.modules h.space ys
@@ -438,9 +432,8 @@ heard_all h w q most ys ys2 ys3 st long long2 free all answers k y3 there none t
         let at3 = at_index ys3 j y3 (omega (arith, less, long, long2)) in
         let z3 = slice_index_or ys3 j y3 in
         let a = answers j z3 at3 in
-        let b = a.0 in
         let r = all j a.0 a.1 in
         let runs = r.2 in
         let e = one_runner r.0 z (sym r.1 ∙ at) in
         let m = a.2.1 (runs.taken ∙ ap (λ (x : Runner). x.taken) e ∙ sits) in
-        (j, z3, at3, a.2.0 ∙ runs.id ∙ ap (λ (x : Runner). x.id) e ∙ same, series_end b.ran m.0, m.1)
+        (j, z3, at3, a.2.0 ∙ runs.id ∙ ap (λ (x : Runner). x.id) e ∙ same, series_end a.0.ran m.0, m.1)

@@ -1,13 +1,11 @@
 -- What the code has of an instance is its transcript.
 use Rattle.std.proofs.Common.{◌≡◌, ◌≤◌, ℕ, List, Some, length, slice_get, refl, sym, ap, subst, ◌∙◌}
-use Rattle.wh_model.specs.Linking.Accepting.{IsAccepted}
-use Rattle.wh_model.specs.Execution.Instance.{begins, IsInitial}
+use Rattle.wh_model.specs.Linking.{IsAccepted}
+use Rattle.wh_model.specs.Execution.{begins, IsInitial}
 use Rattle.wh_model.specs.Execution.Replay.{Replay}
-use Rattle.wh_host_model.specs.Space.Parts.{view, wants}
-use Rattle.wh_host_model.specs.Host.Worlds.{Loaded, Tenant, World, journal, journal_calls, standing_in, store_in, tenant, loaded_of}
-use Rattle.wh_host_model.specs.Owners.{Params, given_of}
-use Rattle.wh_host_model.specs.Host.Journals.{InOrder}
-use Rattle.wh_host_model.specs.Host.Suspensions.{FirstWaitsDuly}
+use Rattle.wh_space_model.specs.{view, wants}
+use Rattle.wh_host_model.specs.Host.{Loaded, Tenant, World, journal, journal_calls, standing_in, store_in, tenant, loaded_of, InOrder, FirstWaitsDuly}
+use Rattle.wh_host_model.specs.{Params, given_of}
 use Rattle.wh_host_model.proofs.Host.Copied.{copied_calls_have_ended}
 use Rattle.wh_host_model.proofs.Host.Lasting.{inputs_stay}
 use Rattle.wh_host_model.proofs.Host.Holding.{instances_replay, journals_are_in_order, suspensions_are_right}
@@ -67,7 +65,6 @@ replays_there w place i x m run f =
     let u = suspensions_are_right run.frames run.slots run.tax run.events w run.happen i f.t f.live in
     let known = f.of in
     let given = f.given in
-    let over = f.over in
     let shows = f.shows in
     let mine : r.loaded ≡ loaded_as m = one_value r.loaded (loaded_as m) (sym r.is_loaded ∙ known) in
     let theirs : o.loaded ≡ loaded_as m = one_value o.loaded (loaded_as m) (sym o.is_loaded ∙ known) in
@@ -93,5 +90,5 @@ replays_there w place i x m run f =
       doing = f.t.doing;
       replay = subst (λ p. Replay (view_linked m.linked) (given_of p) (journal_calls (journal f.t)) (standing_in w.space f.t)) (sym given) replay;
       wanted = wants w.space f.t.place;
-      stands = subst (λ o. FirstWaitsDuly f.t.inst (store_in w.space f.t) f.t.doing f.t.open_calls (wants w.space f.t.place) o) over.waiting_for u;
+      stands = subst (λ o. FirstWaitsDuly f.t.inst (store_in w.space f.t) f.t.doing f.t.open_calls (wants w.space f.t.place) o) f.over.waiting_for u;
     }

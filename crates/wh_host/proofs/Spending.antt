@@ -1,101 +1,59 @@
--- What an instance that is finished has taken, as its journal says.
-use Rattle.std.proofs.Common.{◌≡◌, ◌≢◌, ◌∙◌, ℕ, suc, ◌+◌, ◌&&◌, Bool, true, false, cond, List, [], ◌∷◌, ◌++◌, Option, Some, None, length, map, option_map, slice_get, refl, sym, ap, subst, arith, append_assoc}
-use Rattle.wh_host_model.specs.Host.Worlds.{Tenant, journal}
-use Rattle.wh_host_model.specs.Owners.{Entry}
-use Rattle.wh_imports.specs.LinkedState.{LinkedState}
-use Rattle.wh_journal.specs.Calls.{JournalCallState, JournalState, with_end, with_progress}
-use Rattle.wh_journal.specs.declared.calls.CallEnd.{CallEnd}
-use Rattle.wh_journal.specs.declared.calls.CallEnd.TheVariants as end
-use Rattle.wh_instance.specs.Settling.{IsFinished, brought_on, is_fatal, is_fault, settled_to}
-use Rattle.wh_instance.specs.Tenancy.{HostInstanceState, IsTenant, RepresentsEach}
-use Rattle.wh_instance.specs.declared.computing.TurnOutcome.{TurnOutcome}
-use Rattle.wh_instance.specs.declared.computing.TurnOutcome.TheVariants.{Returned, Trapped, Fuel, Frame, Again}
-use Rattle.wh_instance.specs.declared.stages.CallStage.TheVariants.{Faced}
-use Rattle.wh_instance.specs.declared.stages.TurnResult.{TurnResult}
-use Rattle.wh_instance.proofs.Told.{join_each}
-use Rattle.wh_host.specs.Series.{Spends}
-use Rattle.wh_host.proofs.Charges.{charges_there}
+-- What a turn takes of the charges of an instance, as its journal says.
+use Rattle.std.proofs.Common.{◌≡◌, ◌∙◌, ℕ, ◌+◌, ◌≤◌, List, [], ◌∷◌, ◌++◌, Option, Some, length, map, slice_get, refl, sym, ap, arith, append_assoc, append-nil}
+use Rattle.wh_model.specs.declared.memory.Need.{Need}
+use Rattle.wh_model.specs.Execution.{Call, dead}
+use Rattle.wh_model.specs.Execution.Store.{Instance}
+use Rattle.wh_host_model.specs.Host.{gone_further, gone_on, ended_by, Closes, faces_next, is_dead, Proceeds, Upshot, returns, traps, writes_all, uses_fuel, waits, waits_to_write, has_had_its_turn, Doing, Rest, Suspension, Tenant, journal}
+use Rattle.wh_host_model.specs.{Entry}
+use Rattle.wh_space_model.specs.{Space}
+use Rattle.wh_host.specs.Series.{Spends, charges_each}
 
--- ---- as the code has it
+pub at_seam : (xs ys : List Entry) (e : Entry) → slice_get (xs ++ e ∷ ys) (length xs) ≡ Some e
+at_seam [] ys e = refl
+at_seam (x ∷ xs) ys e = at_seam xs ys e
 
-abbrev pub all_calls : HostInstanceState → List JournalCallState
-all_calls x = x.journal.ended ++ x.journal.open_calls
+-- charges are within the turn
+pub within_turn : {M : Type 0} {bytes : M → List ℕ} {ready : M → Need → Type 0} {keeps : M → M → Type 0} {inst : Instance} {q k n : ℕ} (call : Call) {m m2 : M} {r r2 : Rest} {d d2 : Doing} {to : Upshot} → Proceeds bytes ready keeps inst q call m r d to k n m2 r2 d2 → n ≤ q
+within_turn call (returns x typed) = x.in_turn
+within_turn call (traps x) = x.in_turn
+within_turn call (writes_all d func w) = omega arith
+within_turn call (uses_fuel x next all) = x.in_turn
+within_turn call (waits x next some asks never) = x.in_turn
+within_turn call (waits_to_write d w never) = omega arith
+within_turn call (has_had_its_turn x next all some at_hand) = x.in_turn
 
-abbrev pub charges_at : List JournalCallState → ℕ → Option ℕ
-charges_at cs i = option_map (λ (c : JournalCallState). c.charges) (slice_get cs i)
+-- the present call goes further, and may end
+pub spends_on : (n : ℕ) (t t2 : Tenant) (e f : Entry) (es fs : List Entry) → t.open_calls ≡ e ∷ es → journal t2 ≡ t.ended ++ f ∷ fs → f.call.charges ≡ e.call.charges + n → charges_each fs ≡ charges_each es → Spends n t t2
+spends_on n t t2 e f es fs there now more rest = record {
+  idle = λ none. absurd (let bad = sym none ∙ there in cc bad);
+  present = λ g gs here.
+      (let same : e ≡ g = cc (sym there ∙ here) in
+      let same_rest : es ≡ gs = cc (sym there ∙ here) in
+      (f, fs, now, more ∙ ap (λ (x : Entry). x.call.charges + n) same, rest ∙ ap charges_each same_rest));
+}
 
-at_seam : {X : Type 0} (xs ys : List X) (x : X) → slice_get (xs ++ x ∷ ys) (length xs) ≡ Some x
-at_seam [] ys x = refl
-at_seam (z ∷ xs) ys x = at_seam xs ys x
+pub spends_further : (t : Tenant) (e : Entry) (es : List Entry) (k n : ℕ) (r : Rest) (d : Doing) (o : Option Suspension) → t.open_calls ≡ e ∷ es → Spends n t (gone_on t (gone_further e k n) es r d o)
+spends_further t e es k n r d o there = spends_on n t (gone_on t (gone_further e k n) es r d o) e (gone_further e k n) es es there refl refl refl
 
-seam_charges : (xs ys : List JournalCallState) (c : JournalCallState) → charges_at (xs ++ c ∷ ys) (length xs) ≡ Some c.charges
-seam_charges xs ys c = ap (option_map (λ (z : JournalCallState). z.charges)) (at_seam xs ys c)
+dead_each : (es : List Entry) → charges_each (map (λ (w : Entry). ended_by w dead) es) ≡ charges_each es
+dead_each [] = refl
+dead_each (e ∷ es) = ap (λ ns. e.call.charges ∷ ns) (dead_each es)
 
-closed_charges : (b : Bool) (x : HostInstanceState) (how : CallEnd) (c : JournalCallState) (cs : List JournalCallState)
-    → charges_at (all_calls (cond b
-    (record x {
-      journal = record { ended = x.journal.ended ++ with_end c how ∷ map (λ w. with_end w end.Dead) cs; open_calls = [] };
-      progress = Faced;
-      waiting_for = None;
-      dead = true;
-    })
-    (record x { journal = record { ended = x.journal.ended ++ with_end c how ∷ []; open_calls = cs }; progress = Faced; waiting_for = None }))) (length x.journal.ended) ≡ Some c.charges
-closed_charges true x how c cs =
-    ap (λ zs. charges_at zs (length x.journal.ended)) (append_assoc x.journal.ended (with_end c how ∷ map (λ w. with_end w end.Dead) cs) []) ∙ seam_charges x.journal.ended (map (λ w. with_end w end.Dead) cs ++ []) (with_end c how)
-closed_charges false x how c cs =
-    ap (λ zs. charges_at zs (length x.journal.ended)) (append_assoc x.journal.ended (with_end c how ∷ []) cs) ∙ seam_charges x.journal.ended cs (with_end c how)
+-- where it has ended, the journal is that with its end
+pub closed_at : {s : Space} {t t2 : Tenant} {e : Entry} {es : List Entry} {r : Rest} → Closes s t e es r t2 → (fs : List Entry) × (journal t2 ≡ t.ended ++ e ∷ fs) × (charges_each fs ≡ charges_each es)
+closed_at {t = t} {e = e} {es = es} (faces_next alive f) = (es, append_assoc t.ended (e ∷ []) es, refl)
+closed_at {t = t} {e = e} {es = es} (is_dead died) =
+    let fs = map (λ (w : Entry). ended_by w dead) es in
+    (fs ++ [], append_assoc t.ended (e ∷ fs) [], ap charges_each (append-nil fs) ∙ dead_each es)
 
-open_charges : (x : HostInstanceState) (c : JournalCallState) (cs : List JournalCallState) → x.journal.open_calls ≡ c ∷ cs → charges_at (all_calls x) (length x.journal.ended) ≡ Some c.charges
-open_charges x c cs is = ap (λ zs. charges_at (x.journal.ended ++ zs) (length x.journal.ended)) is ∙ seam_charges x.journal.ended cs c
+pub spends_closed : (n : ℕ) (t t2 : Tenant) (e f : Entry) (es : List Entry) {s : Space} {r : Rest} → t.open_calls ≡ e ∷ es → Closes s t f es r t2 → f.call.charges ≡ e.call.charges + n → Spends n t t2
+spends_closed n t t2 e f es there closes more =
+    let j = closed_at closes in
+    spends_on n t t2 e f es j.0 there j.1 more j.2
 
-again_charges : (b : Bool) (x : HostInstanceState) (c : JournalCallState) (cs : List JournalCallState) → x.journal.open_calls ≡ c ∷ cs → charges_at (all_calls (cond b x (record x { waiting_for = None }))) (length x.journal.ended) ≡ Some c.charges
-again_charges true x c cs is = open_charges x c cs is
-again_charges false x c cs is = open_charges x c cs is
-
-settled_charges : (x : HostInstanceState) (came : TurnOutcome) (still : Bool) (c : JournalCallState) (cs : List JournalCallState) → x.journal.open_calls ≡ c ∷ cs → charges_at (all_calls (settled_to x came still c cs)) (length x.journal.ended) ≡ Some c.charges
-settled_charges x (Returned result) still c cs is = closed_charges (is_fatal x.journal.ended (end.Returned result)) x (end.Returned result) c cs
-settled_charges x (Trapped trap) still c cs is = closed_charges (is_fatal x.journal.ended (end.Trapped trap)) x (end.Trapped trap) c cs
-settled_charges x Fuel still c cs is = open_charges x c cs is
-settled_charges x (Frame need) still c cs is = open_charges x c cs is
-settled_charges x Again still c cs is = again_charges (still && is_fault x.waiting_for) x c cs is
-
--- ---- as the host's definitions have it
-
-each_long : (cs : List JournalCallState) (es : List Entry) → RepresentsEach cs es → length cs ≡ length es
-each_long [] [] h = refl
-each_long [] (e ∷ es) h = absurd h
-each_long (c ∷ cs) [] h = absurd h
-each_long (c ∷ cs) (e ∷ es) h = ap suc (each_long cs es h.1)
-
-first_code : (cs : List JournalCallState) (e : Entry) (es : List Entry) → RepresentsEach cs (e ∷ es) → (c : JournalCallState) × (ds : List JournalCallState) × (cs ≡ c ∷ ds)
-first_code [] e es h = absurd h
-first_code (c ∷ cs) e es h = (c, cs, refl)
-
-entry_with : (there : Option Entry) (n : ℕ) → Some n ≡ option_map (λ (e : Entry). e.call.charges) there → (e : Entry) × (there ≡ Some e) × (e.call.charges ≡ n)
-entry_with None n is = absurd (cc is)
-entry_with (Some e) n is = (e, refl, let back : n ≡ e.call.charges = cc is in sym back)
-
--- An instance that stood for the one, and was finished after so many charges, stands for one of which the present call has taken them.
-pub spends_finished : (l : LinkedState) (limit k n : ℕ) (x x1 x3 : HostInstanceState) (bytes bytes2 : List ℕ) (t t2 : Tenant) (came : TurnOutcome) (made : TurnResult) → IsTenant l limit x bytes t → IsTenant l limit x3 bytes2 t2 → t.open_calls ≢ [] → x1.journal ≡ x.journal
-    → ((c : JournalCallState) (cs : List JournalCallState) → x1.journal.open_calls ≡ c ∷ cs → IsFinished x1 came k n c cs made x3) → Spends n t t2
-spends_finished l limit k n x x1 x3 bytes bytes2 t t2 came made was now some stays finished = record {
-  idle = λ none. absurd (some none);
-  present = λ e es there.
-      (let f = first_code x.journal.open_calls e es (subst (RepresentsEach x.journal.open_calls) there was.open_calls) in
-      let c = f.0 in
-      let cs = f.1 in
-      let is_open : x1.journal.open_calls ≡ c ∷ cs = ap (λ (j : JournalState). j.open_calls) stays ∙ f.2 in
-      let done = finished c cs is_open in
-      let long : length x1.journal.ended ≡ length t.ended = ap (λ (j : JournalState). length j.ended) stays ∙ each_long x.journal.ended t.ended was.ended in
-      let code : charges_at (all_calls x3) (length x1.journal.ended) ≡ Some (c.charges + n) = ap (λ z. charges_at (all_calls z) (length x1.journal.ended)) done.leaves ∙ settled_charges (brought_on x1 c cs k n) came done.still (with_progress c k n) cs refl in
-      let told = charges_there (all_calls x3) (journal t2) (length t.ended) (join_each x3.journal.ended x3.journal.open_calls t2.ended t2.open_calls now.ended now.open_calls) in
-      let both = sym code ∙ ap (charges_at (all_calls x3)) long ∙ told in
-      let e2 = entry_with (slice_get (journal t2) (length t.ended)) (c.charges + n) both in
-      let first = charges_there (all_calls x) (journal t) (length t.ended) (join_each x.journal.ended x.journal.open_calls t.ended t.open_calls was.ended was.open_calls) in
-      let mine : charges_at (all_calls x) (length t.ended) ≡ Some c.charges = ap (charges_at (all_calls x)) (sym (each_long x.journal.ended t.ended was.ended)) ∙ open_charges x c cs f.2 in
-      let its : slice_get (journal t) (length t.ended) ≡ Some e = ap (λ zs. slice_get (t.ended ++ zs) (length t.ended)) there ∙ at_seam t.ended es e in
-      let same : Some c.charges ≡ Some e.call.charges = sym mine ∙ first ∙ ap (option_map (λ (z : Entry). z.call.charges)) its in
-      let charges : c.charges ≡ e.call.charges = cc same in
-      let is = e2.2 in
-      (e2.0, e2.1, omega (arith, is, charges)));
+-- nothing was done
+pub spends_none : (n : ℕ) (t : Tenant) → n ≡ 0 → Spends n t t
+spends_none n t nothing = record {
+  idle = λ none. (nothing, refl);
+  present = λ e es there. (e, es, ap (λ (xs : List Entry). t.ended ++ xs) there, omega (arith, nothing), refl);
 }

@@ -1,35 +1,25 @@
--- A turn of more charges than some is a turn of so many, and one of the rest.
-use Rattle.std.proofs.Common.{◌≡◌, ◌≢◌, ◌∙◌, ◌⊎◌, inl, inr, ℕ, zero, suc, ◌+◌, ◌*◌, ◌-◌, ◌<◌, ◌≤◌, List, [], ◌∷◌, ◌++◌, Option, Some, None, length, map, reverse, slice_get, slice_set, get_or, refl, sym, ap, subst, arith, append_assoc}
+-- A turn of more charges than some is a turn of n, and one of the rest.
+use Rattle.std.proofs.Common.{◌≡◌, ◌≢◌, ◌∙◌, ◌⊎◌, inl, inr, ℕ, zero, suc, ◌+◌, ◌*◌, ◌-◌, ◌<◌, ◌≤◌, List, [], ◌∷◌, ◌++◌, Option, Some, None, length, reverse, slice_get, slice_set, get_or, refl, sym, ap, subst, arith}
 use Rattle.std.proofs.Math.Nat.{one-mul, suc-mul, zero-mul}
 use Rattle.wh_model.specs.declared.memory.Need.{Need}
 use Rattle.wh_model.specs.declared.Trap.{Trap}
-use Rattle.wh_model.specs.Format.Syntax.{Code, nothing}
-use Rattle.wh_model.specs.Execution.Store.{Value, Instance, Store, FuncInst}
-use Rattle.wh_model.specs.Execution.Configuration.{Term, code, Config, config, trapped, store_of}
-use Rattle.wh_model.specs.Execution.Rules.{Base, pure, traps as stops, get_local, set_local, tee_local, get_global, set_global, load_bytes, store_bytes, size_pages, grow_pages, grow_too_far, invoke, Invokes, enter, too_deep, input, put, put_full, emit, emit_long, emit_beyond, emit_full}
-use Rattle.wh_model.specs.Execution.Reduction.{Reduces, base, in_label, in_frame, trap_label, trap_frame, leave_label, leave_frame, branch, returns as reduces_return, Leads, stays, goes_on, IsSettled, After, IsNext}
-use Rattle.wh_model.specs.Execution.Asking.{Asks}
-use Rattle.wh_model.specs.Execution.Replay.{returned, stopped, Call, dead}
-use Rattle.wh_model.specs.Execution.Taking.{Takes, took_all, took}
+use Rattle.wh_model.specs.Format.{Code, nothing}
+use Rattle.wh_model.specs.Execution.Store.{Instance, Store}
+use Rattle.wh_model.specs.Execution.{Value, FuncInst, Term, code, Config, config, trapped, store_of, Base, pure, traps as stops, get_local, set_local, tee_local, get_global, set_global, load_bytes, store_bytes, size_pages, grow_pages, grow_too_far, invoke, Invokes, enter, too_deep, input, put, put_full, emit, emit_long, emit_beyond, emit_full, Reduces, base, in_label, in_frame, trap_label, trap_frame, leave_label, leave_frame, branch, returns as reduces_return, Leads, stays, goes_on, IsSettled, After, IsNext, Asks, returned, stopped, Call, Takes, took_all, took}
 use Rattle.wh_model.proofs.Opened.{opened_store}
 use Rattle.wh_host_model.specs.declared.plain.TurnEnd.{TurnEnd}
 use Rattle.wh_host_model.specs.declared.plain.TurnEnd.TheVariants.{Again}
-use Rattle.wh_host_model.specs.Space.Parts.{Space, Claimed, claim, promise_at}
-use Rattle.wh_host_model.specs.Space.Sound.{IsSound}
-use Rattle.wh_host_model.specs.Space.Stores.{ended}
+use Rattle.wh_space_model.specs.{Space, Claimed, claim, promise_at, IsSound, ended}
 use Rattle.wh_host_model.proofs.Host.Bridges.{ends_well}
-use Rattle.wh_host_model.proofs.Space.Sent.{set_set}
+use Rattle.wh_space_model.proofs.Sent.{set_set}
 use Rattle.wh_host_model.proofs.Host.Opening.{proceeds_apart}
-use Rattle.wh_host_model.specs.Host.Spaces.{StepsAlone, WaitsAlone, KeepsPromise}
-use Rattle.wh_host_model.specs.Host.Worlds.{Rest, Doing, resting, computing, Tenant, journal, store_with, Suspension, for_frame, for_fuel, World, with_tenant}
-use Rattle.wh_host_model.specs.Host.Turns.{Opens, by_invocation, as_it_was, Computes, HaveTypes, Upshot, to_end, out_of_fuel, to_wait, to_go_on, Proceeds, returns, traps, writes_all, uses_fuel, waits, waits_to_write, has_had_its_turn}
-use Rattle.wh_host_model.specs.Host.CallAnswers.{gone_further, gone_on, ended_by, Closes, faces_next, is_dead, at_frame, ProceedsIn, Turn, is_idle, has_ended, has_no_fuel, has_no_frame, can_go_on, keeps_its_fault}
-use Rattle.wh_host_model.specs.Owners.{Entry}
-use Rattle.wh_host_model.specs.declared.plain.InstId.{InstId}
-use Rattle.wh_host_model.specs.Host.Happens.{IsLive, of_one}
+use Rattle.wh_host_model.specs.Host.{StepsAlone, WaitsAlone, KeepsPromise, Rest, Doing, resting, computing, Tenant, journal, store_with, Suspension, for_frame, for_fuel, World, with_tenant, Opens, by_invocation, as_it_was, Computes, HaveTypes, Upshot, to_end, out_of_fuel, to_wait, to_go_on, Proceeds, returns, traps, writes_all, uses_fuel, waits, waits_to_write, has_had_its_turn, gone_further, gone_on, ended_by, Closes, faces_next, is_dead, at_frame, ProceedsIn, Turn, is_idle, has_ended, has_no_fuel, has_no_frame, can_go_on, keeps_its_fault, IsLive, of_one}
+use Rattle.wh_host_model.specs.{Entry}
+use Rattle.wh_space_model.specs.declared.plain.InstId.{InstId}
 use Rattle.wh_host.proofs.Turns.{claimed_there}
 use Rattle.wh_instance.specs.Bursts.{AreUsed}
-use Rattle.wh_host.specs.Series.{HasSpent, IsWholeOrCut, SeriesOf, Spends, last_turn, turn_before}
+use Rattle.wh_host.specs.Series.{HasSpent, IsWholeOrCut, SeriesOf, Spends, charges_each, last_turn, turn_before}
+use Rattle.wh_host.proofs.Spending.{at_seam, closed_at, spends_on}
 
 -- ---- no frame is around what a call computes
 
@@ -86,7 +76,7 @@ trapped_has_none next = trapped_stays next.1
 
 -- ---- chains of steps
 
--- A chain of more than some steps: so many lead to where a charged reduction is next, whose bytes are ready, and the rest leads on
+-- A chain of more than some steps: n lead to where a charged reduction is next, whose bytes are ready, and the rest leads on
 -- from any memory that is as good.
 record Cut {M : Type 0} (bytes : M → List ℕ) (ready : M → Need → Type 0) (keeps : M → M → Type 0) (inst : Instance) (m : M) (c : Config) (n k : ℕ) (m2 : M) (c2 : Config) : Type 0 where
   mid : M
@@ -128,7 +118,7 @@ next_of (goes_on (suc (suc k)) n x r) e settled = absurd (omega (arith, e))
 
 -- ---- a call comes so far in two turns
 
--- the call after so many pieces and charges
+-- the call after n pieces and charges
 abbrev pub later : Call → ℕ → ℕ → Call
 later call k n = record call { fragments = call.fragments + k; charges = call.charges + n }
 
@@ -175,7 +165,6 @@ stands_at {bytes = bytes} {ready = ready} {keeps = keeps} {inst = inst} {q = q} 
         let there : bytes z.mid ≡ s.bytes = z.there ∙ ap (λ (c : Config). (store_of c).bytes) is in
         let r1 = rest_of s in
         let same : z.at ≡ config (store_with (bytes z.mid) r1) [] term = is ∙ ap (λ (g : List Value). config s g term) none ∙ ap (λ (b : List ℕ). config (store_with b r1) [] term) (sym there) in
-        let few = x.in_turn in
         let fuel = x.in_fuel in
         record {
           mid = z.mid;
@@ -189,7 +178,7 @@ stands_at {bytes = bytes} {ready = ready} {keeps = keeps} {inst = inst} {q = q} 
             opened = z.at;
             opens = as_it_was (subst (λ (b : List ℕ). After inst (config (store_with b r1) [] term) 0 z.at) (sym sees) (subst (λ c. After inst c 0 z.at) same (stays, z.settled)));
             takes = z.rest from good keep;
-            in_turn = omega (arith, few);
+            in_turn = omega (arith, x.in_turn);
             in_fuel = omega (arith, fuel);
           };
         }
@@ -205,58 +194,36 @@ halves : {M : Type 0} {bytes : M → List ℕ} {ready : M → Need → Type 0} {
 halves {bytes = bytes} {ready = ready} {keeps = keeps} {inst = inst} {call = call} {m = m} {r = r} {d = d} q more n is (returns {k = k} {m2 = m2} {r2 = r2} {vs = vs} x typed) =
     let c = config (store_with (bytes m2) r2) [] (code (reverse vs) nothing) in
     let x2 = subst (λ i. Computes bytes ready keeps inst (q + more) call m r d k i m2 c) is x in
-    let fuel = x2.in_fuel in
-    first_half (stands_at x2) (omega (arith, fuel)) (to_end (returned vs)) r2 resting (λ from r1 d1 y. returns y (typed_later k q typed))
+    first_half (stands_at x2) (omega (arith, x2.in_fuel)) (to_end (returned vs)) r2 resting (λ from r1 d1 y. returns y (typed_later k q typed))
 halves {bytes = bytes} {ready = ready} {keeps = keeps} {inst = inst} {call = call} {m = m} {r = r} {d = d} q more n is (traps {k = k} {m2 = m2} {r2 = r2} {x = trap} x) =
     let c = trapped (store_with (bytes m2) r2) trap in
     let x2 = subst (λ i. Computes bytes ready keeps inst (q + more) call m r d k i m2 c) is x in
-    let fuel = x2.in_fuel in
-    first_half (stands_at x2) (omega (arith, fuel)) (to_end (stopped trap)) r2 resting (λ from r1 d1 y. traps y)
+    first_half (stands_at x2) (omega (arith, x2.in_fuel)) (to_end (stopped trap)) r2 resting (λ from r1 d1 y. traps y)
 halves q more n is (writes_all a b w) = absurd (omega (arith, is))
 halves {bytes = bytes} {ready = ready} {keeps = keeps} {inst = inst} {call = call} {m = m} {r = r} {d = d} q more n is (uses_fuel {k = k} {m2 = m2} {r2 = r2} {term = term} x next all) =
     let c = config (store_with (bytes m2) r2) [] term in
     let x2 = subst (λ i. Computes bytes ready keeps inst (q + more) call m r d k i m2 c) is x in
-    let fuel = x2.in_fuel in
-    first_half (stands_at x2) (omega (arith, fuel)) out_of_fuel r2 (computing term) (λ from r1 d1 y. uses_fuel y next (omega (arith, all, is)))
+    first_half (stands_at x2) (omega (arith, x2.in_fuel)) out_of_fuel r2 (computing term) (λ from r1 d1 y. uses_fuel y next (omega (arith, all, is)))
 halves {bytes = bytes} {ready = ready} {keeps = keeps} {inst = inst} {call = call} {m = m} {r = r} {d = d} q more n is (waits {k = k} {m2 = m2} {r2 = r2} {term = term} {need = need} x next left asks never) =
     let c = config (store_with (bytes m2) r2) [] term in
     let x2 = subst (λ i. Computes bytes ready keeps inst (q + more) call m r d k i m2 c) is x in
-    let fuel = x2.in_fuel in
-    first_half (stands_at x2) (omega (arith, fuel)) (to_wait need) r2 (computing term) (λ from r1 d1 y. waits y next (omega (arith, left, is)) asks never)
+    first_half (stands_at x2) (omega (arith, x2.in_fuel)) (to_wait need) r2 (computing term) (λ from r1 d1 y. waits y next (omega (arith, left, is)) asks never)
 halves q more n is (waits_to_write a w never) = absurd (omega (arith, is))
 halves {bytes = bytes} {ready = ready} {keeps = keeps} {inst = inst} {call = call} {m = m} {r = r} {d = d} q more n is (has_had_its_turn {k = k} {m2 = m2} {r2 = r2} {term = term} x next all left asked) =
     let c = config (store_with (bytes m2) r2) [] term in
     let x2 = subst (λ i. Computes bytes ready keeps inst (q + more) call m r d k i m2 c) is x in
-    let fuel = x2.in_fuel in
-    first_half (stands_at x2) (omega (arith, fuel)) to_go_on r2 (computing term) (λ from r1 d1 y. has_had_its_turn y next (omega (arith, all, is)) (omega (arith, left, is)) asked)
+    first_half (stands_at x2) (omega (arith, x2.in_fuel)) to_go_on r2 (computing term) (λ from r1 d1 y. has_had_its_turn y next (omega (arith, all, is)) (omega (arith, left, is)) asked)
 
 -- ---- two turns
 
-at_seam : (xs ys : List Entry) (e : Entry) → slice_get (xs ++ e ∷ ys) (length xs) ≡ Some e
-at_seam [] ys e = refl
-at_seam (x ∷ xs) ys e = at_seam xs ys e
-
-pub spends_on : (n : ℕ) (t t2 : Tenant) (e f : Entry) (es fs : List Entry) → t.open_calls ≡ e ∷ es → journal t2 ≡ t.ended ++ f ∷ fs → f.call.charges ≡ e.call.charges + n → Spends n t t2
-spends_on n t t2 e f es fs there now more = record {
-  idle = λ none. absurd (let bad = sym none ∙ there in cc bad);
-  present = λ g gs here.
-      (let same : e ≡ g = cc (sym there ∙ here) in
-      (f, ap (λ (xs : List Entry). slice_get xs (length t.ended)) now ∙ at_seam t.ended fs f, more ∙ ap (λ (x : Entry). x.call.charges + n) same));
-}
-
--- so many it has taken
+-- n it has taken
 as_spent : (n i : ℕ) (t t2 : Tenant) (e f : Entry) (es fs : List Entry) → t.open_calls ≡ e ∷ es → journal t2 ≡ t.ended ++ f ∷ fs → f.call.charges ≡ e.call.charges + i → Spends n t t2 → i ≡ n
 as_spent n i t t2 e f es fs there now more spends =
     let s = spends.present e es there in
-    let both : Some f ≡ Some s.0 = sym (at_seam t.ended fs f) ∙ ap (λ (xs : List Entry). slice_get xs (length t.ended)) (sym now) ∙ s.1 in
+    let both : Some f ≡ Some s.0 = sym (at_seam t.ended fs f) ∙ ap (λ (xs : List Entry). slice_get xs (length t.ended)) (sym now ∙ s.2) ∙ at_seam t.ended s.1 s.0 in
     let same : f ≡ s.0 = cc both in
-    let is = s.2 in
     let charges = ap (λ (x : Entry). x.call.charges) same in
-    omega (arith, more, is, charges)
-
-closed_at : {s : Space} {t t2 : Tenant} {e : Entry} {es : List Entry} {r : Rest} → Closes s t e es r t2 → (fs : List Entry) × (journal t2 ≡ t.ended ++ e ∷ fs)
-closed_at {t = t} {e = e} {es = es} (faces_next alive f) = (es, append_assoc t.ended (e ∷ []) es)
-closed_at {t = t} {e = e} {es = es} (is_dead died) = (map (λ (w : Entry). ended_by w dead) es ++ [], append_assoc t.ended (e ∷ map (λ (w : Entry). ended_by w dead) es) [])
+    omega (arith, more, s.3, charges)
 
 takes_sound : {bytes : Space → List ℕ} {ready : Space → Need → Type 0} {i : ℕ} {inst : Instance} {n : ℕ} {m m2 : Space} {c c2 : Config} → Takes bytes ready (StepsAlone i) inst m c n m2 c2 → 1 ≤ n → IsSound m2
 takes_sound took_all some = absurd (omega (arith, some))
@@ -337,15 +304,15 @@ first_turn q more n i s t e es to k s2 r d c claimed some is there goes =
     }
 
 -- what the two took is what was taken
-spent_then : (q n : ℕ) (t t2 mid : Tenant) (e e1 : Entry) (es es1 : List Entry) → t.open_calls ≡ e ∷ es → mid.open_calls ≡ e1 ∷ es1 → mid.ended ≡ t.ended → e1.call.charges ≡ e.call.charges + q → Spends (q + n) t t2 → Spends n mid t2
-spent_then q n t t2 mid e e1 es es1 there there1 ended more spends = record {
+spent_then : (q n : ℕ) (t t2 mid : Tenant) (e e1 : Entry) (es : List Entry) → t.open_calls ≡ e ∷ es → mid.open_calls ≡ e1 ∷ es → mid.ended ≡ t.ended → e1.call.charges ≡ e.call.charges + q → Spends (q + n) t t2 → Spends n mid t2
+spent_then q n t t2 mid e e1 es there there1 ended more spends = record {
   idle = λ none. absurd (let bad = sym none ∙ there1 in cc bad);
   present = λ g gs here.
       (let s = spends.present e es there in
       let same : e1 ≡ g = cc (sym there1 ∙ here) in
+      let same_rest : es ≡ gs = cc (sym there1 ∙ here) in
       let charges = ap (λ (x : Entry). x.call.charges) same in
-      let is = s.2 in
-      (s.0, ap (λ (xs : List Entry). slice_get (journal t2) (length xs)) ended ∙ s.1, omega (arith, charges, is, more)));
+      (s.0, s.1, s.2 ∙ ap (λ (xs : List Entry). xs ++ s.0 ∷ s.1) (sym ended), omega (arith, charges, s.3, more), s.4 ∙ ap charges_each same_rest));
 }
 
 two_turns : (q more n : ℕ) (s : Space) (t : Tenant) (e : Entry) (es : List Entry) (to : Upshot) (k : ℕ) (s2 s3 : Space) (r : Rest) (d : Doing) (c : Claimed) (end : TurnEnd) (t2 : Tenant) → t.open_calls ≡ e ∷ es → Spends (q + suc n) t t2 → (f : FirstTurn q more s t e es to k (suc n) s2 r d c)
@@ -357,9 +324,9 @@ two_turns q more n s t e es to k s2 s3 r d c end t2 there spends f second =
       mid = mid;
       place = refl;
       first = f.first;
-      spent = spends_on q t mid e (gone_further e k q) es es there refl refl;
+      spent = spends_on q t mid e (gone_further e k q) es es there refl refl refl;
       second = second;
-      then = spent_then q (suc n) t t2 mid e (gone_further e k q) es es there refl refl refl spends;
+      then = spent_then q (suc n) t t2 mid e (gone_further e k q) es there refl refl refl spends;
       claimed = f.claimed;
       calls = λ none. (let bad : gone_further e k q ∷ es ≡ [] = none in cc bad);
     }
@@ -417,7 +384,7 @@ live_then (z ∷ ts) (suc i) t x there = live_then ts i t x there
 same_one : (w : World) (id : InstId) (a b : Tenant) → IsLive w id a → IsLive w id b → a ≡ b
 same_one w id a b x y = let both : Some a ≡ Some b = sym x.0 ∙ y.0 in cc both
 
-has_spent : (w : World) (id : InstId) (n : ℕ) (t t2 : Tenant) (s : Space) → IsLive w id t → Spends n t t2 → HasSpent w id n (with_tenant w id.number (Some t2) s)
+pub has_spent : (w : World) (id : InstId) (n : ℕ) (t t2 : Tenant) (s : Space) → IsLive w id t → Spends n t t2 → HasSpent w id n (with_tenant w id.number (Some t2) s)
 has_spent w id n t t2 s live spends = (
   λ none. absurd (none t live),
   λ u u2 live_u live_u2.
@@ -431,14 +398,14 @@ has_spent w id n t t2 s live spends = (
 whole_or_cut : (q q2 few n : ℕ) (end : TurnEnd) → q2 ≡ q → IsWholeOrCut q2 few n end → IsWholeOrCut q few n end
 whole_or_cut q q2 few n end same is = subst (λ i. IsWholeOrCut i few n end) same is
 
--- what is left of it when so many charges are taken
+-- what is left of it when n charges are taken
 rest_whole : (q2 left q all more n rest : ℕ) (end : TurnEnd) → q2 ≡ q + left → q + more ≡ all → q + rest ≡ n → IsWholeOrCut q2 all n end → IsWholeOrCut left more rest end
 rest_whole q2 left q all more n rest end grows whole is (inl same) = inl (omega (arith, grows, whole, same))
 rest_whole q2 left q all more n rest end grows whole is (inr (few, taken, again)) = inr (omega (arith, grows, whole, few), omega (arith, whole, is, taken), again)
 
 pub series_of : (q m : ℕ) (id : InstId) (w : World) (all n : ℕ) (t t2 : Tenant) (end : TurnEnd) (s3 : Space) (c : Claimed) → IsLive w id t → claim w.space t.place ≡ Some c → t.open_calls ≢ [] → IsWholeOrCut (q + m * q) all n end → n ≤ all → (m ≡ 0) ⊎ ((1 ≤ q) × (m * q < n)) → Spends n t t2 → Turn all w.space t end s3 t2
     → SeriesOf q id w (suc m) n end (with_tenant w id.number (Some t2) s3)
-series_of q zero id w all n t t2 end s3 c live claimed some most few used spends turn = last_turn (whole_or_cut q (q + 0 * q) all n end (omega (arith, zero-mul q)) most) (of_one live turn) (has_spent w id n t t2 s3 live spends)
+series_of q zero id w all n t t2 end s3 c live claimed some most few used spends turn = last_turn (whole_or_cut q (q + 0 * q) all n end (omega (arith, zero-mul q)) most) few (of_one live turn) (has_spent w id n t t2 s3 live spends)
 series_of q (suc m) id w all n t t2 end s3 c live claimed some most few (inl none) spends turn = absurd (omega (arith, none))
 series_of q (suc m) id w all n t t2 end s3 c live claimed some most few (inr (least, used)) spends turn =
     let grows : suc m * q ≡ m * q + q = suc-mul m q in
@@ -455,7 +422,7 @@ series_of q (suc m) id w all n t t2 end s3 c live claimed some most few (inr (le
     subst (λ i. SeriesOf q id w (suc (suc m)) i end (with_tenant w id.number (Some t2) s3)) is
     (turn_before (of_one live z.first) (has_spent w id q t z.mid z.between live z.spent) (subst (λ v. SeriesOf q id w1 (suc m) (suc left) end v) same rest))
 
--- so many turns, all but the last of which were used up
+-- n turns, all but the last of which were used up
 pub series_of_turns : (q turns : ℕ) (id : InstId) (w : World) (few n : ℕ) (t t2 : Tenant) (end : TurnEnd) (s3 : Space) (c : Claimed) → IsLive w id t → claim w.space t.place ≡ Some c → t.open_calls ≢ [] → IsWholeOrCut (turns * q) few n end → n ≤ few → AreUsed q turns n → Spends n t t2 → Turn few w.space t end s3 t2
     → SeriesOf q id w turns n end (with_tenant w id.number (Some t2) s3)
 series_of_turns q turns id w few n t t2 end s3 c live claimed some most least (inl one) spends turn =

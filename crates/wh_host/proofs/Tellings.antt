@@ -1,10 +1,9 @@
 -- What is told of a call of who is there.
 use Rattle.std.proofs.Common.{◌≡◌, ℕ, Option, Some, None, slice_get, ap, subst, ◌∙◌}
-use Rattle.wh_host_model.specs.declared.plain.InstId.{InstId}
-use Rattle.wh_host_model.specs.Host.Happens.{IsLive, NoInstance}
-use Rattle.wh_host_model.specs.Host.Worlds.{Tenant, World, journal}
+use Rattle.wh_space_model.specs.declared.plain.InstId.{InstId}
+use Rattle.wh_host_model.specs.Host.{IsLive, NoInstance, Tenant, World, journal}
 use Rattle.wh_host_model.proofs.Host.Lasting.{journals_stay_in_order}
-use Rattle.wh_host_model.specs.Space.Parts.{view}
+use Rattle.wh_space_model.specs.{view}
 use Rattle.wh_instance.specs.declared.stages.CallStatus.{CallStatus}
 use Rattle.wh_instance.specs.Tenancy.{IsTenant}
 use Rattle.wh_instance.specs.Told.{IsToldAt, TellsCall}

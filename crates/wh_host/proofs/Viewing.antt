@@ -1,20 +1,16 @@
 -- The memory of one instance, lent from that of all, and an instance over either.
 use Rattle.std.proofs.Common.{◌≡◌, ℕ, inl, List, [], Option, None, length, get_or, refl, sym, ap, subst, ◌∙◌}
 use Rattle.wh_model.specs.declared.memory.Need.{Need}
-use Rattle.wh_model.specs.Validity.Typing.{Context}
+use Rattle.wh_model.specs.Validity.{Context}
 use Rattle.wh_model.specs.declared.ValType.{ValType}
 use Rattle.wh_model.specs.Execution.Store.{Instance, Store}
-use Rattle.wh_model.specs.Execution.Configuration.{Config, Term, config, trapped}
-use Rattle.wh_model.specs.Focus.Focused.{Focused, running, finished, stopped, plug}
-use Rattle.wh_model.specs.Execution.Instance.{Piece, Within}
-use Rattle.wh_model.specs.Execution.Replay.{Call, Invocation}
-use Rattle.wh_model.specs.Execution.Reduction.{IsSettled}
-use Rattle.wh_host_model.specs.Space.Parts.{Space, Occupant, view, claim_of, need_of, promised_to}
-use Rattle.wh_host_model.specs.Space.Ready.{Ready}
-use Rattle.wh_host_model.specs.Space.Sound.{IsSound}
-use Rattle.wh_host_model.specs.Host.Spaces.{StepsAlone}
-use Rattle.wh_host_model.specs.Host.Worlds.{Rest, Doing, Tenant, store_with}
-use Rattle.wh_host_model.specs.Owners.{Entry}
+use Rattle.wh_model.specs.Execution.{Config, Term, config, trapped, Piece, Within, Call, Invocation, IsSettled}
+use Rattle.wh_model.specs.Focus.Focused.{Focused}
+use Rattle.wh_model.specs.Focus.{running, finished, stopped, plug}
+use Rattle.wh_space_model.specs.{Space, Occupant, view, claim_of, need_of, promised_to, IsSound}
+use Rattle.wh_space_model.specs.Ready.{Ready}
+use Rattle.wh_host_model.specs.Host.{StepsAlone, Rest, Doing, Tenant, store_with}
+use Rattle.wh_host_model.specs.{Entry}
 use Rattle.wh_control.specs.Parts.{ProgramParts, funcs_in}
 use Rattle.wh_control.specs.Represents.{CallsState, Func, RepresentsCalls, result_of}
 use Rattle.wh_control.specs.declared.store.Store as code_store

@@ -1,9 +1,9 @@
 -- What a host answers where an instance is to be admitted.
 use Rattle.std.specs.Prelude.{◌≡◌, ℕ, Option, Some, None, Result, Ok, Err}
 use Rattle.slab.specs.Slab.{Slab, get, HasRoomFor}
-use Rattle.wh_host_model.specs.declared.plain.InstId.{InstId}
-use Rattle.wh_host_model.specs.Space.Parts.{Space}
-use Rattle.wh_host_model.specs.Space.Places.{Enters}
+use Rattle.wh_space_model.specs.declared.plain.InstId.{InstId}
+use Rattle.wh_space_model.specs.Parts.{Space}
+use Rattle.wh_space_model.specs.Places.{Enters}
 use Rattle.wh_host_model.specs.Host.Worlds.{World}
 use Rattle.wh_host_model.specs.Owners.{Params, AdmitFault}
 use Rattle.wh_host_model.specs.Host.Happens.{AdmitAnswer, admit_ok, admit_refused, admit_out_of_memory, IsAdmit}

@@ -1,7 +1,7 @@
--- What calls leave of what lies behind the memory of all.
+-- What calls leave of what lies after the memory of all.
 use Rattle.std.specs.Prelude.{◌≡◌, length}
-use Rattle.wh_host_model.specs.Space.Errands.{pass_of}
-use Rattle.wh_host_model.specs.Space.Parts.{Space}
+use Rattle.wh_space_model.specs.Errands.{pass_of}
+use Rattle.wh_space_model.specs.Parts.{Space}
 
 -- No ticket comes or goes, and slots hold what they held. There are as many frames and slots, and the same tax.
 pub record KeepsBacking (s s2 : Space) : Type 0 where

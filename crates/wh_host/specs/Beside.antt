@@ -1,11 +1,10 @@
--- How an instance is brought on beside others, and what its turns are answered once all is laid back.
+-- How an instance runs against an overlay, and what its turns are answered once all is written back.
 use Rattle.std.specs.Prelude.{◌≡◌, ◌⊎◌, ℕ, ◌+◌, ◌≤◌, min, List, [], ◌∷◌, length}
 use Rattle.wh_host_model.specs.declared.plain.TurnEnd.{TurnEnd}
-use Rattle.wh_host_model.specs.Host.CallAnswers.{Turn}
 use Rattle.wh_host_model.specs.Host.Worlds.{Tenant}
 use Rattle.wh_host_model.specs.Owners.{Entry}
-use Rattle.wh_host_model.specs.Space.Parts.{Space}
-use Rattle.wh_host_model.specs.Space.Ready.{Ready}
+use Rattle.wh_space_model.specs.Parts.{Space}
+use Rattle.wh_space_model.specs.Ready.{Ready}
 use Rattle.wh_imports.specs.LinkedState.{LinkedState}
 use Rattle.wh_machine.specs.CallStates.{Setting, setting_of}
 use Rattle.wh_instance.specs.Advancing.{AdvancesTenant, StaysBut}
@@ -18,9 +17,10 @@ use Rattle.wh_overlay.specs.LaidBack.{LooksSame}
 use Rattle.wh_overlay.specs.Over.{IsOverSame, IsReadyOver, IsWholeOver, OverlayState, sees}
 use Rattle.wh_space.specs.Steps.{page_limit}
 use Rattle.wh_host.specs.Lying.{LiesAt}
-use Rattle.wh_host.specs.Series.{IsWholeOrCut, Spends}
+use Rattle.wh_host.specs.Lent.{TurnsTo}
+use Rattle.wh_host.specs.Series.{IsWholeOrCut}
 
--- the memory of the instance at a place, with this written beside it
+-- the memory of the instance at a place, with this written in the overlay
 abbrev pub memory_with : Space → ℕ → ℕ → UpperState → OverlayState
 memory_with s place limit u = record { lower = s; place = place; page_limit = limit; upper = u }
 
@@ -28,8 +28,8 @@ memory_with s place limit u = record { lower = s; place = place; page_limit = li
 abbrev pub beside_setting : LinkedState → ℕ → Space → ℕ → Setting OverlayState
 beside_setting l limit s place = setting_of l sees IsReadyOver IsOverSame (min limit (page_limit s place))
 
--- Beside this memory the present call of an instance comes so far in a turn of q charges, with nothing written before it; then
--- this is written beside the memory.
+-- Over this memory the present call of an instance gets so far in a turn of q charges, with nothing written in the overlay before
+-- it; then this is written there.
 pub record RunsBeside (l : LinkedState) (limit q : ℕ) (s : Space) (place : ℕ) (x : HostInstanceState) (t : Tenant)
     (answer : TurnOutcome) (pieces charges : ℕ) (x1 : HostInstanceState) (u : UpperState) : Type 0 where
   pub computes : IsAtTerm t
@@ -45,8 +45,8 @@ pub record RunsBeside (l : LinkedState) (limit q : ℕ) (s : Space) (place : ℕ
       → AdvancesTenant (beside_setting l limit s place) q (memory_with s place limit first) t e es answer pieces charges x1
       (memory_with s place limit u)
 
--- What a turn came to that took so many of q charges, in the memory in which all is laid back, and of how many charges it was:
--- where the bytes are ready there that weren't beside it, of those that it took.
+-- The outcome of a turn that took n of q charges, in the memory in which all is written back, and of how many charges it was:
+-- where the bytes are ready there that weren't in the overlay, of those that it took.
 abbrev pub CameThere : Space → ℕ → TurnOutcome → ℕ → ℕ → TurnOutcome → ℕ → Type 0
 CameThere s place (came.Frame need) n q answer q2 =
     (Ready s place need × (answer ≡ came.Again) × (q2 ≡ n))
@@ -56,7 +56,7 @@ CameThere s place (came.Trapped trap) n q answer q2 = (answer ≡ came.Trapped t
 CameThere s place came.Fuel n q answer q2 = (answer ≡ came.Fuel) × (q2 ≡ q)
 CameThere s place came.Again n q answer q2 = (answer ≡ came.Again) × (q2 ≡ q)
 
--- An instance that lies in this memory so has run beside one that is as good for it, and the frames that are lent to it are free.
+-- An instance that is in this memory so has run over one that is as good for it, and the frames that are lent to it are free.
 pub record HasRun (l : LinkedState) (limit q : ℕ) (s0 s : Space) (place : ℕ) (x : HostInstanceState) (t : Tenant)
     (answer : TurnOutcome) (pieces charges : ℕ) (x1 : HostInstanceState) (u : UpperState) : Type 0 where
   pub runs : RunsBeside l limit q s0 place x t answer pieces charges x1 u
@@ -64,17 +64,16 @@ pub record HasRun (l : LinkedState) (limit q : ℕ) (s0 s : Space) (place : ℕ)
   pub frames : u.lent ≤ length s.pool.free
   pub lies : LiesAt l limit x s place t
 
--- A turn of q charges, or one that was cut short, which took so many, is answered so, and leaves this memory, in which the instance lies.
+-- A turn of q charges, or one that was cut short, which took n, is answered so, and leaves this memory, in which the instance is.
 abbrev pub EndsTurn : LinkedState → ℕ → ℕ → ℕ → Space → Tenant → TurnEnd → ℕ → HostInstanceState → Space → Type 0
 EndsTurn l limit q n s t end place x2 s2 =
-    (few : ℕ) × IsWholeOrCut q few n end × (n ≤ few) × (t2 : Tenant) × Turn few s t end s2 t2 × Spends n t t2
-    × LiesAt l limit x2 s2 place t2
+    (few : ℕ) × IsWholeOrCut q few n end × TurnsTo l limit few s t end n place x2 s2
 
 -- the room with nothing in it
 abbrev pub with_nothing : UpperState → UpperState
 with_nothing u = record u { pages = []; reads = []; grown = 0; room = u.room + length u.pages; taken = 0 }
 
--- a call that came to this can go on, once all is laid back
+-- a call that came to this can go on, once all is written back
 abbrev pub CanGoOnFrom : TurnOutcome → Type 0
 CanGoOnFrom (came.Frame need) = Unit {0}
 CanGoOnFrom came.Again = Unit {0}

@@ -1,6 +1,6 @@
 -- What is asked of an instance, and what the host answers.
 use Rattle.std.specs.Prelude.{◌≡◌, ℕ, ℤ, List, Option, Some, None, Result, Ok, Err}
-use Rattle.wh_host_model.specs.declared.plain.InstId.{InstId}
+use Rattle.wh_space_model.specs.declared.plain.InstId.{InstId}
 use Rattle.wh_host_model.specs.Host.Worlds.{World}
 use Rattle.wh_host_model.specs.Host.Happens.{CallAnswer, call_ok, call_no_instance, call_no_call, InvokeAnswer, invoke_ok, invoke_no_instance, invoke_refused, invoke_out_of_memory, IsInvoke}
 use Rattle.wh_host_model.specs.Owners.{InvokeFault}

@@ -1,7 +1,7 @@
 -- What contracts see of a host, and for which host of the definitions it stands.
 use Rattle.std.specs.Prelude.{◌≡◌, ℕ, ◌/◌, ◌≤◌, List, [], length, map, slice_get, slice_index_or, Option, Some, None}
-use Rattle.wh_host_model.specs.declared.Tax.{Tax}
-use Rattle.wh_host_model.specs.Space.Parts.{Space, view}
+use Rattle.wh_space_model.specs.declared.Tax.{Tax}
+use Rattle.wh_space_model.specs.Parts.{Space, view}
 use Rattle.wh_host_model.specs.Host.Worlds.{Tenant, Loaded, World, tenant, empty_world}
 use Rattle.wh_host_model.specs.Owners.{Params}
 use Rattle.wh_host_model.specs.Host.Admission.{live_count}
@@ -66,9 +66,8 @@ pub record IsEntryOf (modules : List LoadedModule) (x : InstanceEntry) (s : Spac
   pub copied : x.copied ≡ t.copied
   pub is : IsTenant loaded.linked x.page_limit x.tenant (view s t.place) t
 
--- The host represents this one, to which events lead, and reads of a swap device that gave other bytes, if there were
--- any: it has its modules and its memory, each of its instances lies in its place, and whoever else has one was
--- released.
+-- The host represents this one, to which events lead, and reads of a swap device that gave other bytes, if there were any: it has
+-- its modules and its memory, each of its instances is in its place, and whoever else has one was released.
 pub record IsHost (h : HostState) (w : World) : Type 0 where
   pub comes : ComesAbout w
   pub modules : map kept_as h.modules ≡ w.modules

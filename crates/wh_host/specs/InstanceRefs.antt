@@ -1,9 +1,9 @@
 -- The instances of a host by number, and what is reported of them by what the code has of them.
 use Rattle.std.specs.Prelude.{◌≡◌, ◌≤◌, ℕ, zero, suc, ◌+◌, ◌++◌, List, [], ◌∷◌, Option, Some, None}
 use Rattle.std.specs.List.Sorted.{IsNonDecreasingBy, IsPermutation}
-use Rattle.wh_host_model.specs.Space.Charges.{active_of, charged_of}
-use Rattle.wh_host_model.specs.Space.Parts.{Space}
-use Rattle.wh_host_model.specs.Space.States.{count_of, swapped}
+use Rattle.wh_space_model.specs.Charges.{active_of, charged_of}
+use Rattle.wh_space_model.specs.Parts.{Space}
+use Rattle.wh_space_model.specs.States.{count_of, swapped}
 use Rattle.wh_host_model.specs.Host.Worlds.{Tenant, World}
 use Rattle.wh_host.specs.declared.parts.InstanceEntry.{InstanceEntry}
 use Rattle.wh_host.specs.declared.parts.InstanceRef.{InstanceRef}

@@ -3,7 +3,7 @@ use Rattle.std.specs.Prelude.{◌≡◌, ◌≢◌, ◌⊎◌, ℕ, ◌*◌, ◌
 use Rattle.wh_host_model.specs.declared.plain.TurnEnd.{TurnEnd}
 use Rattle.wh_host_model.specs.declared.plain.TurnEnd.TheVariants.{Again}
 use Rattle.wh_host_model.specs.Host.Worlds.{Tenant}
-use Rattle.wh_host_model.specs.Space.Parts.{Space}
+use Rattle.wh_space_model.specs.Parts.{Space}
 use Rattle.wh_imports.specs.LinkedState.{LinkedState}
 use Rattle.wh_instance.specs.OwnerRequests.{OfAnyTenant}
 use Rattle.wh_instance.specs.Seen.{IsAtTerm}
@@ -30,12 +30,12 @@ pub record StaysFree (rs : List (Option InstanceEntry)) (y : Runner) (rs2 : List
   pub why : (x : InstanceEntry) → entry_at rs y.id.place ≡ Some x → x.number ≡ Some y.id.number
       → OfAnyTenant x.tenant (λ l limit bytes t. ¬ (IsAtTerm t))
 
--- so many frames are lent for what is written there
+-- n frames are lent for what is written there
 abbrev pub with_lent : ℕ → Option UpperState → Option UpperState
 with_lent n None = None
 with_lent n (Some u) = Some (record u { lent = n; taken = 0 })
 
--- or it has its instance, which computes, and so many frames; the spare one of the runner stands in its place
+-- or it has its instance, which computes, and n frames; the spare one of the runner stands in its place
 pub record IsTakenOut (rs : List (Option InstanceEntry)) (y : Runner) (n : ℕ) (rs2 : List (Option InstanceEntry)) (y2 : Runner) : Type 0 where
   pub entry : InstanceEntry
   pub was : entry_at rs y.id.place ≡ Some entry
@@ -63,7 +63,7 @@ IsLeftOut rs ys y =
 
 -- ---- and back
 
--- to what so many turns came, of which the last was answered so
+-- the outcome of consecutive turns, of which the last was answered so
 abbrev pub series_end : RanBeside → TurnEnd → SeriesEnd
 series_end ran end = record { turns = ran.turns; charges = ran.charges; end = end; leave = ran.leave }
 
@@ -111,8 +111,8 @@ abbrev pub LaysAt : ℕ → List (Option InstanceEntry) → Space → Runner →
 LaysAt q rs s y rs2 s2 y2 =
     ((y.taken ≡ false) × (rs2 ≡ rs) × (s2 ≡ s) × (y2 ≡ y)) ⊎ ((y.taken ≡ true) × Returns q rs s y rs2 s2 y2)
 
--- A runner that had an instance has an answer: to what its turns came, and that its call can go on only where it can go on from what it
--- came to. Nothing lies in its room any more.
+-- A runner that had an instance has an answer: the outcome of its turns, and that its call can go on only where it can by that
+-- outcome. Nothing is in its room any more.
 abbrev pub TellsSeries : Runner → Runner → Type 0
 TellsSeries y y2 =
     (end : TurnEnd) × (y2.answer ≡ Some (series_end y.ran end)) × (end ≡ Again → CanGoOnFrom y.ran.came)

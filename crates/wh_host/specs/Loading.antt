@@ -16,7 +16,7 @@ use Rattle.wh_host.specs.declared.error.ModuleError.{ModuleError}
 use Rattle.wh_host.specs.declared.error.ModuleError.TheVariants.{Bytes, ModulesFull, Memory}
 use Rattle.wh_host.specs.Hosting.{HostState, IsHost}
 
--- a linked module and its bytes stand behind the others
+-- a linked module and its bytes stand after the others
 abbrev pub KeepsModule : List LoadedModule → LinkedState → List ℕ → List LoadedModule → Type 0
 KeepsModule ms linked bytes ms2 =
     (m : LoadedModule) × (m.linked ≡ linked) × (m.bytes.value.items ≡ bytes) × (ms2 ≡ ms ++ m ∷ [])

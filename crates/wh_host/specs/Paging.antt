@@ -2,9 +2,9 @@
 use Rattle.std.specs.Prelude.{◌≡◌, ℕ, Bool, Option, Some, None, Result, Ok, Err}
 use Rattle.std.specs.Bool.{MatchBool}
 use Rattle.wh_model.specs.declared.memory.Need.{Need}
-use Rattle.wh_host_model.specs.declared.plain.InstId.{InstId}
-use Rattle.wh_host_model.specs.declared.plain.SwapError.{SwapError}
-use Rattle.wh_host_model.specs.Space.Parts.{wants}
+use Rattle.wh_space_model.specs.declared.plain.InstId.{InstId}
+use Rattle.wh_space_model.specs.declared.plain.SwapError.{SwapError}
+use Rattle.wh_space_model.specs.Parts.{wants}
 use Rattle.wh_host_model.specs.Host.Worlds.{Tenant, World}
 use Rattle.wh_host_model.specs.Host.Happens.{AwaitsFrame, IsLive, MovesPages, OnlyMoves}
 use Rattle.wh_host_model.specs.Host.Misreading.{IsMisread}
@@ -15,11 +15,11 @@ use Rattle.wh_host.specs.Hosting.{HostState, IsHost}
 abbrev pub IsAwaiting : World → InstId → Type 0
 IsAwaiting w id = (t : Tenant) × IsLive w id t × AwaitsFrame t
 
--- it is there, and a turn or a provision can bring it on
+-- it is there, and a turn or a provision can make it progress
 abbrev pub IsGoing : World → InstId → Type 0
 IsGoing w id = (t : Tenant) × IsLive w id t × CanGoOn t
 
--- so it is told of whatever host the code's stands for
+-- so it is told of whatever host the code's represents
 abbrev pub Tells : HostState → Bool → (World → Type 0) → Type 0
 Tells h told P = (w : World) → IsHost h w → MatchBool told (P w) (¬ (P w))
 

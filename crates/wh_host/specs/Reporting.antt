@@ -1,10 +1,10 @@
 -- The report of a host: how its frames, slots and pages are used, and what each instance has of them.
 use Rattle.std.specs.Prelude.{◌≡◌, ℕ, ◌+◌, ◌-◌, min, List, [], ◌∷◌, length, map, Option, Some, None}
-use Rattle.wh_host_model.specs.declared.Tax.{Tax}
-use Rattle.wh_host_model.specs.Frames.{tally}
-use Rattle.wh_host_model.specs.Space.Charges.{active_of, charged_of}
-use Rattle.wh_host_model.specs.Space.Parts.{Space, numbers_below, sharers}
-use Rattle.wh_host_model.specs.Space.States.{count_of, swapped}
+use Rattle.wh_space_model.specs.declared.Tax.{Tax}
+use Rattle.wh_space_model.specs.Frames.{tally}
+use Rattle.wh_space_model.specs.Charges.{active_of, charged_of}
+use Rattle.wh_space_model.specs.Parts.{Space, numbers_below, sharers}
+use Rattle.wh_space_model.specs.States.{count_of, swapped}
 use Rattle.wh_host_model.specs.Host.Worlds.{Tenant, World}
 use Rattle.wh_host.specs.declared.report.InstanceReport.{InstanceReport}
 use Rattle.wh_host.specs.declared.report.Report.{Report}

@@ -1,6 +1,6 @@
 -- The roll of a host: what is there.
 use Rattle.std.specs.Prelude.{◌≡◌, ℕ, ◌+◌, ◌++◌, Bool, List, [], ◌∷◌, length, Option, Some, None}
-use Rattle.wh_host_model.specs.Space.Errands.{tickets}
+use Rattle.wh_space_model.specs.Errands.{tickets}
 use Rattle.wh_host_model.specs.Host.Worlds.{Suspension, Tenant, Loaded, World, journal}
 use Rattle.wh_host_model.specs.Owners.{Params}
 use Rattle.wh_params.specs.View.{view_params}
@@ -8,8 +8,8 @@ use Rattle.wh_instance.specs.Tenancy.{suspension_of}
 use Rattle.wh_host.specs.declared.parts.LoadedModule.{LoadedModule}
 use Rattle.wh_host.specs.declared.parts.InstanceEntry.{InstanceEntry}
 use Rattle.wh_host.specs.declared.parts.InstanceRef.{InstanceRef}
-use Rattle.wh_host.specs.declared.rolling.Enrolled.{Enrolled}
-use Rattle.wh_host.specs.declared.rolling.EnrolledModule.{EnrolledModule}
+use Rattle.wh_host.specs.declared.rolling.RollInstance.{RollInstance}
+use Rattle.wh_host.specs.declared.rolling.RollModule.{RollModule}
 use Rattle.wh_host_model.specs.Host.Misreading.{ComesAbout}
 use Rattle.wh_host.specs.Hosting.{HostState, IsHost, entry_at}
 use Rattle.wh_host.specs.Showing.{given_with}
@@ -19,9 +19,8 @@ pub record ListedModule : Type 0 where
   pub number : ℕ
   pub bytes : List ℕ
 
--- An instance as the roll has it: its number, its place, of which module it is, what it was given, how many calls there
--- are, how many of them were copied with it and how many are open, whether it is dead, and for what its first open call
--- stands.
+-- An instance as the roll has it: its number, its place, of which module it is, what it was given, how many calls there are, how
+-- many of them were copied with it and how many are open, whether it is dead, and what its first open call is blocked on.
 pub record Listed : Type 0 where
   pub number : ℕ
   pub place : ℕ
@@ -85,10 +84,10 @@ IsRollOf h roll = (w : World) → IsHost h w → roll ≡ roll_of w
 
 -- ---- what the code has of it
 
-abbrev pub view_listed_module : EnrolledModule → ListedModule
+abbrev pub view_listed_module : RollModule → ListedModule
 view_listed_module e = record { number = e.id.number; bytes = e.bytes.value.items }
 
-abbrev pub view_listed : Enrolled → Listed
+abbrev pub view_listed : RollInstance → Listed
 view_listed e = record {
   number = e.id.number;
   place = e.id.place;

@@ -1,7 +1,7 @@
--- Rounds: turns of several instances, that are brought on at once and finished one after the other.
+-- Rounds: turns of several instances, that run at once and are finished one after the other.
 use Rattle.std.specs.Prelude.{◌≡◌, ◌≢◌, ℕ, ◌*◌, ◌+◌, ◌≤◌, cond, true, false, List, [], ◌∷◌, Option, Some, None, slice_get}
-use Rattle.wh_host_model.specs.Frames.{tally}
-use Rattle.wh_host_model.specs.declared.plain.InstId.{InstId}
+use Rattle.wh_space_model.specs.Frames.{tally}
+use Rattle.wh_space_model.specs.declared.plain.InstId.{InstId}
 use Rattle.wh_host_model.specs.Host.Happens.{IsLive}
 use Rattle.wh_model.specs.declared.memory.Need.{Need}
 use Rattle.wh_model.specs.Execution.Asking.{Asks}
@@ -9,7 +9,7 @@ use Rattle.wh_model.specs.Execution.Configuration.{Term, config}
 use Rattle.wh_model.specs.Execution.Reduction.{After}
 use Rattle.wh_host_model.specs.declared.plain.TurnEnd.TheVariants.{Again}
 use Rattle.wh_host_model.specs.Host.Worlds.{Rest, Tenant, World, computing, store_in, store_with}
-use Rattle.wh_host_model.specs.Space.Parts.{Space, view}
+use Rattle.wh_space_model.specs.Parts.{Space, view}
 use Rattle.wh_instance.specs.OwnerRequests.{OfAnyTenant}
 use Rattle.wh_instance.specs.Seen.{IsAtTerm}
 use Rattle.wh_instance.specs.Bursts.{AreUsed}
@@ -31,7 +31,8 @@ use Rattle.wh_host.specs.Series.{SeriesOf}
 
 -- ---- turns one after the other
 
--- so many turns of this instance, at most, each with q charges at most, came to that, and a turn could bring it on; or none was taken
+-- at most `most` turns of this instance, each with q charges at most, had that outcome, and a turn could make it progress; or
+-- none was taken
 abbrev pub TakesTurns : ℕ → ℕ → World → InstId → Option SeriesEnd → World → Type 0
 TakesTurns q most w id None w2 = w2 ≡ w
 TakesTurns q most w id (Some made) w2 =
@@ -68,7 +69,7 @@ IsFree y = (y.taken ≡ false) × HasRoomBeside y
 abbrev pub AllAreFree : List Runner → Type 0
 AllAreFree ys = (k : ℕ) (y : Runner) → slice_get ys k ≡ Some y → IsFree y
 
--- its instance is out, and these are the entries meanwhile: a spare instance stands there, which has no number
+-- its instance is out, and these are the entries meanwhile: a spare instance is there, which has no number
 pub record IsOut (before now : List (Option InstanceEntry)) (y : Runner) (P : InstanceEntry → Runner → Type 0) : Type 0 where
   pub entry : InstanceEntry
   pub was : entry_at before y.id.place ≡ Some entry
@@ -92,7 +93,7 @@ pub record AreTakenOut (before now : List (Option InstanceEntry)) (ys : List Run
 abbrev pub SitsThere : InstanceEntry → Runner → Type 0
 SitsThere x y = (y.tenant ≡ x.tenant) × OfAnyTenant x.tenant (λ l limit bytes t. IsAtTerm t) × HasRoomBeside y
 
--- It was brought on by so many turns of q charges at most, and each but the last was used up. Each but the first was begun where it was
+-- It ran at most `most` turns of q charges at most, and each but the last was used up. Each but the first was begun where it was
 -- read that nobody wants the memory.
 abbrev pub IsBurst : ℕ → ℕ → RanBeside → Type 0
 IsBurst q most ran =
@@ -123,7 +124,7 @@ abbrev pub AllMayRun : List LoadedModule → Space → List Runner → Type 0
 AllMayRun modules s ys =
     (k : ℕ) (y : Runner) → slice_get ys k ≡ Some y → y.taken ≡ true → MayRun modules s y
 
--- So its instance has run by turns of q charges, so many at most, if it has one; else there is room as before.
+-- So its instance has run by turns of q charges, at most `most`, if it has one; else there is room as before.
 pub record RunsAt (modules : List LoadedModule) (s : Space) (q most : ℕ) (y y2 : Runner) : Type 0 where
   pub id : y2.id ≡ y.id
   pub taken : y2.taken ≡ y.taken
@@ -168,7 +169,7 @@ pub record IsOutOfReach (s : Space) (t : Tenant) (u : UpperState) : Type 0 where
   pub asks : Asks t.inst (config (store_with (view s t.place) rest) [] next) need
   pub never : ¬ (CanStepOver s t.place u need)
 
--- Turns of an instance behind which its call can go on took a charge, or what the call does next can't be reached.
+-- Turns of an instance after which its call can go on took a charge, or what the call does next can't be reached.
 abbrev pub TakesSome : World → Runner → Type 0
 TakesSome w y =
     (made : SeriesEnd) (t : Tenant) → y.answer ≡ Some made → made.end ≡ Again → made.charges ≡ 0 → IsLive w y.id t

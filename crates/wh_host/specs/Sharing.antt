@@ -1,9 +1,9 @@
 -- Where pages of a host's instances can be offered.
 use Rattle.std.specs.Prelude.{ℕ, ◌<◌, ◌^◌}
-use Rattle.wh_host_model.specs.Space.Parts.{Space}
+use Rattle.wh_space_model.specs.Parts.{Space}
 use Rattle.wh_space.specs.Merges.{HasFewPages}
 
--- the sharers of a frame can be counted in 32 bits
+-- the reference count of a frame fits in 32 bits
 abbrev pub CanScan : Space → Type 0
 CanScan s = HasFewPages s
 

@@ -1,6 +1,6 @@
 -- What a host shows of one of its instances.
 use Rattle.std.specs.Prelude.{◌≡◌, ◌++◌, ℕ, List, Some, slice_get, Result, Ok, Err}
-use Rattle.wh_host_model.specs.declared.plain.InstId.{InstId}
+use Rattle.wh_space_model.specs.declared.plain.InstId.{InstId}
 use Rattle.wh_host_model.specs.Host.Worlds.{Tenant, Loaded, World, journal, loaded_of}
 use Rattle.wh_host_model.specs.Owners.{Params}
 use Rattle.wh_host_model.specs.Host.Happens.{IsLive, NoInstance as NobodyThere}
@@ -34,8 +34,8 @@ shown_of x bytes = record {
   waiting_for = x.tenant.waiting_for;
 }
 
--- a transcript shows this instance of a module with these bytes: what it was given, its whole journal, how many calls of
--- it were copied, and for what its present call stands
+-- a transcript shows this instance of a module with these bytes: what it was given, its whole journal, how many calls of it were
+-- copied, and what its present call is blocked on
 pub record Shows (s : TranscriptState) (bytes : List ℕ) (t : Tenant) : Type 0 where
   pub bytes_are : s.bytes ≡ bytes
   pub params : s.params ≡ t.params

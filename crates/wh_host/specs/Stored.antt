@@ -1,7 +1,7 @@
 -- What contracts see of a host can be stored: as its parts.
 use Rattle.std.specs.Prelude.{ℕ, List, Option, refl}
 use Rattle.std.specs.Coded.{Coded, code_by, coded_list, coded_option, coded_ℕ, coded×}
-use Rattle.wh_host_model.specs.Space.Parts.{Space}
+use Rattle.wh_space_model.specs.Parts.{Space}
 use Rattle.wh_space.specs.contracts.memory.Memory as memory_type
 use Rattle.wh_host.specs.declared.parts.LoadedModule.{LoadedModule}
 use Rattle.wh_host.specs.contracts.parts.LoadedModule as module_type

@@ -1,6 +1,6 @@
 -- What a host tells of one call.
 use Rattle.std.specs.Prelude.{◌≡◌, ◌++◌, ℕ, option_map, slice_get, Option, Some, None}
-use Rattle.wh_host_model.specs.declared.plain.InstId.{InstId}
+use Rattle.wh_space_model.specs.declared.plain.InstId.{InstId}
 use Rattle.wh_host_model.specs.Host.Worlds.{Tenant, World, journal}
 use Rattle.wh_host_model.specs.Owners.{Entry}
 use Rattle.wh_host_model.specs.Host.Happens.{IsLive}
@@ -22,7 +22,7 @@ TellsOf h id at told = (w : World) → IsHost h w → IsTold w id at told
 
 -- ---- charges
 
--- the instance is there and has a call at this place of its journal, which took so many; or there is no such call
+-- the instance is there and has a call at this place of its journal, which took these charges; or there is no such call
 abbrev pub AreChargesTold : World → InstId → ℕ → Option ℕ → Type 0
 AreChargesTold w id at None = (t : Tenant) → IsLive w id t → slice_get (journal t) at ≡ None
 AreChargesTold w id at (Some charges) =

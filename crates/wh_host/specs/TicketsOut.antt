@@ -1,14 +1,14 @@
 -- Pages in transit under a host: tickets that are out, and what is left when they come back.
 use Rattle.std.specs.Prelude.{◌≡◌, ℕ, ◌⊎◌, Bool, List, [], length, slice_get, slice_set, Option, Some, None, Result, Ok, Err}
-use Rattle.wh_host_model.specs.declared.plain.InstId.{InstId}
-use Rattle.wh_host_model.specs.declared.plain.SwapError.{SwapError}
-use Rattle.wh_host_model.specs.declared.states.EvictEnd.{EvictEnd}
-use Rattle.wh_host_model.specs.declared.states.EvictEnd.TheVariants as evict
-use Rattle.wh_host_model.specs.declared.states.FetchEnd.{FetchEnd}
-use Rattle.wh_host_model.specs.declared.states.FetchEnd.TheVariants as fetch
-use Rattle.wh_host_model.specs.Space.Errands.{Errand, pass_of}
-use Rattle.wh_host_model.specs.Space.Parts.{Space}
-use Rattle.wh_host_model.specs.Space.Tickets.{CommitsEvict, IsWritten}
+use Rattle.wh_space_model.specs.declared.plain.InstId.{InstId}
+use Rattle.wh_space_model.specs.declared.plain.SwapError.{SwapError}
+use Rattle.wh_space_model.specs.declared.states.EvictEnd.{EvictEnd}
+use Rattle.wh_space_model.specs.declared.states.EvictEnd.TheVariants as evict
+use Rattle.wh_space_model.specs.declared.states.FetchEnd.{FetchEnd}
+use Rattle.wh_space_model.specs.declared.states.FetchEnd.TheVariants as fetch
+use Rattle.wh_space_model.specs.Errands.{Errand, pass_of}
+use Rattle.wh_space_model.specs.Parts.{Space}
+use Rattle.wh_space_model.specs.Tickets.{CommitsEvict, IsWritten}
 use Rattle.wh_host_model.specs.Host.Worlds.{Tenant, World, for_device}
 use Rattle.wh_host_model.specs.Host.Happens.{AwaitsFrameFor, IsLive}
 use Rattle.wh_instance.specs.OwnerRequests.{OfAnyTenant}
@@ -43,7 +43,7 @@ IsPresentCall h id call = (w : World) → IsHost h w → (t : Tenant) → IsLive
 abbrev pub EndsEvict : Space → ℕ → Bool → List ℕ → EvictEnd → Space → Type 0
 EndsEvict s k wrote bytes end s2 = (mid : Space) × IsWritten s k bytes wrote mid × CommitsEvict mid k wrote bytes end s2
 
--- the fault of the device, where that is what the ticket came to
+-- the fault of the device, where that is the outcome of the ticket
 abbrev pub evict_fault : EvictEnd → Result Unit SwapError → Option SwapError
 evict_fault evict.Failed (Err fault) = Some fault
 evict_fault end device = None

@@ -5,7 +5,7 @@ ghost use Rattle.wh_model.specs.Format.Limits.{most_segments};
 ghost use Rattle.wh_params.specs.View.{view_params};
 ghost use Rattle.wh_space.specs.Arrivals.{claimed};
 ghost use Rattle.wh_host_model.specs.Host.Worlds.{promised};
-ghost use Rattle.wh_host_model.specs.Space.Places.{Enters, HasRoomFor as HasMemoryFor};
+ghost use Rattle.wh_space_model.specs.Places.{Enters, HasRoomFor as HasMemoryFor};
 ghost use Rattle.wh_host.specs.Backing.{KeepsBacking};
 ghost use Rattle.wh_host.specs.Admitting.{AnswersAdmit, BeginsEntry, EntersNext};
 
@@ -14,10 +14,10 @@ use crate::parts::{InstanceEntry, ModuleId, StoredParams};
 use slab::Slab;
 use std::alloc::{AllocError, Global};
 use wh_admit::{AdmitError, Admitted, Params, Room, admit};
-use wh_host_model::InstId;
 use wh_imports::Linked;
 use wh_instance::HostInstance;
 use wh_space::{Memory, Promise};
+use wh_space_model::InstId;
 
 // The instance that begins so, of the module of this number.
 fn new_entry_for(

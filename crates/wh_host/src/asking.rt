@@ -2,20 +2,20 @@
 
 ghost use Rattle.std.specs.Prelude.{◌≡◌, OnErr, OnOk};
 ghost use Rattle.wh_host_model.specs.Host.Happens.{IsCancel, IsRefuel, IsRetry};
-ghost use Rattle.wh_host_model.specs.Space.Stores.{ended};
+ghost use Rattle.wh_space_model.specs.Stores.{ended};
 ghost use Rattle.wh_host.specs.Backing.{KeepsBacking};
 ghost use Rattle.wh_host.specs.CallRequests.{AnswersCall};
 
 use crate::error::HostError;
 use crate::host::Host;
-use wh_host_model::InstId;
+use wh_space_model::InstId;
 
 impl Host {
-    /// Adds `fuel` to the present call of an instance; what passes 2^64 - 1 is lost. A call that waits for fuel can then go on,
-    /// if it was given any.
+    /// Adds `fuel` charges to the present call of an instance, up to 2^64 - 1 in all. A call that waits for fuel can
+    /// then make progress, if it was given any.
     ///
     /// # Errors
-    /// `NoInstance`; `NoCall` where no call is open. Nothing is done then.
+    /// `NoInstance`; `NoCall` if no call is open. Nothing is done then.
     pub fn refuel(&mut self, id: InstId, fuel: u64) -> Result<(), HostError>
         ensures asks { AnswersCall self.old (λ w answer w2. IsRefuel w id fuel answer w2)
             result self.new }
@@ -35,10 +35,10 @@ impl Host {
         Ok(())
     }
 
-    /// Retries the present call of an instance, if it waits for a device: then it waits for a frame.
+    /// Retries the present call of an instance, if it is blocked on a device fault: then it waits for a frame.
     ///
     /// # Errors
-    /// `NoInstance`; `NoCall` where it doesn't wait for one. Nothing is done then.
+    /// `NoInstance`; `NoCall` if it isn't blocked on one. Nothing is done then.
     pub fn retry(&mut self, id: InstId) -> Result<(), HostError>
         ensures asks { AnswersCall self.old (λ w answer w2. IsRetry w id answer w2)
             result self.new }
@@ -58,8 +58,8 @@ impl Host {
         Ok(())
     }
 
-    /// Cancels the present call of an instance where it is; what it has written stays. A start that is cancelled leaves the
-    /// instance dead, and the calls behind it end as dead.
+    /// Cancels the present call of an instance where it is; what it has written stays. A start that is cancelled leaves
+    /// the instance dead, and the calls after it end as dead.
     ///
     /// # Errors
     /// `NoInstance`; `NoCall` where no call is open. Nothing is done then.

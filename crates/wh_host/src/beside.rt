@@ -1,8 +1,8 @@
-//! An instance that is brought on beside others, and the end of its turns.
+//! An instance that runs against an overlay while others do, and the end of its turns.
 
 ghost use Rattle.std.specs.Prelude.{◌≡◌, ◌≢◌, ◌+◌, ◌*◌, ◌≤◌, ℕ, [], get_or, length};
 ghost use Rattle.wh_host_model.specs.Host.Worlds.{Tenant as OneTenant};
-ghost use Rattle.wh_host_model.specs.Space.Parts.{Space};
+ghost use Rattle.wh_space_model.specs.Parts.{Space};
 ghost use Rattle.wh_imports.specs.LinkedState.{LinkedState};
 ghost use Rattle.wh_instance.specs.Seen.{IsAtTerm};
 ghost use Rattle.wh_instance.specs.Tenancy.{HostInstanceState};
@@ -20,13 +20,13 @@ use crate::turning::settle_at;
 use wh_host_model::TurnEnd;
 use wh_imports::Linked;
 use wh_instance::{Burst, HostInstance, Leave, TurnOutcome};
-use wh_overlay::{Overlay, Upper};
+use wh_overlay::{Overlay, OverlayPages};
 use wh_space::Memory;
 
-/// What came of the turns of an instance beside others, before they are finished.
+/// What came of the turns of an instance against an overlay, before they are finished.
 #[derive(Clone, Copy)]
 pub struct RanBeside {
-    /// To what it came in the last.
+    /// The outcome of the last turn.
     pub came: TurnOutcome,
     /// How many pieces it has written.
     pub pieces: u64,
@@ -38,8 +38,8 @@ pub struct RanBeside {
     pub leave: Leave,
 }
 
-/// Brings the instance at this place on by a burst over the memory, which others read at the same time: what came of it, and what
-/// was written beside the memory.
+/// Runs a burst of the instance at this place against an overlay on the memory, which others read at the same time;
+/// returns the outcome, and what was written in the overlay.
 pub fn run_beside(
     tenant: &mut HostInstance,
     linked: &Linked,
@@ -47,8 +47,8 @@ pub fn run_beside(
     place: usize,
     page_limit: u32,
     burst: Burst,
-    upper: Upper,
-) -> (RanBeside, Upper)
+    upper: OverlayPages,
+) -> (RanBeside, OverlayPages)
     requires pages { upper.pages ≡ [] }
     requires grown { upper.grown ≡ 0 }
     requires taken { upper.taken ≡ 0 }
@@ -74,8 +74,8 @@ pub fn run_beside(
     (ran, overlay.into_upper())
 }
 
-// Lays back what was written beside the memory in so many charges. Where there were none nothing is done.
-fn lay_beside(memory: &mut Memory, place: usize, charges: u64, upper: &mut Upper)
+// Writes back what was written in the overlay in `charges` charges. If there were none, does nothing.
+fn lay_beside(memory: &mut Memory, place: usize, charges: u64, upper: &mut OverlayPages)
     requires hand { AreAtHand memory.old place upper.old.pages }
     requires lacking { frames_lacking memory.old place upper.old.pages ≤ upper.old.lent }
     requires free { upper.old.lent ≤ length memory.old.pool.free }
@@ -96,7 +96,7 @@ fn lay_beside(memory: &mut Memory, place: usize, charges: u64, upper: &mut Upper
     upper.lay(memory, place);
 }
 
-// To what the turns came in the memory in which all is laid back.
+// The outcome of the turns in the memory to which all is written back.
 fn came_there(memory: &Memory, place: usize, ran: RanBeside) -> TurnOutcome
     ensures { (q : ℕ) → (q2 : ℕ) × CameThere memory.now place ran.came ran.charges q result q2 }
 {
@@ -112,14 +112,15 @@ fn came_there(memory: &Memory, place: usize, ran: RanBeside) -> TurnOutcome
     }
 }
 
-/// Finishes the turns of the instance at this place that was brought on beside others: what was written is laid back. What the last is
-/// answered: that its call can go on where it stopped before bytes that it may read or write now.
+/// Finishes the turns of the instance at this place that ran against an overlay: writes back what it has written.
+/// Returns the outcome of the last turn, by which its call can make progress if it stopped before bytes that it may
+/// read or write now.
 pub fn finish_beside(
     tenant: &mut HostInstance,
     memory: &mut Memory,
     place: usize,
     ran: RanBeside,
-    upper: &mut Upper,
+    upper: &mut OverlayPages,
 ) -> TurnEnd
     requires { (l : LinkedState) × (limit q : ℕ) × (s : Space) × (x : HostInstanceState) × (t : OneTenant)
         × HasRun l limit q s memory.old place x t ran.came ran.pieces ran.charges tenant.old upper.old }

@@ -2,7 +2,7 @@
 
 ghost use Rattle.wh_host_model.specs.Host.Happens.{OnlyMoves};
 ghost use Rattle.wh_host_model.specs.Host.Worlds.{World};
-ghost use Rattle.wh_host_model.specs.Space.Stores.{Epochs};
+ghost use Rattle.wh_space_model.specs.Stores.{Epochs};
 ghost use Rattle.wh_host.specs.Backing.{KeepsBacking};
 ghost use Rattle.wh_host.specs.Hosting.{IsHost};
 

@@ -25,7 +25,7 @@ pub enum HostError {
 }
 
 impl HostError {
-    /// Returns the number by which replies name it, behind an H: 1 to 8.
+    /// Returns the number by which replies name it, after an H: 1 to 8.
     pub fn number(self) -> u8
         ensures { result ≡ host_number self }
     {

@@ -1,12 +1,13 @@
 //! The host.
 
 ghost use Rattle.std.specs.Option.{option_copied};
-ghost use Rattle.std.specs.Prelude.{◌≡◌, IfErr, IfOk, slice_get};
+ghost use Rattle.std.specs.Prelude.{◌≡◌, ◌≤◌, IfErr, IfOk, slice_get};
 ghost use Rattle.wh_host_model.specs.Host.Worlds.{World};
 ghost use Rattle.wh_host_model.specs.Host.Happens.{IsTurn};
 ghost use Rattle.wh_host.specs.Backing.{KeepsBacking};
 ghost use Rattle.wh_host.specs.Hosting.{IsHost, IsNewHost};
 ghost use Rattle.wh_host.specs.Left.{LeavesTurned};
+ghost use Rattle.wh_host.specs.Series.{HasSpent};
 
 use crate::parts::{InstanceEntry, LoadedModule};
 use crate::turning::turn_at;
@@ -14,8 +15,9 @@ use slab::Slab;
 use std::alloc::Global;
 use std::marker::Model;
 use wh_frames::FrameError;
-use wh_host_model::{InstId, Tax, TurnEnd};
+use wh_host_model::TurnEnd;
 use wh_space::Memory;
+use wh_space_model::{InstId, Tax};
 
 // The module of this number.
 pub(crate) fn module_at(modules: &Vec<LoadedModule>, number: usize) -> Option<&LoadedModule>
@@ -103,8 +105,8 @@ impl Host {
         })
     }
 
-    /// Holds of every host: it represents one to which events lead, and reads of a swap device that gave other bytes, if there
-    /// were any.
+    /// States what holds of every host: it represents one that was reached by events, and by reads of a swap device
+    /// that gave other bytes, if there were any. Does nothing when run.
     #[inline(always)]
     pub fn invariant(&self)
         ensures { (w : World) × IsHost self.now w }
@@ -112,22 +114,25 @@ impl Host {
         let _ = &self.live;
     }
 
-    /// Gives an instance a turn of `q` charges. The memory of all changes by its own loads, stores and growth alone, and by
-    /// what it waits for then.
-    pub fn turn(&mut self, id: InstId, q: u64) -> TurnEnd
+    /// Runs a turn of at most `q` charges of an instance. The memory of all changes by its own loads, stores and growth
+    /// alone, and by what it is blocked on then. Returns the turn's end, and how many charges it took; `Idle` and 0 if
+    /// there is no such instance, or no call of it is open.
+    pub fn turn(&mut self, id: InstId, q: u64) -> (TurnEnd, u64)
         ensures turns { (w : World) → IsHost self.old w
-            → (w2 : World) × IsTurn w id q result w2 × IsHost self.new w2 }
+            → (w2 : World) × IsTurn w id q result.0 w2 × HasSpent w id result.1 w2
+            × IsHost self.new w2 }
+        ensures few { result.1 ≤ q }
         ensures backing { KeepsBacking self.old.space self.new.space }
-        ensures memory { LeavesTurned id.place result self.old.space self.new.space }
+        ensures memory { LeavesTurned id.place result.0 self.old.space self.new.space }
     {
         let Some(entry) = self.entries.get_mut(id.place) else {
-            return TurnEnd::Idle;
+            return (TurnEnd::Idle, 0);
         };
         if !entry.has_number(id.number) {
-            return TurnEnd::Idle;
+            return (TurnEnd::Idle, 0);
         }
         let Some(module) = module_at(&self.modules, entry.of) else {
-            return TurnEnd::Idle;
+            return (TurnEnd::Idle, 0);
         };
         turn_at(
             &mut entry.tenant,

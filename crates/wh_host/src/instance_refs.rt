@@ -20,6 +20,7 @@ fn number_at(entries: &Slab<InstanceEntry>, place: usize) -> Option<u64>
     }
 }
 
+/// Returns the reference at this place.
 pub fn ref_at(instance_refs: &[InstanceRef], at: usize) -> InstanceRef
     requires { at < length instance_refs.now }
     ensures { slice_get instance_refs.now at ≡ Some result }

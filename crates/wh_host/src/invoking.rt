@@ -7,11 +7,11 @@ ghost use Rattle.wh_host.specs.CallRequests.{AnswersInvoke};
 use crate::error::HostError;
 use crate::host::{Host, module_at};
 use std::alloc::Global;
-use wh_host_model::InstId;
+use wh_space_model::InstId;
 
 impl Host {
-    /// Queues a call of the function that an instance's module exports as `name`, with arguments `given` and `fuel`, behind the
-    /// calls that are open; turns run it. Returns its place in the instance's journal, where the start is 0.
+    /// Queues a call of the function that an instance's module exports as `name`, with arguments `given` and `fuel`,
+    /// after the open calls; turns run it. Returns its place in the instance's journal, where the start is 0.
     ///
     /// An argument is a number, signed or unsigned, in the bits of its type.
     ///

@@ -2,7 +2,7 @@
 
 ghost use Rattle.std.specs.Prelude.{◌≡◌, ◌+◌, ◌≤◌, ℕ, List, Option, Some, None, true, false, slice_get, slice_set};
 ghost use Rattle.wh_host_model.specs.Host.Worlds.{World};
-ghost use Rattle.wh_host_model.specs.Space.Parts.{Space};
+ghost use Rattle.wh_space_model.specs.Parts.{Space};
 ghost use Rattle.wh_instance.specs.Tenancy.{HostInstanceState};
 ghost use Rattle.wh_host.specs.declared.parts.InstanceEntry.{InstanceEntry as OneEntry};
 ghost use Rattle.wh_host.specs.declared.rounds.Runner.{Runner as OneRunner};
@@ -14,13 +14,13 @@ ghost use Rattle.wh_host.specs.Joining.{CanFinish, FinishesAt, HasAnswer, HaveRu
 use crate::beside::finish_beside;
 use crate::host::Host;
 use crate::parts::InstanceEntry;
-use crate::rounds::{Fork, Round, Runner, SeriesEnd};
+use crate::rounds::{Round, RoundRunner, Runner, SeriesEnd};
 use slab::Slab;
 use std::mem;
 use wh_instance::Burst;
 use wh_space::Memory;
 
-// Hands a runner its instance, if that computes, and lends it so many frames.
+// Hands a runner its instance, if that computes, and lends it `frames` frames.
 fn take_out(entries: &mut Slab<InstanceEntry>, runner: &mut Runner, frames: u32)
     ensures { TakesOut entries.old.slots runner.old frames entries.new.slots runner.new }
 {
@@ -45,7 +45,7 @@ fn take_out(entries: &mut Slab<InstanceEntry>, runner: &mut Runner, frames: u32)
     }
 }
 
-// Hands all runners theirs, and lends each an equal part of so many frames, used or not.
+// Hands all runners theirs, and lends each an equal part of `frames` frames, used or not.
 fn take_all(entries: &mut Slab<InstanceEntry>, runners: &mut [Runner], frames: u32)
     requires { AllAreFree runners.old }
     ensures frames { lent_to_all runners.new ≤ frames }
@@ -100,7 +100,7 @@ fn give_back(entries: &mut Slab<InstanceEntry>, runner: &mut Runner)
     mem::swap(&mut entry.tenant, &mut runner.tenant);
 }
 
-// Lays back what the instance of a runner has written, if it has one, and gives it its place again.
+// Writes back what the instance of a runner has written, if it has one, and gives it its place again.
 fn lay_at(entries: &mut Slab<InstanceEntry>, memory: &mut Memory, runner: &mut Runner)
     requires { runner.old.taken ≡ true → (q : ℕ) × CanFinish q memory.old runner.old }
     ensures { (q : ℕ) → LaysAt q entries.old.slots memory.old runner.old entries.new.slots memory.new runner.new }
@@ -112,7 +112,7 @@ fn lay_at(entries: &mut Slab<InstanceEntry>, memory: &mut Memory, runner: &mut R
     give_back(entries, runner);
 }
 
-// Lays back what all have written, one after the other.
+// Writes back what all have written, one after the other.
 fn lay_all(entries: &mut Slab<InstanceEntry>, memory: &mut Memory, runners: &mut [Runner])
     requires { (h : HostState) × (q most : ℕ) × (before : List (Option OneEntry)) × (s : Space) × (w : World)
         × HaveRun h.modules q most before s entries.old.slots memory.old runners.old
@@ -134,11 +134,11 @@ fn lay_all(entries: &mut Slab<InstanceEntry>, memory: &mut Memory, runners: &mut
 }
 
 impl Host {
-    /// Gives a burst to each instance that has a runner and computes, all at once. It comes to their turns one after the other, in the
-    /// order of the runners: as many of each as its runner says, and of as many charges at most as the burst says. Behind turns that
-    /// took no charge its call can go on only where what it does next can't be reached beside the memory. No further turn is begun once
-    /// somebody wants the memory.
-    pub fn turns_at_once<F: Fork>(&mut self, fork: &F, runners: &mut [Runner], burst: Burst)
+    /// Runs a burst of each instance that has a runner and computes, all at once, as if one burst after the other, in the
+    /// order of the runners: as many turns of each as its runner says, of as many charges at most as the burst says.
+    /// After turns that took no charge its call can make progress only if what it does next can't be reached over the
+    /// overlay. No further turn is begun once somebody wants the memory.
+    pub fn turns_at_once<F: RoundRunner>(&mut self, fork: &F, runners: &mut [Runner], burst: Burst)
         requires can { F.can fork.now }
         requires free { AllAreFree runners.old }
         ensures turns { (w : World) → IsHost self.old w

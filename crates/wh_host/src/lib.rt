@@ -1,7 +1,8 @@
 //! A host of many instances on one memory.
 //!
-//! Modules are loaded, instances of them are admitted, and their owners ask for calls of them, which run by turns: so many
-//! charges at a time. All linear memories (2.5.5 of the W3C WebAssembly Core Specification 1.0) lie on one pool of frames.
+//! Modules are loaded, instances of them are admitted, and their owners ask for calls of them, which run by turns of a
+//! limited number of charges. All linear memories (2.5.5 of the W3C WebAssembly Core Specification 1.0) share one pool
+//! of frames.
 #![tactic(auto)]
 
 mod admitting;
@@ -35,8 +36,8 @@ pub use loading::MOST_MODULES;
 pub use parts::ModuleId;
 pub use report::{InstanceReport, Report};
 pub use request::{Admit, BeginEpoch, Cancel, Invoke, Load, Refuel, Release, Request, Retry};
-pub use rolling::{Enrolled, Roll};
-pub use rounds::{Fork, InOrder, Round, Runner, SeriesEnd};
+pub use rolling::{Roll, RollInstance};
+pub use rounds::{InOrder, Round, RoundRunner, Runner, SeriesEnd};
 pub use transit::{Eviction, Fetch};
 pub use turning::turn_at;
 pub use wh_admit::{AdmitError, Params};

@@ -12,7 +12,7 @@ use std::sync::Arc;
 use wh_imports::Linked;
 use wh_load::load;
 
-/// The modules that a host keeps.
+/// How many modules a host keeps at most.
 pub const MOST_MODULES: usize = 1024;
 
 // These bytes, to be shared.
@@ -26,7 +26,7 @@ fn shared_bytes(alloc: Global, bytes: &[u8]) -> Result<Arc<Vec<u8>>, AllocError>
     }
 }
 
-// Puts a module and its bytes behind the others.
+// Puts a module and its bytes after the others.
 fn keep(
     modules: &mut Vec<LoadedModule>,
     alloc: Global,
@@ -46,8 +46,9 @@ impl Host {
     /// Keeps the module that `bytes` spell, and these. Returns its number, from 0.
     ///
     /// # Errors
-    /// `Bytes` with the fault of the bytes, `ModulesFull` where 1024 modules are kept, `Memory` where room is refused; the
-    /// first of them that holds. The host is as it was then.
+    /// `Bytes` with the fault of the bytes, or of an allocation that failed while they were read; `ModulesFull` if 1024
+    /// modules are kept; `Memory` if there is no room to keep this one; the first of them that holds. The host is as it
+    /// was then.
     pub fn load(&mut self, alloc: Global, bytes: &[u8]) -> Result<ModuleId, ModuleError>
         ensures loads { AnswersLoad self.old bytes.now result self.new }
         ensures err { OnErr result (self.new ≡ self.old) }

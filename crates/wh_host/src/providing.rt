@@ -2,22 +2,22 @@
 
 ghost use Rattle.std.specs.Prelude.{◌≡◌, ◌+◌, Ok, IfOk, OnErr};
 ghost use Rattle.wh_host_model.specs.Host.Happens.{AwaitsFrame};
-ghost use Rattle.wh_host_model.specs.Space.Errands.{tickets};
-ghost use Rattle.wh_host_model.specs.Space.Laws.{IsProvided};
-ghost use Rattle.wh_host_model.specs.Space.Provide.{FailsToProvide, FailsTruly, OthersKeepMinimum, Provides, ProvidesTruly};
+ghost use Rattle.wh_space_model.specs.Errands.{tickets};
+ghost use Rattle.wh_space_model.specs.Laws.{IsProvided};
+ghost use Rattle.wh_space_model.specs.Provide.{FailsToProvide, FailsTruly, OthersKeepMinimum, Provides, ProvidesTruly};
 ghost use Rattle.wh_model.specs.declared.memory.Need.{Need};
 ghost use Rattle.wh_reclaim.specs.Whole.{IsAsWhole};
 ghost use Rattle.wh_swap.specs.DeviceCalls.{ServesOn, call_faults};
 ghost use Rattle.wh_host.specs.Paging.{IsAwaiting, IsGoing, MovesAnyhow, MovesWith, Tells, WaitsFor, provide_fault};
 
 use crate::host::Host;
-use wh_host_model::{InstId, SwapError};
 use wh_reclaim::{Buf, provide};
+use wh_space_model::{InstId, SwapError};
 use wh_swap::SwapDev;
 
 impl Host {
-    /// Returns whether a turn or a provision can advance the instance: a call of it is open, and waits neither for fuel nor for
-    /// a device.
+    /// Returns whether a turn or a provision can make the instance progress: a call of it is open, and isn't blocked on
+    /// fuel or a device fault.
     pub fn can_go_on(&self, id: InstId) -> bool
         ensures { Tells self.now result (λ w. IsGoing w id) }
     {
@@ -30,7 +30,7 @@ impl Host {
         entry.tenant.can_go_on()
     }
 
-    /// Returns whether the present call of the instance waits for a frame: `provide` makes its step ready.
+    /// Returns whether the present call of the instance is blocked on a frame: `provide` makes its step ready.
     pub fn awaits_frame(&self, id: InstId) -> bool
         ensures { Tells self.now result (λ w. IsAwaiting w id) }
     {
@@ -43,10 +43,10 @@ impl Host {
         entry.tenant.awaits_frame()
     }
 
-    /// Makes the next step of the instance ready where its present call waits for a frame: pages come from the device, and
-    /// others leave for it, so long as that is needed. Returns how many left, each by one write of the device. Else does
-    /// nothing; so too where the call waits for a device, until `retry`. It takes no memory: `buf` is used while the call
-    /// lasts.
+    /// Makes the next step of the instance ready, if its present call is blocked on a frame: fetches pages from the
+    /// device, and evicts others to it as long as that is needed. Returns how many pages were evicted, each by one
+    /// write of the device. Else does nothing, as for a call that is blocked on a device fault, until `retry`.
+    /// Allocates nothing: `buf` is used while the call lasts.
     ///
     /// The device holds what the slots hold; no ticket is out. Where it has read right, no byte of any page changes. Where it
     /// gave other bytes as Ok, those are what the pages that came have, and nothing else differs.

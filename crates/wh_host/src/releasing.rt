@@ -1,7 +1,7 @@
 //! How instances go.
 
 ghost use Rattle.std.specs.Prelude.{◌≡◌, OnErr, OnOk};
-ghost use Rattle.wh_host_model.specs.Space.Places.{Exits};
+ghost use Rattle.wh_space_model.specs.Places.{Exits};
 ghost use Rattle.wh_host.specs.Backing.{KeepsBacking};
 ghost use Rattle.wh_host.specs.Releasing.{AnswersRelease};
 ghost use Rattle.wh_host.specs.Entries.{PlaceIsLeft};
@@ -11,7 +11,7 @@ use crate::host::Host;
 use crate::parts::InstanceEntry;
 use slab::Slab;
 use std::alloc::Global;
-use wh_host_model::InstId;
+use wh_space_model::InstId;
 
 // Gives up a place that nobody has any more, where it is free.
 fn leave_place(entries: &mut Slab<InstanceEntry>, place: usize, is_free: bool)

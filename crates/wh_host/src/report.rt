@@ -2,7 +2,7 @@
 
 ghost use Rattle.std.specs.Prelude.{◌≤◌};
 
-use wh_host_model::Tax;
+use wh_space_model::Tax;
 
 /// What a report says of an instance.
 #[derive(Clone, Copy, Debug, PartialEq, Eq)]
@@ -17,10 +17,10 @@ pub struct InstanceReport {
     pub min: u32,
     /// The greatest number of frames of its memory.
     pub max: u32,
-    /// How many frames are charged to it, at most 65536: those on which its pages stand alone, and those that it
-    /// shares as the first of all sharers.
+    /// How many frames are charged to it, at most 65536: its pages' own ones, and the shared ones of which its page is
+    /// the first sharer.
     pub charged: u32,
-    /// On how many of these a page was touched, of whichever sharer.
+    /// On how many of these a page of any instance was touched.
     pub active: u32,
     /// How many of its pages are swapped.
     pub swapped: u32,

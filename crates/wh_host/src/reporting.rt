@@ -2,7 +2,7 @@
 
 ghost use Rattle.std.specs.Prelude.{◌≡◌, ◌≤◌, IfErr, IfOk, map};
 ghost use Rattle.std.specs.List.{All};
-ghost use Rattle.wh_host_model.specs.Space.Sound.{IsSound};
+ghost use Rattle.wh_space_model.specs.Sound.{IsSound};
 ghost use Rattle.wh_host.specs.Reporting.{ReportsHost, report_with, view_report, view_row};
 ghost use Rattle.wh_host.specs.InstanceRefs.{CanBeShown, row_by, rows_by};
 
@@ -15,7 +15,7 @@ use slab::Slab;
 use std::alloc::{AllocError, Global};
 use wh_space::Memory;
 
-// What is reported of who has this seat.
+// What is reported of who has this place.
 fn row_of(memory: &Memory, instance_ref: InstanceRef, entry: &InstanceEntry) -> InstanceReport
     requires { entry.now.given.shares ≤ 1000000 }
     ensures { view_row result ≡ row_by memory.now instance_ref entry.now }

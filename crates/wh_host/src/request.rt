@@ -5,8 +5,8 @@ ghost use Rattle.wh_params.specs.View.{view_params};
 ghost use Rattle.wh_host_model.specs.Host.Events.{admit, cancel, epoch, invoke, load, refuel, release, retry};
 ghost use Rattle.wh_host_model.specs.Host.Happens.{IsCancel, IsRefuel, IsRetry};
 ghost use Rattle.wh_host_model.specs.Host.Worlds.{promised};
-ghost use Rattle.wh_host_model.specs.Space.Places.{Enters, Exits};
-ghost use Rattle.wh_host_model.specs.Space.Stores.{Epochs, ended};
+ghost use Rattle.wh_space_model.specs.Places.{Enters, Exits};
+ghost use Rattle.wh_space_model.specs.Stores.{Epochs, ended};
 ghost use Rattle.wh_host.specs.Admitting.{AnswersAdmit};
 ghost use Rattle.wh_host.specs.Backing.{KeepsBacking};
 ghost use Rattle.wh_host.specs.CallRequests.{AnswersCall, AnswersInvoke};
@@ -21,7 +21,7 @@ use crate::host::Host;
 use crate::parts::ModuleId;
 use std::alloc::Global;
 use wh_admit::{AdmitError, Params};
-use wh_host_model::InstId;
+use wh_space_model::InstId;
 
 /// Is what an owner asks of a host.
 pub trait Request {
@@ -100,8 +100,8 @@ impl Request for Admit {
         (admit r.of.number (view_params r.params), x.1, tt, (x.0, x.3), x.4) };
 }
 
-/// Asks for a call of the function that an instance's module exports as `name`, behind the calls that are open. The answer is
-/// its place in the instance's journal, where the start is 0.
+/// Asks for a call of the function that an instance's module exports as `name`, after the open calls. The answer is its
+/// place in the instance's journal, where the start is 0.
 #[derive(Clone, Copy)]
 pub struct Invoke<'a> {
     /// Where memory comes from.

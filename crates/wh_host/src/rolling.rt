@@ -13,12 +13,12 @@ use std::alloc::{AllocError, Global};
 use std::marker::Model;
 use std::sync::Arc;
 use wh_admit::Params;
-use wh_host_model::InstId;
 use wh_instance::Suspension;
+use wh_space_model::InstId;
 
 /// What a roll says of a module.
 #[derive(Drop)]
-pub struct EnrolledModule {
+pub struct RollModule {
     /// Which it is.
     pub id: ModuleId,
     /// Its bytes, which the host has too.
@@ -27,7 +27,7 @@ pub struct EnrolledModule {
 
 /// What a roll says of an instance.
 #[derive(Drop)]
-pub struct Enrolled {
+pub struct RollInstance {
     /// Which it is.
     pub id: InstId,
     /// Of which module it is.
@@ -52,10 +52,10 @@ pub struct Enrolled {
 /// Its type keeps that events lead from an empty host to one of which it is the roll.
 #[derive(Drop)]
 pub struct Roll {
-    modules: Vec<EnrolledModule>,
+    modules: Vec<RollModule>,
     next: u64,
     tickets: u32,
-    instances: Vec<Enrolled>,
+    instances: Vec<RollInstance>,
 }
 
 impl Model for Roll {
@@ -81,7 +81,7 @@ impl Model for Roll {
 
 impl Roll {
     /// Returns the modules by number. Numbers of those that are gone are left out.
-    pub fn modules(&self) -> &[EnrolledModule]
+    pub fn modules(&self) -> &[RollModule]
         ensures { map view_listed_module result.now ≡ self.now.modules }
     {
         &self.modules
@@ -102,7 +102,7 @@ impl Roll {
     }
 
     /// Returns them by number.
-    pub fn instances(&self) -> &[Enrolled]
+    pub fn instances(&self) -> &[RollInstance]
         ensures { map view_listed result.now ≡ self.now.instances }
     {
         &self.instances
@@ -110,13 +110,13 @@ impl Roll {
 }
 
 // What the roll says of these modules.
-fn all_loaded(alloc: Global, modules: &[LoadedModule]) -> Result<Vec<EnrolledModule>, AllocError>
+fn all_loaded(alloc: Global, modules: &[LoadedModule]) -> Result<Vec<RollModule>, AllocError>
     ensures { IfOk result (λ list. map view_listed_module list.items ≡ modules_from 0 modules.now) }
 {
     let mut list = Vec::with_capacity(alloc, modules.len())?;
     for number in 0..modules.len() {
         let bytes = Arc::try_clone(&modules[number].bytes)?;
-        list.push(EnrolledModule {
+        list.push(RollModule {
             id: ModuleId { number },
             bytes,
         })?;
@@ -124,18 +124,18 @@ fn all_loaded(alloc: Global, modules: &[LoadedModule]) -> Result<Vec<EnrolledMod
     Ok(list)
 }
 
-// What the roll says of who has this seat.
+// What the roll says of who has this place.
 fn enrolled_by(
     alloc: Global,
     instance_ref: InstanceRef,
     entry: &InstanceEntry,
-) -> Result<Enrolled, AllocError>
+) -> Result<RollInstance, AllocError>
     ensures { IfOk result (λ enrolled. view_listed enrolled ≡ listed_by instance_ref entry.now) }
 {
     let tenant = &entry.tenant;
     let params = params_of(alloc, entry.given, tenant.inputs())?;
     let journal = tenant.journal();
-    Ok(Enrolled {
+    Ok(RollInstance {
         id: InstId {
             place: instance_ref.place,
             number: instance_ref.number,
@@ -155,7 +155,7 @@ fn all_enrolled(
     alloc: Global,
     entries: &Slab<InstanceEntry>,
     instance_refs: &[InstanceRef],
-) -> Result<Vec<Enrolled>, AllocError>
+) -> Result<Vec<RollInstance>, AllocError>
     ensures { IfOk result (λ list.
         map view_listed list.items ≡ listed_refs entries.now.slots instance_refs.now) }
 {

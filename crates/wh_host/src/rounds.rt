@@ -1,4 +1,4 @@
-//! Rounds: turns of several instances at once, each beside the others.
+//! Rounds: turns of several instances at once, each against an overlay.
 
 ghost use Rattle.std.specs.Prelude.{◌≡◌, ◌+◌, None, true, IfOk};
 ghost use Rattle.wh_host.specs.Rounds.{AllMayRun, AllRun, IsFree, MayRun, RunsAt};
@@ -7,25 +7,26 @@ use crate::beside::{RanBeside, run_beside};
 use crate::host::module_at;
 use crate::parts::LoadedModule;
 use std::alloc::{AllocError, Global};
-use wh_host_model::{InstId, TurnEnd};
+use wh_host_model::TurnEnd;
 use wh_instance::{Burst, HostInstance, Leave, TurnOutcome};
-use wh_overlay::Upper;
+use wh_overlay::OverlayPages;
 use wh_space::Memory;
+use wh_space_model::InstId;
 
-/// To what turns of an instance came, one after the other.
+/// The outcome of consecutive turns of an instance.
 #[derive(Clone, Copy, Debug, PartialEq, Eq)]
 pub struct SeriesEnd {
     /// How many there were, 1 or more.
     pub turns: u64,
     /// How many charges they took in all.
     pub charges: u64,
-    /// What the last was answered. Behind each other one the call could go on.
+    /// What the last was answered. After each other one the call could go on.
     pub end: TurnEnd,
-    /// The leave that there was for those behind the first: it was read as often that nobody wants the memory.
+    /// The leave that there was for those after the first: it was read as often that nobody wants the memory.
     pub leave: Leave,
 }
 
-/// A runner of a round: for which instance it is, to what its turns came, and room for what they write beside the memory.
+/// A runner of a round: which instance it runs, the outcome of its turns, and room for what they write in the overlay.
 #[derive(Drop)]
 pub struct Runner {
     // For which instance it is.
@@ -36,9 +37,9 @@ pub struct Runner {
     pub(crate) of: usize,
     pub(crate) page_limit: u32,
     pub(crate) tenant: HostInstance,
-    pub(crate) upper: Option<Upper>,
+    pub(crate) upper: Option<OverlayPages>,
     pub(crate) ran: RanBeside,
-    // To what its turns came; none where it had none.
+    // The outcome of its turns; none where it had none.
     pub(crate) answer: Option<SeriesEnd>,
 }
 
@@ -51,10 +52,10 @@ pub struct Round<'a> {
 }
 
 /// Runs the runners of a round, in whatever order or at once.
-pub trait Fork {
+pub trait RoundRunner {
     ghost can: { Self → Type 0 };
 
-    /// Brings the instance of each runner on, as `Round::run` does.
+    /// Runs the turns of each runner, as `Round::run` does.
     fn run_all(&self, round: &Round, runners: &mut [Runner])
         requires can { Self.can self.now }
         requires may { AllMayRun round.now.modules.now.items round.now.memory.now runners.old }
@@ -66,7 +67,7 @@ pub trait Fork {
 #[derive(Clone, Copy)]
 pub struct InOrder;
 
-impl Fork for InOrder {
+impl RoundRunner for InOrder {
     ghost use Rattle.std.specs.Prelude.{⊤};
 
     ghost can = { λ _. ⊤ };
@@ -79,7 +80,7 @@ impl Fork for InOrder {
 }
 
 impl<'a> Round<'a> {
-    /// Brings the instance of a runner on, if it has one, beside the others.
+    /// Runs this runner's turns against its overlay, if it has an instance.
     pub fn run(&self, runner: &mut Runner)
         requires { runner.old.taken ≡ true → MayRun self.now.modules.now.items self.now.memory.now runner.old }
         ensures { RunsAt self.now.modules.now.items self.now.memory.now self.now.burst.quantum
@@ -109,15 +110,15 @@ impl<'a> Round<'a> {
 }
 
 impl Runner {
-    /// Makes a runner for this instance, with room for so many pages that it writes, of a memory with so many pages of 4096 bytes at
-    /// most.
+    /// Creates a runner for this instance, with room for `written` pages that it writes, of a memory of at most `pages`
+    /// pages of 4096 bytes.
     ///
     /// # Errors
-    /// Where room is refused.
+    /// `AllocError` if an allocation fails.
     pub fn new(alloc: Global, id: InstId, written: u16, pages: usize) -> Result<Runner, AllocError>
         ensures { IfOk result (λ y. IsFree y × (y.id ≡ id) × (y.answer ≡ None)) }
     {
-        let upper = Upper::new(alloc, written, pages)?;
+        let upper = OverlayPages::new(alloc, written, pages)?;
         Ok(Runner {
             id,
             taken: false,
@@ -136,21 +137,21 @@ impl Runner {
         })
     }
 
-    /// Returns for which instance it is.
+    /// Returns the instance that it runs.
     pub fn id(&self) -> InstId
         ensures { result ≡ self.now.id }
     {
         self.id
     }
 
-    /// Gives it to another instance.
+    /// Hands it another instance to run.
     pub fn give(&mut self, id: InstId)
         ensures { self.new ≡ record self.old { id = id } }
     {
         self.id = id;
     }
 
-    /// Returns to what its turns came; none where it had none.
+    /// Returns the outcome of its turns; `None` if it had none.
     pub fn answer(&self) -> Option<SeriesEnd>
         ensures { result ≡ self.now.answer }
     {

@@ -1,17 +1,17 @@
-//! Pages with equal bytes come to lie on one frame.
+//! Pages with equal bytes come to share one frame.
 
 ghost use Rattle.std.specs.Prelude.{◌≡◌, ◌+◌, ℕ, List, IfSome, IfNone, IsSome, length};
-ghost use Rattle.wh_host_model.specs.Space.Offers.{OffersOf};
-ghost use Rattle.wh_host_model.specs.Space.Scanning.{IsDistinct};
+ghost use Rattle.wh_space_model.specs.Offers.{OffersOf};
+ghost use Rattle.wh_space_model.specs.Scanning.{IsDistinct};
 ghost use Rattle.wh_scan.specs.Pass.{HasSoManyPages, MayPass, PassesOverAll, ScansAll};
 ghost use Rattle.wh_host.specs.Backing.{KeepsBacking};
 ghost use Rattle.wh_host.specs.Paging.{MovesOnly};
 ghost use Rattle.wh_host.specs.Sharing.{CanOffer, CanScan};
 
 use crate::host::Host;
-use wh_host_model::{InstId, Offer};
 use wh_kernels::PageHash;
 use wh_scan::{offer, scan_all};
+use wh_space_model::{InstId, Offer};
 
 impl Host {
     /// Offers all pages of all instances for sharing, in the order of the instances' numbers, and those of each in order, each

@@ -11,10 +11,10 @@ use crate::parts::{InstanceEntry, StoredParams};
 use std::alloc::{AllocError, Global};
 use std::sync::Arc;
 use wh_admit::Params;
-use wh_host_model::InstId;
+use wh_space_model::InstId;
 use wh_transcript::Transcript;
 
-// What the owner of an instance gave it, with these words as its input.
+/// Returns what the owner of an instance gave it, with these words as its input.
 pub fn params_of(alloc: Global, given: StoredParams, inputs: &[u64]) -> Result<Params, AllocError>
     ensures { IfOk result (λ params. view_params params ≡ given_with given inputs.now) }
 {

@@ -5,8 +5,8 @@ ghost use Rattle.wh_host.specs.TicketsOut.{IsPresentCall};
 ghost use Rattle.wh_host.specs.Telling.{TellsChargesOf, TellsOf, charges_in_journal};
 
 use crate::host::{Host, module_at};
-use wh_host_model::InstId;
 use wh_instance::{CallStatus, HostInstance};
+use wh_space_model::InstId;
 
 // How many charges the call at this place of the journal has taken, where there is one.
 fn charges_of(tenant: &HostInstance, at: usize) -> Option<u64>
@@ -19,8 +19,8 @@ fn charges_of(tenant: &HostInstance, at: usize) -> Option<u64>
 }
 
 impl Host {
-    /// Returns how far the call at place `at` of the instance's journal is, the start being at 0; `None` where there is no such
-    /// instance or call. It takes constant time and no memory.
+    /// Returns the status of the call at place `at` of the instance's journal, the start being at 0; `None` if there is
+    /// no such instance or call. Takes O(1), and allocates nothing.
     pub fn call_status(&self, id: InstId, at: u32) -> Option<CallStatus>
         ensures { TellsOf self.now id at result }
     {

@@ -2,9 +2,9 @@
 
 ghost use Rattle.std.specs.Prelude.{◌≡◌, ◌≢◌, ℕ, [], None, Some, IfErr, IfOk, IsErr, OnOk, MatchOption, get_or, is_ok};
 ghost use Rattle.wh_host_model.specs.Host.Happens.{AwaitsFrameFor};
-ghost use Rattle.wh_host_model.specs.Space.Errands.{to_read, to_write};
-ghost use Rattle.wh_host_model.specs.Space.Places.{IsFreePlace};
-ghost use Rattle.wh_host_model.specs.Space.Tickets.{BeginsEvict, BeginsFetch, CommitsFetch};
+ghost use Rattle.wh_space_model.specs.Errands.{to_read, to_write};
+ghost use Rattle.wh_space_model.specs.Places.{IsFreePlace};
+ghost use Rattle.wh_space_model.specs.Tickets.{BeginsEvict, BeginsFetch, CommitsFetch};
 ghost use Rattle.wh_model.specs.declared.memory.Need.{Need};
 ghost use Rattle.wh_space.specs.TicketOwners.{ticket_place};
 ghost use Rattle.wh_host.specs.TicketsOut.{EndsEvict, IsOut, IsPresentCall, KeepsFault, OnlyReleasedGo, bytes_to_write, evict_fault, fetch_fault, slot_to_read, slot_to_write};
@@ -15,11 +15,11 @@ ghost use Rattle.wh_host.specs.declared.parts.InstanceEntry.{InstanceEntry as On
 use crate::host::Host;
 use crate::parts::InstanceEntry;
 use slab::Slab;
-use wh_host_model::{EvictEnd, FetchEnd, InstId, SwapError};
 use wh_reclaim::{
     Buf, EvictTicket, FetchTicket, evict_begin, evict_commit, fetch_begin, fetch_commit,
 };
 use wh_space::Memory;
+use wh_space_model::{EvictEnd, FetchEnd, InstId, SwapError};
 
 /// A page is leaving for the next step of an instance. Its bytes are to be written to the ticket's slot, and it is to be
 /// brought back to `evict_commit`: it can't be copied, and not be let go.
@@ -43,7 +43,7 @@ pub struct Fetch {
     pub ticket: FetchTicket,
 }
 
-// The device's fault, where that is what the ticket came to.
+// The device's fault, if that is the outcome of the ticket.
 fn fault_of_evict(end: EvictEnd, device: Result<(), SwapError>) -> Option<SwapError>
     ensures { result ≡ evict_fault end device }
 {
@@ -140,11 +140,13 @@ impl Host {
         Some(entry.tenant.present_call())
     }
 
-    /// Begins to evict a page for the next step of the instance, where its present call waits for a frame: one of whoever pays,
-    /// or where nobody has to pay one of its own. No byte of any page changes.
+    /// Begins to evict a page for the next step of the instance, if its present call is blocked on a frame: a page of
+    /// the instance that pays; if nobody pays, that of a sharer of a frame that the step writes; if there is none, one
+    /// of its own. No byte of any page changes.
     ///
     /// # Errors
-    /// The buffer, where the call doesn't wait for a frame, its step lacks no frame, no slot is vacant or no page has to leave.
+    /// The buffer, if the call isn't blocked on a frame, its step lacks no frame, no slot is vacant or no page has to
+    /// leave.
     pub fn evict_begin(&mut self, id: InstId, buf: Buf) -> Result<Eviction, Buf>
         ensures moves { MovesOnly self.old self.new }
         ensures begins { (need : Need) → WaitsFor self.old id need
@@ -167,11 +169,11 @@ impl Host {
         Ok(Eviction { id, call, ticket })
     }
 
-    /// Begins to fetch the first page of the next step of the instance that lies in a slot, where its present call waits for a
-    /// frame. No byte of any page changes.
+    /// Begins to fetch the first page of the next step of the instance that is in a slot, where its present call waits
+    /// for a frame. No byte of any page changes.
     ///
     /// # Errors
-    /// The buffer, where the call doesn't wait for a frame, no page of its step lies in a slot, or no frame is free or
+    /// The buffer, where the call doesn't wait for a frame, no page of its step is in a slot, or no frame is free or
     /// earmarked for it.
     pub fn fetch_begin(&mut self, id: InstId, buf: Buf) -> Result<Fetch, Buf>
         ensures moves { MovesOnly self.old self.new }
@@ -221,11 +223,11 @@ impl Host {
         (end, buf)
     }
 
-    /// Ends a fetch, by what the device answered to its read. Where the buffer has what the slot holds no byte of any page
-    /// changes. Returns it, and `Void` where the instance was released, `Fetched`, and the page has these bytes, where the
-    /// device answered Ok, and `Failed` else, and it lies in its slot as before. At `Failed` the fault is kept with the call
-    /// for which it was begun, while that is there and waits for a frame. The place of an instance that was released is given
-    /// up with its last ticket.
+    /// Ends a fetch, by what the device answered to its read. Where the buffer has what the slot holds no byte of any
+    /// page changes. Returns it, and `Void` where the instance was released, `Fetched`, and the page has these bytes,
+    /// where the device answered Ok, and `Failed` else, and it is in its slot as before. At `Failed` the fault is kept
+    /// with the call for which it was begun, while that is there and waits for a frame. The place of an instance that
+    /// was released is given up with its last ticket.
     pub fn fetch_commit(&mut self, fetched: Fetch, device: Result<(), SwapError>) -> (FetchEnd, Buf)
         requires out { IsOut self.old.space fetched.ticket.slot to_read }
         ensures moves { OnOk device (get_or self.old.space.slots.held fetched.ticket.slot []

@@ -1,6 +1,6 @@
 //! Turns of an instance on the memory of all.
 
-ghost use Rattle.std.specs.Prelude.{◌≡◌, ◌≢◌, []};
+ghost use Rattle.std.specs.Prelude.{◌≡◌, ◌≢◌, ◌≤◌, []};
 ghost use Rattle.wh_host_model.specs.Host.Worlds.{Tenant as OneTenant};
 ghost use Rattle.wh_host.specs.Backing.{KeepsBacking};
 ghost use Rattle.wh_host.specs.Left.{LeavesTurned};
@@ -13,8 +13,8 @@ use wh_imports::Linked;
 use wh_instance::{HostInstance, TurnResult};
 use wh_space::{Memory, View};
 
-// Lends the memory to the instance at this place for a turn of q charges: to what it came. What the instance stands for in
-// memory is yet to be written down there.
+// Lends the memory to the instance at this place for a turn of q charges; returns its outcome, and how many charges it
+// took. What the instance is blocked on is yet to be recorded in memory.
 fn turn_lent(
     tenant: &mut HostInstance,
     linked: &Linked,
@@ -22,12 +22,13 @@ fn turn_lent(
     place: usize,
     page_limit: u32,
     q: u64,
-) -> TurnResult
+) -> (TurnResult, u64)
     requires { (t : OneTenant) × (t.open_calls ≢ [])
         × LiesAt linked.now page_limit tenant.old memory.old place t }
     ensures turns { (t : OneTenant) → t.open_calls ≢ []
         → LiesAt linked.now page_limit tenant.old memory.old place t
-        → TurnsLent linked.now page_limit q memory.old t place tenant.new memory.new result }
+        → TurnsLent linked.now page_limit q memory.old t place tenant.new memory.new result.0
+        result.1 }
     ensures backing { KeepsBacking memory.old memory.new }
     ensures steps { TakesSteps place memory.old memory.new }
 {
@@ -40,7 +41,7 @@ fn turn_lent(
     tenant.turn(linked, &mut view, q)
 }
 
-/// Writes down in memory for what the instance at this place stands after such a turn: what the turn is answered.
+/// Records in memory what the instance at this place is blocked on after such a turn; returns the turn's end.
 pub fn settle_at(memory: &mut Memory, place: usize, turned: TurnResult) -> TurnEnd
     requires { CanSettle memory.old place turned }
     ensures answer { result ≡ turn_end_of turned }
@@ -82,7 +83,8 @@ pub fn settle_at(memory: &mut Memory, place: usize, turned: TurnResult) -> TurnE
     }
 }
 
-/// Gives the instance at `place` a turn of `q` charges, where its memory may grow to `page_limit` pages at most.
+/// Runs a turn of at most `q` charges of the instance at `place`, whose memory may grow to `page_limit` pages of 65536
+/// bytes; returns the turn's end, and how many charges it took.
 pub fn turn_at(
     tenant: &mut HostInstance,
     linked: &Linked,
@@ -90,16 +92,17 @@ pub fn turn_at(
     place: usize,
     page_limit: u32,
     q: u64,
-) -> TurnEnd
+) -> (TurnEnd, u64)
     requires { (t : OneTenant) × LiesAt linked.now page_limit tenant.old memory.old place t }
     ensures turns { (t : OneTenant) → LiesAt linked.now page_limit tenant.old memory.old place t
-        → TurnsTo linked.now page_limit q memory.old t result place tenant.new memory.new }
+        → TurnsTo linked.now page_limit q memory.old t result.0 result.1 place tenant.new memory.new }
+    ensures few { result.1 ≤ q }
     ensures backing { KeepsBacking memory.old memory.new }
-    ensures memory { LeavesTurned place result memory.old memory.new }
+    ensures memory { LeavesTurned place result.0 memory.old memory.new }
 {
     if tenant.is_idle() {
-        return TurnEnd::Idle;
+        return (TurnEnd::Idle, 0);
     }
-    let turned = turn_lent(tenant, linked, memory, place, page_limit, q);
-    settle_at(memory, place, turned)
+    let (turned, charges) = turn_lent(tenant, linked, memory, place, page_limit, q);
+    (settle_at(memory, place, turned), charges)
 }

@@ -1,5 +1,1 @@
-pub mod FrameLemmas
-pub mod PageLemmas
 pub mod Host
-pub mod Space
-pub mod Tally

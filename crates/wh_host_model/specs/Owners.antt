@@ -103,7 +103,7 @@ most_calls = 65536
 abbrev pub most_fuel : ℕ
 most_fuel = 2 ^ 64 - 1
 
--- a number that may be given for a parameter, signed or unsigned, and the value that it stands for
+-- a number that may be given for a parameter, signed or unsigned, and the value that it represents
 abbrev pub IsArgument : ValType → ℤ → Value → Type 0
 IsArgument I32 n v =
     (negsuc 2147483647 ≤ℤ n) × (n ≤ℤ pos 4294967295) × (v ≡ value I32 (unsigned 32 n))

@@ -2,8 +2,8 @@
 
 ghost use Rattle.wh_host_model.specs.Host.Bridges.{LoadsStep, StoresStep, GrowthSteps, WaitsWell, EndsWell, EpochsLeaveAll, OffersLeaveAll, EvictionsBegin, WritesLeaveAll, EvictionsEnd, FetchesBegin, FetchesEnd, ProvisionsLeaveAll, FailuresLeaveAll, FetchesSeeAsMany, ProvisionsSeeAsMany, FailuresSeeAsMany, EntrantsArrive, ExitsDepart, CopiesArrive};
 
-/// What the moves of the memory on which all instances lie leave, in the words in which a host's events ask for it. The
-/// function does nothing; what it ensures are the laws.
+/// States what moves in the memory of all instances leave unchanged, in the terms in which a host's events ask for it.
+/// Does nothing when run: its contract is the laws.
 pub fn moves_hold()
     ensures loads_step { LoadsStep }
     ensures stores_step { StoresStep }

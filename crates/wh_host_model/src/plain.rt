@@ -1,12 +1,9 @@
-//! The plain types that the host's definitions and its code share.
+//! The plain type that the host's definitions and its code share.
 
-ghost use Rattle.std.specs.Prelude.{◌≡◌};
-ghost use Rattle.wh_host_model.specs.SwapFaults.{swap_number};
-
-/// What a turn comes to.
+/// The end of a turn.
 #[derive(Clone, Copy, Debug, PartialEq, Eq)]
 pub enum TurnEnd {
-    /// There is no call to run.
+    /// Nothing was run: there is no such instance, or no call of it that could be run.
     Idle,
     /// The turn's charges were taken, and the call can go on.
     Again,
@@ -16,37 +13,4 @@ pub enum TurnEnd {
     Frame,
     /// The call has ended.
     Ended,
-}
-
-/// How a call of a swap device failed.
-#[derive(Clone, Copy, Debug, PartialEq, Eq)]
-pub enum SwapError {
-    /// A slot wasn't read.
-    Read,
-    /// A slot wasn't written.
-    Write,
-    /// A slot holds other bytes than were written to it.
-    Damaged,
-}
-
-impl SwapError {
-    /// The number by which replies name the fault, 1 to 3.
-    pub fn number(self) -> u8
-        ensures { result ≡ swap_number self }
-    {
-        match self {
-            SwapError::Read => 1,
-            SwapError::Write => 2,
-            SwapError::Damaged => 3,
-        }
-    }
-}
-
-/// Which instance is meant.
-#[derive(Clone, Copy, Debug, PartialEq, Eq)]
-pub struct InstId {
-    /// Its place.
-    pub place: usize,
-    /// How many instances were admitted before it.
-    pub number: u64,
 }

@@ -7,8 +7,8 @@ ghost use Rattle.wh_host_model.specs.Host.Apart.{NoBytesReachAnother};
 ghost use Rattle.wh_host_model.specs.Host.Progress.{EventsHappen, LoadsAreTaken, AdmissionsAreTaken, CallsAreTaken, ForksAreTaken, UnloadsAreTaken, IdleTurnsHappen, FuelTurnsHappen, ReadyTurnsHappen};
 ghost use Rattle.wh_host_model.specs.Host.Misreading.{MemoryStaysSound, PlacesStayRight, ModulesStayAccepted, JournalsStayInOrder, CopiedStayEnded, InputsStay, FramesAreAwaited};
 
-/// What holds of a host after every list of events from an empty one, and of what a turn answers. The function does
-/// nothing; what it ensures are the laws.
+/// States what holds of a host after every list of events from an empty one, and of the outcome of a turn. Does nothing
+/// when run: its contract is the laws.
 pub fn every_run()
     ensures memory_is_sound { MemoryIsSound }
     ensures places_are_right { PlacesAreRight }
@@ -36,8 +36,8 @@ pub fn every_run()
     ensures ready_turns_happen { ReadyTurnsHappen }
 {}
 
-/// What holds of a host whatever bytes its swap device gives: after every list of events and of reads that gave other bytes
-/// than were written. The function does nothing; what it ensures are the laws.
+/// States what holds of a host whatever bytes its swap device gives: after every list of events, and of reads that gave
+/// other bytes than were written. Does nothing when run: its contract is the laws.
 pub fn every_misread_run()
     ensures memory_stays_sound { MemoryStaysSound }
     ensures places_stay_right { PlacesStayRight }

@@ -1,13 +1,13 @@
 -- An item is known by its name, and what has an item asks for its kind and type.
 use Rattle.std.proofs.Common.{◌≡◌, ℕ, ◌==◌, cond, inl, inr, List, [], ◌∷◌, refl, sym, ap, subst, ◌∙◌}
 use Rattle.wh_model.specs.declared.host.HostFunc.TheVariants.{Input, Put, Emit}
-use Rattle.wh_model.specs.Format.Syntax.{FuncType, Import}
-use Rattle.wh_model.specs.Execution.Instance.{ImportsGlobal}
+use Rattle.wh_model.specs.Format.{FuncType, Import}
+use Rattle.wh_model.specs.Execution.{ImportsGlobal}
 use Rattle.wh_model.specs.declared.host.HostGlobal.{HostGlobal}
 use Rattle.wh_model.specs.declared.host.HostGlobal.TheVariants.{Base, Salt}
 use Rattle.wh_model.specs.declared.host.HostItem.{HostItem}
 use Rattle.wh_model.specs.declared.host.HostItem.TheVariants.{Func, Global}
-use Rattle.wh_model.specs.Linking.Imports.{item_name, value_of, ImportsItem, HasItem}
+use Rattle.wh_model.specs.Linking.{item_name, value_of, ImportsItem, HasItem}
 use Rattle.wh_model.proofs.LinkingLemmas.{some_parameters}
 use Rattle.wh_imports.specs.Typed.{IsTyped}
 

@@ -2,15 +2,13 @@
 use Rattle.std.proofs.Common.{◌≡◌, ℕ, zero, suc, ◌+◌, ◌<◌, inl, inr, List, [], ◌∷◌, ◌++◌, length, map, take, get_or, Some, slice_get, refl, sym, ap, subst, ◌∙◌, arith}
 use Rattle.std.specs.List.{AllByRecursion}
 use Rattle.wh_model.specs.declared.host.HostFunc.{HostFunc}
-use Rattle.wh_model.specs.Format.Syntax.{FuncType, Import, Module}
-use Rattle.wh_model.specs.Execution.Store.{host, Value, FuncInst}
-use Rattle.wh_model.specs.Execution.Instance.{Parameters, ImportsFunc, ImportsGlobal, Imported}
+use Rattle.wh_model.specs.Format.{FuncType, Import, Module}
+use Rattle.wh_model.specs.Execution.{host, Value, FuncInst, Parameters, ImportsFunc, ImportsGlobal, Imported}
 use Rattle.wh_model.specs.declared.host.HostGlobal.{HostGlobal}
 use Rattle.wh_model.specs.declared.host.HostItem.{HostItem}
 use Rattle.wh_model.specs.declared.host.HostItem.TheVariants.{Func, Global}
 use Rattle.wh_model.specs.declared.faults.ImportFault.{ImportFault}
-use Rattle.wh_model.specs.declared.faults.ImportFault.TheVariants.{UnknownImport, ImportType}
-use Rattle.wh_model.specs.Linking.Imports.{value_of, ImportsItem, HasItem, LacksItem}
+use Rattle.wh_model.specs.Linking.{value_of, ImportsItem, HasItem, LacksItem}
 use Rattle.wh_syntax.specs.View.{view_import}
 use Rattle.wh_syntax.specs.declared.module.Import.{Import as Given}
 use Rattle.wh_imports.specs.Resolving.{AreResolved, Adds}

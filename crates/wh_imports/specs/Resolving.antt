@@ -18,7 +18,7 @@ AreResolved types imports funcs globals =
 abbrev pub IsResolved : Module → List HostFunc → List HostGlobal → Type 0
 IsResolved m funcs globals = AreResolved m.types m.imports funcs globals
 
--- one more item, behind the functions or behind the globals
+-- one more item, after the functions or after the globals
 abbrev pub Adds : HostItem → List HostFunc → List HostGlobal → List HostFunc → List HostGlobal → Type 0
 Adds (Func h) funcs globals more others = (more ≡ funcs ++ h ∷ []) × (others ≡ globals)
 Adds (Global g) funcs globals more others = (more ≡ funcs) × (others ≡ globals ++ g ∷ [])

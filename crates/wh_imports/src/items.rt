@@ -42,7 +42,7 @@ fn type_of(global: HostGlobal) -> ValType
     }
 }
 
-/// Whether a type is that of a function of the host.
+/// Tells whether a type is that of a host function.
 pub fn is_signature(func: HostFunc, func_type: &FuncType) -> bool
     ensures { IsTrue result ↔ (view_type func_type.now ≡ signature (host func)) }
 {
@@ -69,10 +69,11 @@ fn is_typed(types: &[FuncType], desc: ImportDesc, item: HostItem) -> bool
     }
 }
 
-/// The item that an import is, which stands at this place of the import section.
+/// Returns the item of the host that an import names. The import is at place `at` of the import section.
 ///
 /// # Errors
-/// `NoItem`: `UnknownImport` where the host has nothing of its names, else `ImportType` where that has another kind or type.
+/// `NoItem`, with `UnknownImport` if the host has nothing of its names, else with `ImportType` if that has another kind
+/// or type.
 pub fn item_of(types: &[FuncType], import: &Import, at: usize) -> Result<HostItem, LinkError>
     ensures ok { IfOk result (ImportsItem (map view_type types.now) (view_import import.now)) }
     ensures err { IfErr result

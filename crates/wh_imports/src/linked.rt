@@ -46,7 +46,7 @@ impl Model for Linked {
 }
 
 impl Linked {
-    /// The module.
+    /// Returns the module.
     pub fn module(&self) -> &Module
         ensures same { result.now ≡ self.now.valid.decoded }
         // It is valid, it fits, and its bodies have their tables.
@@ -57,28 +57,28 @@ impl Linked {
         self.valid.module()
     }
 
-    /// The branch targets of each body, in the order of the functions that the module defines.
+    /// Returns the branch targets of each body, in the order of the functions that the module defines.
     pub fn tables(&self) -> &[SideTable]
         ensures { result.now ≡ self.now.valid.tables }
     {
         self.valid.tables()
     }
 
-    /// What is looked up of each function that the module defines, in order.
+    /// Returns the record of each function that the module defines, in order.
     pub fn records(&self) -> &[FuncRecord]
         ensures { AreRecords (view_module self.now.valid.decoded) result.now }
     {
         &self.records
     }
 
-    /// The functions that are imported, in order: what the first indices of functions name.
+    /// Returns the imported functions, in order: those that the first function indices name.
     pub fn funcs(&self) -> &[HostFunc]
         ensures { result.now ≡ self.now.funcs }
     {
         &self.funcs
     }
 
-    /// The globals that are imported, in order: what the first indices of globals name.
+    /// Returns the imported globals, in order: those that the first global indices name.
     pub fn globals(&self) -> &[HostGlobal]
         ensures { result.now ≡ self.now.globals }
     {

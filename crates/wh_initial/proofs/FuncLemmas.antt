@@ -2,11 +2,9 @@
 use Rattle.std.proofs.Common.{◌≡◌, ◌∙◌, ℕ, zero, suc, ◌+◌, ◌<◌, List, [], ◌∷◌, ◌++◌, length, map, take, drop, replicate, slice_get, Option, Some, None, inl, inr, refl, sym, ap, subst, arith}
 use Rattle.std.specs.List.{AllByRecursion}
 use Rattle.std.proofs.lemmas.Option.{slice_get_within}
-use Rattle.wh_model.specs.Format.Syntax.{FuncType, Body, Import}
-use Rattle.wh_model.specs.Validity.Typing.{Context}
-use Rattle.wh_model.specs.Validity.Valid.{Name, HasFunc, imported_funcs, func_first}
-use Rattle.wh_model.specs.Execution.Store.{Value, FuncInst, own, written}
-use Rattle.wh_model.specs.Execution.Instance.{Parameters, Imported, Defined, Piece, filled}
+use Rattle.wh_model.specs.Format.{FuncType, Body, Import}
+use Rattle.wh_model.specs.Validity.{Context, Name, HasFunc, imported_funcs, func_first}
+use Rattle.wh_model.specs.Execution.{Value, FuncInst, own, written, Parameters, Imported, Defined, Piece, filled}
 use Rattle.wh_bodies.specs.SideTables.{Table}
 use Rattle.wh_validate.specs.CheckedBodies.{Checked}
 
@@ -39,7 +37,7 @@ named_count types (x ∷ xs) fs (f, rest, e, at, others) = ap length e ∙ ap su
 
 -- ---- elements
 
--- an entry that has a function names one of so many
+-- an entry that has a function names one of n
 abbrev pub NamesBelow : ℕ → Option ℕ → Type 0
 NamesBelow n None = Unit {0}
 NamesBelow n (Some x) = x < n

@@ -3,7 +3,7 @@ use Rattle.std.proofs.Common.{◌≡◌, ◌∙◌, ℕ, ◌-◌, ◌*◌, ◌<�
 use Rattle.std.specs.Prelude.{IsTrue, ◌↔◌}
 use Rattle.std.proofs.lemmas.List.{length-map, get_or-map, get_or-append_right}
 use Rattle.std.proofs.Math.ListN.{get_or-append}
-use Rattle.wh_model.specs.Execution.Instance.{Parameters}
+use Rattle.wh_model.specs.Execution.{Parameters}
 use Rattle.wh_model.specs.declared.host.HostGlobal.{HostGlobal}
 use Rattle.wh_syntax.specs.declared.module.Module.{Module}
 use Rattle.wh_syntax.specs.declared.module.Global.{Global}

@@ -3,14 +3,12 @@ use Rattle.std.proofs.Common.{◌≡◌, ℕ, ◌<◌, List, [], ◌∷◌, ◌+
 use Rattle.std.proofs.lemmas.Option.{slice_get_within}
 use Rattle.std.proofs.lemmas.List.{length-map, map-append}
 use Rattle.std.specs.List.{AllByRecursion}
-use Rattle.wh_model.specs.Format.Syntax.{of_func, FuncType, Import, ImportDesc, Body}
-use Rattle.wh_model.specs.Validity.Typing.{Context}
-use Rattle.wh_model.specs.Validity.Heights.{no_type}
-use Rattle.wh_model.specs.Validity.Valid.{Name, imported_funcs, func_first}
-use Rattle.wh_model.specs.Execution.Store.{Value, FuncInst, own, host, signature, Instance}
-use Rattle.wh_model.specs.Execution.Instance.{Parameters, Piece, Imported, Defined, Prepares}
+use Rattle.wh_model.specs.Format.{of_func, FuncType, Import, ImportDesc, Body}
+use Rattle.wh_model.specs.Validity.{Context, no_type, Name, imported_funcs, func_first}
+use Rattle.wh_model.specs.Execution.Store.{Instance}
+use Rattle.wh_model.specs.Execution.{Value, FuncInst, own, host, signature, Parameters, Piece, Imported, Defined, Prepares}
 use Rattle.wh_model.proofs.Instance.{imported_same}
-use Rattle.wh_model.specs.Linking.Imports.{value_of}
+use Rattle.wh_model.specs.Linking.{value_of}
 use Rattle.wh_syntax.specs.View.{view_module}
 use Rattle.wh_bodies.specs.SideTables.{Table, table_of}
 use Rattle.wh_bodies.specs.View.{view_side, type_at}
@@ -70,7 +68,6 @@ own_funcs c types same (x ∷ xs) bs ts os (b, rest, f, more, eb, et, at, valid,
     let body : b2 ≡ b = cc bodies in
     let tail : bs2 ≡ rest = cc bodies in
     let o = own_funcs c types same xs rest more os2 later (subst (λ z. Defined types xs z os2) tail others) in
-    let g = func_of (type_at types x) b (table_of c f b) in
     let is : type_at types x ≡ f = type_of_at types x f at_types in
     subst (λ z. Owned c types (x ∷ xs) os (funcs_of types (x ∷ xs) z ts)) (sym eb) (subst (λ z. Owned c types (x ∷ xs) os (funcs_of types (x ∷ xs) (b ∷ rest) z)) (sym et) (record {
       are = eo ∙ ap (λ t. own t b2 ∷ os2) (typed ∙ sym is) ∙ ap (λ z. own (type_at types x) z ∷ os2) body ∙ ap (λ z. own (type_at types x) b ∷ z) o.are;

@@ -4,12 +4,11 @@ use Rattle.std.specs.List.{AllByRecursion}
 use Rattle.std.proofs.lemmas.List.{map-append, length-map}
 use Rattle.wh_model.specs.declared.host.HostFunc.{HostFunc}
 use Rattle.wh_model.specs.declared.ValType.TheVariants.{I32}
-use Rattle.wh_model.specs.Validity.Typing.{Context}
-use Rattle.wh_model.specs.Validity.Valid.{imported_globals, imported_funcs, IsContext}
-use Rattle.wh_model.specs.Execution.Store.{Value, type_of, host, Instance}
-use Rattle.wh_model.specs.Execution.Instance.{Parameters, Defined, Placed, Piece, Within, filled, fragments, last_size, Prepares, needs_more, out_of_bounds, in_bounds}
+use Rattle.wh_model.specs.Validity.{Context, imported_globals, imported_funcs, IsContext}
+use Rattle.wh_model.specs.Execution.Store.{Instance}
+use Rattle.wh_model.specs.Execution.{Value, type_of, host, Parameters, Defined, Placed, Piece, Within, filled, fragments, last_size, Prepares, needs_more, out_of_bounds, in_bounds}
 use Rattle.wh_model.specs.declared.host.HostGlobal.{HostGlobal}
-use Rattle.wh_model.specs.Linking.Imports.{value_of}
+use Rattle.wh_model.specs.Linking.{value_of}
 use Rattle.wh_control.specs.Represents.{bits_of, InRange}
 use Rattle.wh_syntax.specs.declared.module.Module.{Module}
 use Rattle.wh_syntax.specs.View.{view_module}
@@ -115,8 +114,7 @@ module _ (m : Module) (imported : List HostGlobal) (hosts : List HostFunc) (tabl
       let first = imported_count (view_module m).types p (view_module m).imports (map (λ h. host h) hosts) host_values (resolved p) in
       let both = length-append (imported_funcs (view_module m).imports) (view_module m).funcs in
       let all = length-append (map (λ h. host h) hosts) defined.owns in
-      let own = defined.count in
-      omega (arith, named, first, both, all, own)
+      omega (arith, named, first, both, all, defined.count)
 
   named : AllByRecursion (NamesBelow (length inst.funcs)) (filled (replicate (first_entries m) None) elements)
   named = filled_below (length inst.funcs) (replicate (first_entries m) None) elements (none_below (length inst.funcs) (first_entries m)) (elements_name sound.context (length inst.funcs) (words_of_globals m imported p) m.elements.items counted sound.valid.elements)

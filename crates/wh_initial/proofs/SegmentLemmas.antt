@@ -3,11 +3,9 @@ use Rattle.std.proofs.Common.{◌≡◌, ℕ, suc, ◌+◌, ◌<◌, ◌≤◌, 
 use Rattle.std.specs.List.{AllByRecursion}
 use Rattle.std.proofs.lemmas.List.{length-map}
 use Rattle.wh_model.specs.declared.ValType.TheVariants.{I32}
-use Rattle.wh_model.specs.Format.Syntax.{Code}
-use Rattle.wh_model.specs.Validity.Typing.{Context}
-use Rattle.wh_model.specs.Validity.Valid.{ValidElement, ValidData}
-use Rattle.wh_model.specs.Execution.Store.{Value}
-use Rattle.wh_model.specs.Execution.Instance.{Placed, Piece, Within}
+use Rattle.wh_model.specs.Format.{Code}
+use Rattle.wh_model.specs.Validity.{Context, ValidElement, ValidData}
+use Rattle.wh_model.specs.Execution.{Value, Placed, Piece, Within}
 use Rattle.wh_control.specs.Represents.{bits_of}
 use Rattle.wh_syntax.specs.declared.module.Element.{Element}
 use Rattle.wh_syntax.specs.declared.module.Data.{Data}

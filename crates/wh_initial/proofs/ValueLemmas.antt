@@ -5,16 +5,14 @@ use Rattle.wh_model.specs.declared.ValType.{ValType}
 use Rattle.wh_model.specs.declared.ValType.TheVariants.{I32, I64}
 use Rattle.wh_model.specs.declared.Mutability.TheVariants.{Const}
 use Rattle.wh_model.specs.Execution.Numbers as numbers
-use Rattle.wh_model.specs.Execution.Numbers.{unsigned}
+use Rattle.wh_model.specs.Execution.{unsigned, Value, value, type_of, FuncInst, Parameters, Imported, Evaluates, Begun}
 use Rattle.wh_model.proofs.Numbers.{unsigned-lt}
-use Rattle.wh_model.specs.Format.Syntax.{i32_const, i64_const, global_get, Code, nothing, plain, GlobalType, FuncType, Import}
+use Rattle.wh_model.specs.Format.{i32_const, i64_const, global_get, Code, nothing, plain, GlobalType, FuncType, Import}
 use Rattle.wh_model.specs.Format.Syntax as model
-use Rattle.wh_model.specs.Validity.Valid.{ConstantOf, imported_globals, global_first}
-use Rattle.wh_model.specs.Execution.Store.{Value, value, type_of, FuncInst}
-use Rattle.wh_model.specs.Execution.Instance.{Parameters, Imported, Evaluates, Begun}
+use Rattle.wh_model.specs.Validity.{ConstantOf, imported_globals, global_first}
 use Rattle.wh_model.specs.declared.host.HostGlobal.{HostGlobal}
 use Rattle.wh_model.specs.declared.host.HostGlobal.TheVariants.{Base, Salt}
-use Rattle.wh_model.specs.Linking.Imports.{value_of}
+use Rattle.wh_model.specs.Linking.{value_of}
 use Rattle.wh_control.specs.Represents.{bits_of, InRange}
 use Rattle.wh_syntax.specs.declared.module.Global.{Global}
 use Rattle.wh_syntax.specs.View.{view_global}
@@ -47,8 +45,7 @@ read_at (h ∷ gs) (v ∷ values) zero g types range at =
 read_at (h ∷ gs) (v ∷ values) (suc x) g types range at =
     let others : map type_of values ≡ map (λ g. g.value) gs = cc types in
     let r = read_at gs values x g others range.1 at in
-    let lt = r.there in
-    record { at = r.at; fits = r.fits; there = omega (arith, lt) }
+    record { at = r.at; fits = r.fits; there = omega (arith, r.there) }
 
 -- a constant expression of a type has a value of that type
 pub record HasValue (values : List Value) (e : Code) (t : ValType) : Type 0 where

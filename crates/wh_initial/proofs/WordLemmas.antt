@@ -1,7 +1,7 @@
 -- The word of a constant expression is that of its first instruction.
 use Rattle.std.proofs.Common.{◌≡◌, ◌∙◌, ℕ, ◌<◌, List, [], ◌∷◌, map, get_or, slice_index, ⊎_elim, subst, sym, ap, ℤ}
-use Rattle.wh_model.specs.Execution.Numbers.{unsigned}
-use Rattle.wh_model.specs.Format.Syntax.{Op, i32_const, i64_const, global_get, Code, nothing, plain, single, end_mark, expression}
+use Rattle.wh_model.specs.Execution.{unsigned}
+use Rattle.wh_model.specs.Format.{Op, i32_const, i64_const, global_get, Code, nothing, plain, single, end_mark, expression}
 use Rattle.wh_syntax.specs.declared.instr.Instr.{Instr}
 use Rattle.wh_syntax.specs.declared.instr.Instr.TheVariants.{I32Const, I64Const, GlobalGet}
 use Rattle.wh_syntax.specs.Shown.{instr_of}

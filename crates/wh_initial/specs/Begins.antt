@@ -23,7 +23,7 @@ first_store m p globals elements = record {
   output = [];
 }
 
--- In the context of the module what is handed out stands for a store, over a memory of zeros.
+-- In the context of the module what is handed out represents a store, over a memory of zeros.
 abbrev pub RepresentsFirstStore : Module → Instance → Store → Instantiated → Type 0
 RepresentsFirstStore m inst s i =
     (c : Context) → IsContext m c → RepresentsStore c inst i.store (replicate (i.pages * 65536) 0) i.page_limit s

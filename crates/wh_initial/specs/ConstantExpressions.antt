@@ -11,7 +11,7 @@ abbrev pub word_as : List ℕ → Constant → ℕ
 word_as words (Word n) = n
 word_as words (Global x) = slice_index words x
 
--- if it is a global, it is one of so many
+-- if it is a global, it is one of `count`
 abbrev pub IsBelow : ℕ → Constant → Type 0
 IsBelow count (Word n) = Unit {0}
 IsBelow count (Global x) = x < count

@@ -26,7 +26,7 @@ unfoldable pub word_in : List ℕ → Code → ℕ
 word_in words (plain op rest) = op_word words op
 word_in words _ = 0
 
--- the expression is one constant, or one of so many globals
+-- the expression is one constant, or one of `count` globals
 unfoldable pub IsSeen : ℕ → Code → Type 0
 IsSeen count e = ((n : ℤ) × (e ≡ plain (i32_const n) nothing))
     ⊎ ((n : ℤ) × (e ≡ plain (i64_const n) nothing))
@@ -54,7 +54,7 @@ IsOffset words e = IsSeen (length words) e × (word_in words e < 2 ^ 32)
 abbrev pub host_word : Parameters → HostGlobal → ℕ
 host_word p g = bits_of (value_of p g)
 
--- of the imported ones, and behind them of the module's own, which see the imported ones alone
+-- of the imported ones, and after them of the module's own, which see the imported ones alone
 abbrev pub global_words : Parameters → List HostGlobal → List Global → List ℕ
 global_words p hosts own = map (host_word p) hosts ++ map (λ g. word_in (map (host_word p) hosts) g.init) own
 

@@ -115,13 +115,13 @@ fn begin(
     make(alloc, decoded, imported, parameters)
 }
 
-/// What an instance of a module begins with, where its owner gives it this (4.5.4): its globals are set, its elements
-/// are written, and where its data segments belong is known.
+/// Instantiates a module with what its owner gives it (4.5.4): sets its globals, writes its element segments, and finds
+/// where its data segments belong. Data segments are written later, by the start.
 ///
 /// # Errors
-/// `MemoryMin` where the first size of the memory is above `page_limit`; else `SegmentBounds` where a segment passes
-/// the end of the table or of the memory; else `Memory` where a growth was refused. No memory is taken before all bounds
-/// were looked at.
+/// `MemoryMin` if the initial size of the memory is above `page_limit`; else `SegmentBounds` if a segment passes the
+/// end of the table or of the memory; else `Memory` if an allocation fails. Nothing is allocated before all bounds are
+/// checked.
 pub fn instantiate(
     alloc: Global,
     linked: &Linked,

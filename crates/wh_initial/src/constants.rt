@@ -39,7 +39,7 @@ fn constant_of(expr: &Expr) -> Constant
     constant_of_instr(expr.flat().instrs[0])
 }
 
-/// The word of an imported global; an i32 in the low 32 bits.
+/// Returns the word of an imported global; an i32 in the low 32 bits.
 pub fn imported_word(basis: &Basis<'_>, index: usize) -> u64
     requires { index < length basis.now.imported.now }
     ensures { result ≡ slice_index (host_words_in basis.now) index }
@@ -50,7 +50,7 @@ pub fn imported_word(basis: &Basis<'_>, index: usize) -> u64
     }
 }
 
-/// The first word of one of the module's own globals, which sees the imported ones alone.
+/// Returns the initial word of one of the module's own globals, whose expression may read imported ones only.
 pub fn own_word(basis: &Basis<'_>, global: &Global) -> u64
     requires { IsSeen (length basis.now.imported.now) global.now.init }
     ensures { result ≡ word_in (host_words_in basis.now) global.now.init }
@@ -75,7 +75,7 @@ fn global_word(basis: &Basis<'_>, index: usize) -> u64
     }
 }
 
-/// The offset of a segment, unsigned.
+/// Returns the offset of a segment, unsigned.
 pub fn offset_of(basis: &Basis<'_>, expr: &Expr) -> u32
     requires prepared { HasWords basis.now }
     requires offset { IsOffset (words_of_basis basis.now) expr.now }

@@ -24,7 +24,7 @@ fn add_hosts(words: &mut Vec<u64>, basis: &Basis<'_>) -> Result<(), InstantiateE
     Ok(())
 }
 
-/// Puts the first values of the module's own globals behind those of the imported ones, which alone they see.
+/// Puts the first values of the module's own globals after those of the imported ones, which alone they see.
 ///
 /// # Errors
 /// `Memory` where a growth was refused.
@@ -42,10 +42,10 @@ fn add_own(words: &mut Vec<u64>, basis: &Basis<'_>) -> Result<(), InstantiateErr
     Ok(())
 }
 
-/// The first values of all globals, imported ones first; an i32 in the low 32 bits.
+/// Returns the initial words of all globals, imported ones first; an i32 in the low 32 bits.
 ///
 /// # Errors
-/// `Memory` where a growth was refused.
+/// `Memory` if the allocation fails.
 pub fn first_globals(alloc: Global, basis: &Basis<'_>) -> Result<Vec<u64>, InstantiateError>
     requires { HasWords basis.now }
     ensures ok { IfOk result (λ words. words.items ≡ words_of_basis basis.now) }

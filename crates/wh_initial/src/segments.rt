@@ -10,7 +10,7 @@ use crate::constants::offset_of;
 use crate::error::InstantiateError;
 use std::alloc::Global;
 
-/// Whether so many items from a place on end within a size.
+/// Whether `count` items from a place on end within a size.
 fn is_within(place: u32, count: usize, size: u64) -> bool
     ensures { IsTrue result ↔ (place + count ≤ size) }
 {
@@ -18,7 +18,7 @@ fn is_within(place: u32, count: usize, size: u64) -> bool
     place <= size && count as u64 <= size - place
 }
 
-/// Whether all element segments of a module end within a table of so many entries.
+/// Tells whether all element segments of a module end within a table of `size` entries.
 pub fn elements_fit(basis: &Basis<'_>, size: u64) -> bool
     requires { HasWords basis.now }
     ensures { IsTrue result
@@ -32,7 +32,7 @@ pub fn elements_fit(basis: &Basis<'_>, size: u64) -> bool
     true
 }
 
-/// Whether all data segments of a module end within a memory of so many bytes.
+/// Tells whether all data segments of a module end within a memory of `size` bytes.
 pub fn segments_fit(basis: &Basis<'_>, size: u64) -> bool
     requires { HasWords basis.now }
     ensures { IsTrue result
@@ -46,10 +46,10 @@ pub fn segments_fit(basis: &Basis<'_>, size: u64) -> bool
     true
 }
 
-/// The place of the first byte of each data segment of a module.
+/// Returns the address of the first byte of each data segment of a module.
 ///
 /// # Errors
-/// `Memory` where a growth was refused.
+/// `Memory` if the allocation fails.
 pub fn segment_places(alloc: Global, basis: &Basis<'_>) -> Result<Vec<u32>, InstantiateError>
     requires { HasWords basis.now }
     ensures ok { IfOk result

@@ -7,7 +7,7 @@ ghost use Rattle.wh_syntax.specs.View.{view_limits, view_table};
 use wh_model::MOST_WASM_PAGES;
 use wh_syntax::{Limits, TableType};
 
-/// How many entries the table has at first; 0 where there is none.
+/// Returns the initial number of entries of the table; 0 if there is none.
 pub fn first_entries(tables: &[TableType]) -> u32
     ensures { result ≡ model.first_size (map view_table tables.now) }
 {
@@ -17,7 +17,7 @@ pub fn first_entries(tables: &[TableType]) -> u32
     }
 }
 
-/// How many pages of 65536 bytes the memory has at first; 0 where there is none.
+/// Returns the initial size of the memory in pages of 65536 bytes; 0 if there is none.
 pub fn first_pages(memories: &[Limits]) -> u32
     ensures { result ≡ model.first_size (map view_limits memories.now) }
 {
@@ -27,8 +27,8 @@ pub fn first_pages(memories: &[Limits]) -> u32
     }
 }
 
-/// To how many pages of 65536 bytes the memory may grow: as far as it declares, and as far as its owner lets it; 0 where
-/// there is none.
+/// Returns the size in pages of 65536 bytes to which the memory may grow: the lesser of what it declares and what its
+/// owner allows; 0 if there is none.
 pub fn last_pages(memories: &[Limits], page_limit: u32) -> u32
     ensures { result ≡ model.last_size (map view_limits memories.now) page_limit }
 {

@@ -22,10 +22,10 @@ fn write_element(table: &mut Vec<Option<u32>>, place: usize, funcs: &[u32])
     }
 }
 
-/// A table of so many entries, with the functions of all element segments of a module written into it in order.
+/// Creates a table of `size` entries, and writes all element segments of a module into it in order.
 ///
 /// # Errors
-/// `Memory` where its room was refused.
+/// `Memory` if the allocation fails.
 pub fn first_table(
     alloc: Global,
     basis: &Basis<'_>,

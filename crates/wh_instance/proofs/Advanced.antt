@@ -3,13 +3,9 @@ use Rattle.std.proofs.Common.{◌≡◌, ◌≢◌, ℕ, ◌+◌, ◌<◌, ◌�
 use Rattle.std.specs.List.{AllByRecursion}
 use Rattle.wh_model.specs.declared.memory.Need.{Need}
 use Rattle.wh_model.specs.Execution.Store.{Instance}
-use Rattle.wh_model.specs.Execution.Configuration.{Term, Config}
-use Rattle.wh_model.specs.Execution.Instance.{Piece}
-use Rattle.wh_model.specs.Execution.Replay.{Call}
-use Rattle.wh_host_model.specs.Host.Worlds.{Rest, Doing, resting, has_left, computing, Tenant}
-use Rattle.wh_host_model.specs.Owners.{Entry}
-use Rattle.wh_host_model.specs.Host.Turns.{Opens, by_invocation, as_it_was, Upshot, Proceeds, returns, traps, writes_all, uses_fuel, waits, waits_to_write, has_had_its_turn}
-use Rattle.wh_host_model.specs.Host.CallAnswers.{gone_further}
+use Rattle.wh_model.specs.Execution.{Term, Config, Piece, Call}
+use Rattle.wh_host_model.specs.Host.{Rest, Doing, resting, has_left, computing, Tenant, Opens, by_invocation, as_it_was, Upshot, Proceeds, returns, traps, writes_all, uses_fuel, waits, waits_to_write, has_had_its_turn, gone_further}
+use Rattle.wh_host_model.specs.{Entry}
 use Rattle.wh_control.specs.Represents.{bits_of}
 use Rattle.wh_journal.specs.Calls.{JournalCallState, JournalState, HasPresent, CanGoFurther}
 use Rattle.wh_machine.specs.CallStates.{CallState, Setting}
@@ -150,8 +146,7 @@ there w inst q m m2 r r2 d d2 e es k n x2 left to (waits_to_write {ps = ps} {mor
     let s = a.started (ps ++ p ∷ more) f in
     let some = a.at_piece (λ none. let never = is.1 ∙ none in cc never) in
     let n = length-append ps (p ∷ more) in
-    let few = s.1 in
-    writes some.0 (λ none. cc none) s.0 (starting_on w x2 m2 inst e r2 k (p ∷ more) is.0) (is.1 ∙ some.1) (omega (arith, n, few))
+    writes some.0 (λ none. cc none) s.0 (starting_on w x2 m2 inst e r2 k (p ∷ more) is.0) (is.1 ∙ some.1) (omega (arith, n, s.1))
 
 few_of : (d : Doing) (e : Entry) (k : ℕ) → PiecesWithin d k → e.call.fragments < 2 ^ 64 → ((ps : List Piece) → d ≡ has_left ps → e.call.fragments + length ps < 2 ^ 64) → e.call.fragments + k < 2 ^ 64
 unfolding PiecesWithin
@@ -181,14 +176,7 @@ advanced w q x2 m m2 t e es answer k n left d same turns a =
 pub can_go_further : {M : Type 0} (w : Setting M) (q : ℕ) (x x2 : HostInstanceState) (m m2 : M) (t : Tenant) (e : Entry) (es : List Entry) (answer : TurnOutcome) (k n : ℕ) → Opened w x m t e es → AdvancesTenant w q m t e es answer k n x2 m2 → x2.journal ≡ x.journal → CanGoFurther x2.journal.open_calls k n
 can_go_further w q x x2 m m2 t e es answer k n o a same =
     let f = o.first in
-    let pieces = f.pieces in
-    let charges = f.charges in
-    let fuel = f.fuel in
-    let counted = o.counted in
-    let limit = counted.fuel in
-    let few = a.few_pieces in
-    let within = a.in_fuel in
-    (o.c, o.cs, ap (λ (j : JournalState). j.open_calls) same ∙ o.at, omega (arith, pieces, few), omega (arith, charges, fuel, limit, within))
+    (o.c, o.cs, ap (λ (j : JournalState). j.open_calls) same ∙ o.at, omega (arith, f.pieces, a.few_pieces), omega (arith, f.charges, f.fuel, o.counted.fuel, a.in_fuel))
 
 -- ---- what no call is
 

@@ -2,17 +2,13 @@
 use Rattle.std.proofs.Common.{◌≡◌, ℕ, ◌+◌, ◌≤◌, List, [], ◌∷◌, ◌++◌, Option, Some, None, length, map, reverse, slice_get, refl, sym, ap, subst, ◌∙◌, arith, length-append}
 use Rattle.std.specs.List.{AllByRecursion}
 use Rattle.wh_model.specs.declared.memory.Need.{Need}
-use Rattle.wh_model.specs.Format.Syntax.{nothing, FuncType, Body}
-use Rattle.wh_model.specs.Validity.Typing.{Context}
-use Rattle.wh_model.specs.Execution.Store.{Value, type_of, InRange, own, Instance}
-use Rattle.wh_model.specs.Execution.Configuration.{Term, called, Config, config}
-use Rattle.wh_model.specs.Execution.Reduction.{stays, After}
+use Rattle.wh_model.specs.Format.{nothing, FuncType, Body}
+use Rattle.wh_model.specs.Validity.{Context}
+use Rattle.wh_model.specs.Execution.Store.{Instance}
+use Rattle.wh_model.specs.Execution.{Value, type_of, InRange, own, Term, called, Config, config, stays, After, Piece, Within, returned, Call, Invocation}
 use Rattle.wh_model.specs.Execution.Memory.{writing}
-use Rattle.wh_model.specs.Execution.Instance.{Piece, Within}
-use Rattle.wh_model.specs.Execution.Replay.{returned, Call, Invocation}
-use Rattle.wh_model.specs.Laws.ReplayLaws.{InOnePage}
-use Rattle.wh_host_model.specs.Host.Worlds.{Rest, resting, has_left, computing, store_with}
-use Rattle.wh_host_model.specs.Host.Turns.{Opens, by_invocation, as_it_was, to_end, to_wait, Proceeds, writes_all, waits_to_write}
+use Rattle.wh_model.specs.Laws.{InOnePage}
+use Rattle.wh_host_model.specs.Host.{Rest, resting, has_left, computing, store_with, Opens, by_invocation, as_it_was, to_end, to_wait, Proceeds, writes_all, waits_to_write}
 use Rattle.wh_control.specs.Represents.{result_of}
 use Rattle.wh_control.specs.Parts.{ProgramParts}
 use Rattle.wh_control.specs.declared.store.Store as code_store
@@ -77,7 +73,6 @@ waits_now w inst q call r before m2 ps left n need (Some other) st (front, is, s
     let cut : ps ≡ front ++ (p ∷ more) = is ∙ ap (λ z. front ++ z) next in
     let goes : Proceeds w.bytes w.ready w.keeps inst q call before.memory r (has_left ps) (to_wait want) (length front) 0 m2 r (has_left (p ∷ more)) = waits_to_write (ap (λ z. has_left z) cut) writes (λ z. never (subst (w.ready m2) (sym wants) z)) in
     let store = other_bytes w before before.machine m2 inst r st.store in
-    let some_few = st.few in
     let counted = ap length cut ∙ length-append front (p ∷ more) in
     let within = all_behind (λ z. z.at + length z.items ≤ length (w.bytes before.memory)) front (p ∷ more) (subst (Within (length (w.bytes before.memory))) cut st.within) in
     record {
@@ -92,7 +87,7 @@ waits_now w inst q call r before m2 ps left n need (Some other) st (front, is, s
           store = store;
           within = subst (λ i. Within i (p ∷ more)) (sym same) within;
           in_pages = all_behind InOnePage front (p ∷ more) (subst (AllByRecursion InOnePage) cut st.in_pages);
-          few = omega (arith, some_few, counted);
+          few = omega (arith, st.few, counted);
           no_args = st.no_args;
           no_charges = st.no_charges;
           calls_own = st.calls_own;

@@ -7,14 +7,12 @@ use Rattle.wh_model.specs.declared.LoadOp.{LoadOp}
 use Rattle.wh_model.specs.declared.LoadOp.TheVariants as loads
 use Rattle.wh_model.specs.declared.StoreOp.{StoreOp}
 use Rattle.wh_model.specs.declared.StoreOp.TheVariants as stores
-use Rattle.wh_model.specs.Format.Syntax.{Op, unreachable, nop, br, br_if, br_table, return, call, call_indirect, drop_operand, select, local_get, local_set, local_tee, global_get, global_set, load, store, memory_size, memory_grow, i32_const, i64_const, test, comparison, unary, binary, conversion, Code, nothing, plain, block, loop, if_then, if_else}
-use Rattle.wh_model.specs.Validity.Typing.{load_type, store_type}
-use Rattle.wh_model.specs.Execution.Store.{Value, FuncInst, own, host, Instance, Store}
-use Rattle.wh_model.specs.Execution.Configuration.{Term, code, label, frame, config}
+use Rattle.wh_model.specs.Format.{Op, unreachable, nop, br, br_if, br_table, return, call, call_indirect, drop_operand, select, local_get, local_set, local_tee, global_get, global_set, load, store, memory_size, memory_grow, i32_const, i64_const, test, comparison, unary, binary, conversion, Code, nothing, plain, block, loop, if_then, if_else}
+use Rattle.wh_model.specs.Validity.{load_type, store_type}
+use Rattle.wh_model.specs.Execution.Store.{Instance, Store}
+use Rattle.wh_model.specs.Execution.{Value, FuncInst, own, host, Term, code, label, frame, config, CallAsks, OpAsks, CodeAsks, TermAsks, Asks, Piece, Within}
 use Rattle.wh_model.specs.Execution.Memory.{writing}
-use Rattle.wh_model.specs.Execution.Asking.{CallAsks, OpAsks, CodeAsks, TermAsks, Asks}
-use Rattle.wh_model.specs.Execution.Instance.{Piece, Within}
-use Rattle.wh_model.specs.Laws.ReplayLaws.{InOnePage}
+use Rattle.wh_model.specs.Laws.{InOnePage}
 use Rattle.wh_instance.specs.Advancing.{IsInMemory}
 
 few_loaded : (op : LoadOp) → (load_type op).1 ≤ 4096

@@ -1,17 +1,15 @@
 -- What a call comes to in one turn and then in another, it comes to in one of as many charges as both.
-use Rattle.std.proofs.Common.{◌≡◌, ◌∙◌, inl, inr, ℕ, ◌+◌, ◌-◌, ◌<◌, ◌≤◌, suc, refl, sym, ap, subst, arith}
+use Rattle.std.proofs.Common.{◌≡◌, inl, inr, ℕ, ◌+◌, ◌-◌, ◌<◌, ◌≤◌, suc, refl, sym, subst, arith}
 use Rattle.wh_model.specs.declared.ValType.{ValType}
 use Rattle.wh_model.specs.declared.memory.Need.{Need}
 use Rattle.std.proofs.Common.{List, Option}
 use Rattle.wh_model.specs.Execution.Store.{Instance, Store}
-use Rattle.wh_model.specs.Execution.Configuration.{Config}
-use Rattle.wh_model.specs.Execution.Taking.{Takes, took_all, took}
+use Rattle.wh_model.specs.Execution.{Config, Takes, took_all, took, Asks}
 use Rattle.wh_machine.specs.CallStates.{CallState, Setting, HasConfiguration}
 use Rattle.wh_call.specs.Ends.{TakesTo}
 use Rattle.wh_instance.specs.declared.computing.TurnOutcome.{TurnOutcome}
 use Rattle.wh_instance.specs.declared.computing.TurnOutcome.TheVariants.{Returned, Trapped, Fuel, Frame, Again}
 use Rattle.wh_instance.specs.Computed.{ComesWithin, ComputesWithin, IsNextReady}
-use Rattle.wh_model.specs.Execution.Asking.{Asks}
 use Rattle.wh_host_model.proofs.Host.Stopping.{done_has_no_next, trap_has_no_next}
 use Rattle.std.proofs.lemmas.Bool.{cases_lt}
 
@@ -20,7 +18,7 @@ takes_join {bytes = bytes} {ready = ready} {keeps = keeps} {inst = inst} {m = m}
 takes_join {bytes = bytes} {ready = ready} {keeps = keeps} {inst = inst} {m = m} {m2 = m2} {c = c} {c2 = c2} {k = k} (took {n = n} now one is kept rest) y =
     let same : suc (n + k) ≡ suc n + k = omega arith in subst (λ i. Takes bytes ready keeps inst m c i m2 c2) same (took now one is kept (takes_join rest y))
 
--- what comes behind so many charges
+-- what comes after n charges
 comes_later : {M : Type 0} (w : Setting M) (after : CallState M) (out : Option ValType) (inst : Instance) (first then : ℕ → Config → Type 0) (n q more left k : ℕ) (came : TurnOutcome) (s : Store)
     → ((i : ℕ) (c : Config) → then i c → first (n + i) c) → n ≡ q → n < left
     → ComesWithin w after out inst then more (left - n) came k s → ComesWithin w after out inst first (q + more) left came (n + k) s

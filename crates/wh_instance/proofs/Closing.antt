@@ -1,14 +1,12 @@
 -- The end of a call, as the code's instance has it and as the host's definitions do.
 use Rattle.std.proofs.Common.{◌≡◌, ℕ, ◌+◌, Bool, true, false, cond, List, [], ◌∷◌, ◌++◌, None, map, reverse, refl, sym, ap, ◌∙◌}
 use Rattle.std.specs.List.{AllByRecursion}
-use Rattle.wh_model.specs.Format.Syntax.{nothing, FuncType, Body}
+use Rattle.wh_model.specs.Format.{nothing, FuncType, Body}
 use Rattle.wh_model.specs.Execution.Store.{Instance, Store}
-use Rattle.wh_model.specs.Execution.Configuration.{Term, called, config}
-use Rattle.wh_model.specs.Execution.Replay.{Outcome, returned, stopped, cancelled, dead, pending, fails, Call, Invocation}
-use Rattle.wh_host_model.specs.Space.Parts.{Space, view}
-use Rattle.wh_host_model.specs.Host.Worlds.{Rest, Doing, resting, computing, Tenant, store_with}
-use Rattle.wh_host_model.specs.Owners.{Entry}
-use Rattle.wh_host_model.specs.Host.CallAnswers.{ended_by, gone_further, Faces, dies, Closes, faces_next, is_dead}
+use Rattle.wh_model.specs.Execution.{Term, called, config, Outcome, returned, stopped, cancelled, dead, pending, fails, Call, Invocation}
+use Rattle.wh_space_model.specs.{Space, view}
+use Rattle.wh_host_model.specs.Host.{Rest, Doing, resting, computing, Tenant, store_with, ended_by, gone_further, Faces, dies, Closes, faces_next, is_dead}
+use Rattle.wh_host_model.specs.{Entry}
 use Rattle.wh_journal.specs.Calls.{JournalCallState, with_progress, with_end}
 use Rattle.wh_journal.specs.declared.calls.CallEnd.{CallEnd}
 use Rattle.wh_journal.specs.declared.calls.CallEnd.TheVariants as end
@@ -102,8 +100,7 @@ pub is_where_next : {M : Type 0} (w : Setting M) (x : HostInstanceState) (m : M)
 is_where_next w x m inst r [] all at store = rests at
 is_where_next w x m inst r (e ∷ es) all at store =
     let b = all.0 in
-    let waits = b.waits in
-    is_faced at (record { store = store; invocation = invocation_of inst (store_with (w.bytes m) r) e b; calls = b.calls; words = refl; no_charges = waits.charges })
+    is_faced at (record { store = store; invocation = invocation_of inst (store_with (w.bytes m) r) e b; calls = b.calls; words = refl; no_charges = b.waits.charges })
 
 -- ---- the end of a call
 

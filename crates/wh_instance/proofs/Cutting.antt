@@ -3,7 +3,7 @@ use Rattle.std.proofs.Common.{◌≡◌, ℕ, zero, suc, ◌+◌, ◌-◌, ◌*�
 use Rattle.std.proofs.Math.Nat.{mul-suc}
 use Rattle.std.proofs.lemmas.Bool.{eqb-true}
 use Rattle.std.proofs.lemmas.List.{drop-drop}
-use Rattle.wh_model.specs.Execution.Instance.{Piece, Within, cut_up, onto_piece, fragments}
+use Rattle.wh_model.specs.Execution.{Piece, Within, cut_up, onto_piece, fragments}
 use Rattle.wh_syntax.specs.declared.module.Data.{Data}
 use Rattle.wh_call.proofs.Lists.{drop_at, drop_all}
 use Rattle.wh_instance.specs.declared.writing.Cursor.{Cursor}
@@ -147,6 +147,5 @@ placed_few size (d ∷ segments) (n ∷ places) within =
     let joined = length-append (cut_up n d.init.items) (fragments (placed_data segments places)) in
     let first = cut_few n d.init.items in
     let later = placed_few size segments places within.1 in
-    let low = within.0 in
     let more = mul-suc size (length segments) in
-    omega (arith, joined, first, later, low, more)
+    omega (arith, joined, first, later, within.0, more)

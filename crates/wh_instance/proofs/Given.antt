@@ -6,11 +6,11 @@ use Rattle.std.specs.Int.{int_rem_euclid}
 use Rattle.std.proofs.lemmas.Int.{ints}
 use Rattle.wh_model.specs.declared.ValType.{ValType}
 use Rattle.wh_model.specs.declared.ValType.TheVariants.{I32, I64}
-use Rattle.wh_model.specs.Format.Syntax.{FuncType, Body}
-use Rattle.wh_model.specs.Validity.Typing.{Context}
-use Rattle.wh_model.specs.Execution.Numbers.{bits, unsigned}
-use Rattle.wh_model.specs.Execution.Store.{Value, value, type_of, InRange, bits_of, own, Instance}
-use Rattle.wh_host_model.specs.Owners.{IsArgument, AreArguments}
+use Rattle.wh_model.specs.Format.{FuncType, Body}
+use Rattle.wh_model.specs.Validity.{Context}
+use Rattle.wh_model.specs.Execution.{bits, unsigned, Value, value, type_of, InRange, bits_of, own}
+use Rattle.wh_model.specs.Execution.Store.{Instance}
+use Rattle.wh_host_model.specs.{IsArgument, AreArguments}
 use Rattle.wh_call.specs.Arguments.{IsOwnType, HasNoOwn, LacksOwn}
 use Rattle.wh_call.proofs.Lists.{drop_at, drop_all}
 use Rattle.wh_instance.specs.CallsByName.{CanTake, AreWords, WordsAre}
@@ -145,14 +145,6 @@ one_less ts ns i t n at_t at_n h =
     split (drop (i + 1) ts) (drop (i + 1) ns) t n
     (subst (AreGiven (t ∷ drop (i + 1) ts)) (drop_at ns i n at_n)
     (subst (λ z. AreGiven z (drop i ns)) (drop_at ts i t at_t) h))
-
-pub none_left : (ts : List ValType) (ns : List ℤ) (i : ℕ) → length ts ≤ i → length ts ≡ length ns
-    → AreGiven (drop i ts) (drop i ns)
-none_left ts ns i h e = (
-  [],
-  subst (λ z. AreArguments z (drop i ns) []) (sym (drop_all ts i h)) (subst
-      (λ z. AreArguments [] z []) (sym (drop_all ns i (omega (arith, h, e)))) refl),
-)
 
 -- ---- their words
 

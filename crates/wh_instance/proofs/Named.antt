@@ -4,10 +4,11 @@ use Rattle.std.specs.String.{string_bytes}
 use Rattle.wh_model.specs.declared.ExternKind.{ExternKind}
 use Rattle.wh_model.specs.declared.ExternKind.TheVariants.{Func}
 use Rattle.wh_model.specs.Format.Syntax as model
-use Rattle.wh_model.specs.Format.Syntax.{FuncType, Body}
-use Rattle.wh_model.specs.Validity.Valid.{DifferentNames}
-use Rattle.wh_model.specs.Execution.Store.{own, Instance}
-use Rattle.wh_host_model.specs.Owners.{ExportsOwn}
+use Rattle.wh_model.specs.Format.{FuncType, Body}
+use Rattle.wh_model.specs.Validity.{DifferentNames}
+use Rattle.wh_model.specs.Execution.Store.{Instance}
+use Rattle.wh_model.specs.Execution.{own}
+use Rattle.wh_host_model.specs.{ExportsOwn}
 use Rattle.wh_syntax.specs.declared.module.Export.{Export}
 use Rattle.wh_syntax.specs.View.{view_export, view_module}
 use Rattle.wh_syntax.specs.declared.module.Module.{Module as Decoded}

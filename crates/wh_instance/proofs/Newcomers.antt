@@ -5,16 +5,15 @@ use Rattle.std.proofs.lemmas.Nat.{mul-le}
 use Rattle.std.specs.Bool.{MatchBool}
 use Rattle.std.specs.List.{AllByRecursion}
 use Rattle.wh_model.specs.Format.Syntax as model
-use Rattle.wh_model.specs.Format.Syntax.{nothing, FuncType, Body, Limits, Module}
-use Rattle.wh_model.specs.Validity.Valid.{WithinBound, most_pages}
+use Rattle.wh_model.specs.Format.Syntax.{Limits}
+use Rattle.wh_model.specs.Format.{nothing, FuncType, Body, Module}
+use Rattle.wh_model.specs.Validity.{WithinBound, most_pages}
 use Rattle.wh_model.specs.Execution.Store.{Store}
-use Rattle.wh_model.specs.Execution.Configuration.{called, config}
-use Rattle.wh_model.specs.Execution.Instance.{Parameters, Piece, Within, fragments, first_size}
-use Rattle.wh_model.specs.Execution.Replay.{returned, pending, Invocation}
+use Rattle.wh_model.specs.Execution.{called, config, Parameters, Piece, Within, fragments, first_size, returned, pending, Invocation}
 use Rattle.wh_model.proofs.Fragments.{fragments_within, fragments_in_pages}
-use Rattle.wh_host_model.specs.Host.Worlds.{Doing, resting, has_left, computing, Tenant, store_with}
-use Rattle.wh_host_model.specs.Owners.{Entry, start_entry}
-use Rattle.wh_host_model.specs.Host.Admission.{StartsAs, writes as start_writes, runs, ends, rest_of}
+use Rattle.wh_host_model.specs.Host.{Doing, resting, has_left, computing, Tenant, store_with, StartsAs, writes as start_writes, runs, rest_of}
+use Rattle.wh_host_model.specs.{Entry, start_entry}
+use Rattle.wh_host_model.specs.Host.Admission.{ends}
 use Rattle.wh_syntax.specs.declared.module.Data.{Data}
 use Rattle.wh_syntax.specs.View.{view_module, view_data}
 use Rattle.wh_bodies.specs.View.{view_side}

@@ -1,20 +1,14 @@
 -- From what a turn comes to, to what the host's definitions say of it.
 use Rattle.std.proofs.Common.{◌≡◌, true, ℕ, ◌+◌, ◌≤◌, List, [], ◌∷◌, Option, Some, None, map, reverse, slice_get, cond, refl, sym, ap, subst, ◌∙◌, arith}
 use Rattle.wh_model.specs.declared.ValType.{ValType}
-use Rattle.wh_model.specs.Format.Syntax.{nothing, FuncType, Body}
-use Rattle.wh_model.specs.Validity.Typing.{Context, operand}
-use Rattle.wh_model.specs.Execution.Store.{Value, type_of, own, Instance, Store}
-use Rattle.wh_model.specs.Execution.Configuration.{Term, code, frame, Config, config, trapped}
-use Rattle.wh_model.specs.Execution.Reduction.{IsSettled, IsNext}
-use Rattle.wh_model.specs.Execution.Asking.{Asks}
-use Rattle.wh_model.specs.Execution.Instance.{Piece}
-use Rattle.wh_model.specs.Execution.Replay.{returned, stopped, Call}
-use Rattle.wh_model.specs.Execution.Taking.{Takes}
-use Rattle.wh_model.specs.Focus.Focused.{Activation, Focused, running, finished, stopped as halted, inside, awaited, plug}
+use Rattle.wh_model.specs.Format.{nothing, FuncType, Body}
+use Rattle.wh_model.specs.Validity.{Context, operand}
+use Rattle.wh_model.specs.Execution.Store.{Instance, Store}
+use Rattle.wh_model.specs.Execution.{Value, type_of, own, Term, code, frame, Config, config, trapped, IsSettled, IsNext, Asks, Piece, returned, stopped, Call, Takes}
+use Rattle.wh_model.specs.Focus.Focused.{Focused}
+use Rattle.wh_model.specs.Focus.{Activation, running, finished, stopped as halted, inside, awaited, plug}
 use Rattle.wh_model.proofs.Taken.{takes_after}
-use Rattle.wh_host_model.specs.Host.Worlds.{Rest, Doing, resting, computing, store_with}
-use Rattle.wh_host_model.specs.Host.Admission.{rest_of}
-use Rattle.wh_host_model.specs.Host.Turns.{Opens, Computes, to_end, out_of_fuel, to_wait, to_go_on, returns, traps, uses_fuel, waits, has_had_its_turn}
+use Rattle.wh_host_model.specs.Host.{Rest, Doing, resting, computing, store_with, rest_of, Opens, Computes, to_end, out_of_fuel, to_wait, to_go_on, returns, traps, uses_fuel, waits, has_had_its_turn}
 use Rattle.wh_control.specs.Represents.{Func, CallsState, RepresentsCalls, bits_of, result_of, IsFunc}
 use Rattle.wh_control.specs.Parts.{ProgramParts, funcs_in, IsInstance}
 use Rattle.wh_control.specs.declared.store.Store as code_store
@@ -78,7 +72,7 @@ runs_at {p} {m} {out = out} st e =
 with_bytes : (s : Store) (b : List ℕ) → s.bytes ≡ b → s ≡ store_with b (rest_of s)
 with_bytes s b e = ap (λ x. store_with x (rest_of s)) e
 
--- so it stands for this term, over this rest
+-- so it represents this term, over this rest
 record On {M : Type 0} (w : Setting M) (after : CallState M) (out : Option ValType) (inst : Instance) (c : Config) : Type 0 where
   rest : Rest
   term : Term
@@ -91,8 +85,7 @@ on w after out inst c st e =
     let u = runs_at st e in
     let around = st.around in
     let b = w.bytes after.memory in
-    let stored = around.store in
-    let same_store : st.s ≡ store_with b (rest_of st.s) = with_bytes st.s b stored.bytes in
+    let same_store : st.s ≡ store_with b (rest_of st.s) = with_bytes st.s b around.store.bytes in
     let same : c ≡ config (store_with b (rest_of st.s)) [] u.0 = u.1 ∙ ap (λ z. config z [] u.0) same_store in
     record {
       rest = rest_of st.s;
@@ -114,8 +107,7 @@ pub turns_as : {M : Type 0} (w : Setting M) (inst : Instance) (q left : ℕ) (ca
     → ComesWithin w after (result_of type) inst (TakesTo w inst before.memory c after.memory) q left answer n s → HasStoreIn w after inst s → Turns w inst q call m r d answer pieces n after ps
 turns_as w inst q left call m r d pieces n before after c s index type body (came.Returned result) ps none o settled e calls is_own (nq, (nl, us, fit, top, takes)) (cx, st) =
     let b = w.bytes after.memory in
-    let stored = st.store in
-    let same : s ≡ store_with b (rest_of s) = with_bytes s b stored.bytes in
+    let same : s ≡ store_with b (rest_of s) = with_bytes s b st.store.bytes in
     let turned : reverse us ≡ us = short_reverse us (result_of type) fit.0 in
     let there = subst (λ z. TakesTo w inst before.memory c after.memory n (config z [] (code (reverse us) nothing))) same (subst (λ vs. TakesTo w inst before.memory c after.memory n (config s [] (code vs nothing))) (sym turned) takes) in
     let store : HasRest w after inst (rest_of s) = (cx, subst (λ z. RepresentsInstance w.program after.store b w.limit cx inst z) same st) in
@@ -130,8 +122,7 @@ turns_as w inst q left call m r d pieces n before after c s index type body (cam
     }
 turns_as w inst q left call m r d pieces n before after c s index type body (came.Trapped x) ps none o settled e calls is_own (nq, (nl, takes)) (cx, st) =
     let b = w.bytes after.memory in
-    let stored = st.store in
-    let same : s ≡ store_with b (rest_of s) = with_bytes s b stored.bytes in
+    let same : s ≡ store_with b (rest_of s) = with_bytes s b st.store.bytes in
     let there = subst (λ z. TakesTo w inst before.memory c after.memory n (trapped z x)) same takes in
     let store : HasRest w after inst (rest_of s) = (cx, subst (λ z. RepresentsInstance w.program after.store b w.limit cx inst z) same st) in
     record {

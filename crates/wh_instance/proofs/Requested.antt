@@ -1,16 +1,12 @@
 -- What the owner's requests leave of an instance.
-use Rattle.std.proofs.Common.{◌≡◌, ◌≢◌, true, false, inl, inr, ℕ, ◌+◌, ◌<◌, min, List, [], ◌∷◌, length, suc, Option, Some, None, refl, sym, ap, subst, ◌∙◌, arith}
+use Rattle.std.proofs.Common.{◌≡◌, true, inl, inr, ℕ, ◌+◌, ◌<◌, min, List, [], ◌∷◌, length, suc, Option, Some, None, refl, sym, ap, subst, ◌∙◌, arith}
 use Rattle.std.specs.List.{AllByRecursion}
 use Rattle.wh_model.specs.Execution.Store.{Instance}
-use Rattle.wh_model.specs.Execution.Replay.{cancelled}
-use Rattle.wh_host_model.specs.declared.plain.SwapError.{SwapError}
-use Rattle.wh_host_model.specs.Space.Parts.{Space}
-use Rattle.wh_host_model.specs.Host.Worlds.{Rest, Doing, for_fuel, for_device, Tenant}
-use Rattle.wh_host_model.specs.Owners.{Entry}
-use Rattle.wh_host_model.specs.Host.CallAnswers.{ended_by, Closes}
-use Rattle.wh_host_model.specs.Host.OwnerCalls.{more_fuel, WaitsAfter, Refuels, has_more, Retries, may_try}
-use Rattle.wh_host_model.specs.Owners.{most_fuel}
-use Rattle.wh_host_model.specs.Host.Happens.{AwaitsFrame}
+use Rattle.wh_model.specs.Execution.{cancelled}
+use Rattle.wh_space_model.specs.declared.plain.SwapError.{SwapError}
+use Rattle.wh_space_model.specs.{Space}
+use Rattle.wh_host_model.specs.Host.{Rest, Doing, for_fuel, for_device, Tenant, ended_by, Closes, more_fuel, WaitsAfter, Refuels, has_more, Retries, may_try, AwaitsFrame}
+use Rattle.wh_host_model.specs.{Entry, most_fuel}
 use Rattle.wh_journal.specs.Calls.{JournalCallState, with_more_fuel}
 use Rattle.wh_journal.specs.declared.calls.CallEnd.TheVariants as end
 use Rattle.wh_machine.specs.CallStates.{Setting}
@@ -67,12 +63,6 @@ retries_for w x m t fault stands rep =
 
 pub retries : {M : Type 0} (w : Setting M) (x : HostInstanceState) (m : M) (t : Tenant) → is_fault x.waiting_for ≡ true → RepresentsTenant w x m t → (t2 : Tenant) × Retries t t2 × RepresentsTenant w (record x { waiting_for = Some stop.Frame }) m t2
 retries w x m t is rep = let f = device_of x.waiting_for is in retries_for w x m t f.0 f.1 rep
-
-no_device : (stands : Option code.Suspension) (fault : SwapError) → is_fault stands ≡ false → suspension_of stands ≢ Some (for_device fault)
-no_device None fault is e = cc e
-no_device (Some stop.Fuel) fault is e = cc e
-no_device (Some stop.Frame) fault is e = cc e
-no_device (Some (stop.Device other)) fault is e = cc is
 
 -- ---- a device fault
 
@@ -150,7 +140,7 @@ where_with_more w x m inst r d e es n k (is_under_way at st within) =
     let limit = k.fuel in
     is_under_way at (record { index = st.index; type = st.type; body = st.body; calls = st.calls; is_own = st.is_own; stands = st.stands; runs = st.runs; settled_in = st.settled_in; settled = st.settled }) (omega (arith, within, limit))
 
--- with what it stands for then
+-- with what it is blocked on then
 refuels_to : {M : Type 0} (w : Setting M) (x : HostInstanceState) (m : M) (t : Tenant) (n : ℕ) (c : JournalCallState) (cs : List JournalCallState) (stands : Option code.Suspension) → x.journal.open_calls ≡ c ∷ cs → (x.progress ≡ Faced → stands ≡ None) → RepresentsTenant w x m t
     → ((e : Entry) → RepresentsCall c e → WaitsAfter (more_fuel e n).call t.waiting_for (suspension_of stands))
     → (t2 : Tenant) × Refuels t n t2 × RepresentsTenant w (record x { journal = record x.journal { open_calls = with_more_fuel c n ∷ cs }; waiting_for = stands }) m t2
@@ -182,10 +172,7 @@ pub refuels_on : {M : Type 0} (w : Setting M) (x : HostInstanceState) (m : M) (t
 refuels_on w x m t n c cs at again rep =
     refuels_to w x m t n c cs None at (λ is. refl) rep
     (λ e r.
-    let charges = r.charges in
-    let fuel = r.fuel in
-    let some = again.1 in
-    let less : e.call.charges < min (e.call.fuel + n) most_fuel = omega (arith, charges, fuel, some) in
+    let less : e.call.charges < min (e.call.fuel + n) most_fuel = omega (arith, r.charges, r.fuel, again.1) in
     let stood : t.waiting_for ≡ Some for_fuel = rep.waiting_for ∙ ap suspension_of again.0 in
     subst (λ o. WaitsAfter (more_fuel e n).call o None) (sym stood) (inl (less, refl)))
 
@@ -194,12 +181,10 @@ stands_as_before None c e n none r = refl
 stands_as_before (Some stop.Frame) c e n none r = refl
 stands_as_before (Some (stop.Device fault)) c e n none r = refl
 stands_as_before (Some stop.Fuel) c e n none r =
-    let charges = r.charges in
-    let fuel = r.fuel in
     let never : ¬ (c.charges < min (c.fuel + n) most_fuel) = λ some. none (refl, some) in
-    inr (omega (arith, charges, fuel, never), refl)
+    inr (omega (arith, r.charges, r.fuel, never), refl)
 
--- or stands for what it stood for
+-- or is blocked on what it was blocked on
 pub refuels_still : {M : Type 0} (w : Setting M) (x : HostInstanceState) (m : M) (t : Tenant) (n : ℕ) (c : JournalCallState) (cs : List JournalCallState) → x.journal.open_calls ≡ c ∷ cs → ¬ (HasFuelAgain x.waiting_for (with_more_fuel c n)) → RepresentsTenant w x m t
     → (t2 : Tenant) × Refuels t n t2 × RepresentsTenant w (record x { journal = record x.journal { open_calls = with_more_fuel c n ∷ cs } }) m t2
 refuels_still w x m t n c cs at none rep =

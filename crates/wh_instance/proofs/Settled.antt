@@ -4,20 +4,12 @@ use Rattle.std.specs.Bool.{MatchBool}
 use Rattle.std.specs.List.{AllByRecursion}
 use Rattle.wh_model.specs.declared.memory.Need.{Need}
 use Rattle.wh_model.specs.Execution.Store.{Instance, Store}
-use Rattle.wh_model.specs.Execution.Configuration.{Term, Config, config}
-use Rattle.wh_model.specs.Execution.Reduction.{stays, After, IsSettled, IsNext}
-use Rattle.wh_model.specs.Execution.Asking.{Asks}
-use Rattle.wh_model.specs.Execution.Instance.{Piece}
-use Rattle.wh_model.specs.Execution.Replay.{Outcome, returned, stopped, cancelled, dead, pending, Call}
-use Rattle.wh_model.specs.Execution.Taking.{Takes, took_all, took}
+use Rattle.wh_model.specs.Execution.{Term, Config, config, stays, After, IsSettled, IsNext, Asks, Piece, Outcome, returned, stopped, cancelled, dead, pending, Call, Takes, took_all, took}
 use Rattle.wh_model.proofs.Chains.{one_after}
-use Rattle.wh_host_model.specs.declared.plain.SwapError.{SwapError}
-use Rattle.wh_host_model.specs.Space.Parts.{Space}
-use Rattle.wh_host_model.specs.Host.Worlds.{Rest, Doing, resting, has_left, computing, Suspension, for_fuel, for_frame, for_device, Tenant, store_with}
-use Rattle.wh_host_model.specs.Owners.{Entry}
-use Rattle.wh_host_model.specs.Host.Admission.{rest_of}
-use Rattle.wh_host_model.specs.Host.Turns.{Opens, by_invocation, as_it_was, Upshot, to_end, out_of_fuel, to_wait, to_go_on, Proceeds, returns, traps, writes_all, uses_fuel, waits, waits_to_write, has_had_its_turn}
-use Rattle.wh_host_model.specs.Host.CallAnswers.{gone_further, ended_by, gone_on, Closes, at_frame, KeepsNoFault}
+use Rattle.wh_space_model.specs.declared.plain.SwapError.{SwapError}
+use Rattle.wh_space_model.specs.{Space}
+use Rattle.wh_host_model.specs.Host.{Rest, Doing, resting, has_left, computing, Suspension, for_fuel, for_frame, for_device, Tenant, store_with, rest_of, Opens, by_invocation, as_it_was, Upshot, to_end, out_of_fuel, to_wait, to_go_on, Proceeds, returns, traps, writes_all, uses_fuel, waits, waits_to_write, has_had_its_turn, gone_further, ended_by, gone_on, Closes, at_frame, KeepsNoFault}
+use Rattle.wh_host_model.specs.{Entry}
 use Rattle.wh_journal.specs.Calls.{JournalCallState, JournalState, with_progress}
 use Rattle.wh_journal.specs.declared.calls.CallEnd.{CallEnd}
 use Rattle.wh_journal.specs.declared.calls.CallEnd.TheVariants as end
@@ -312,16 +304,16 @@ leaves w q x x1 m m2 t e es came.Again k n c cs still a (to_wait other) goes is 
 
 -- So a turn is one of the host's definitions, and leaves the instance so.
 pub settles : {M : Type 0} (w : Setting M) (q : ℕ) (x x1 : HostInstanceState) (m m2 : M) (t : Tenant) (e : Entry) (es : List Entry) (answer : TurnOutcome) (k n : ℕ) (c : JournalCallState) (cs : List JournalCallState) (still : Bool) → Advanced w q x x1 m m2 t e es answer k n c cs still
-    → TurnsTenant w q m t e es (answered (written_on x1 c cs k n) answer still) (settled_to (written_on x1 c cs k n) answer still (with_progress c k n) cs) m2
+    → TurnsTenant w q m t e es (answered (written_on x1 c cs k n) answer still) n (settled_to (written_on x1 c cs k n) answer still (with_progress c k n) cs) m2
 settles w q x x1 m m2 t e es answer k n c cs still a =
     let adv = a.advances in
-    record { to = adv.to; pieces = k; charges = n; rest = adv.rest; doing = adv.doing; proceeds = adv.proceeds; leaves = leaves w q x x1 m m2 t e es answer k n c cs still a adv.to refl adv.is_came }
+    record { to = adv.to; pieces = k; rest = adv.rest; doing = adv.doing; proceeds = adv.proceeds; leaves = leaves w q x x1 m m2 t e es answer k n c cs still a adv.to refl adv.is_came }
 
 -- the same of what the code has then
 pub settles_so : {M : Type 0} (w : Setting M) (q : ℕ) (x x1 : HostInstanceState) (m m2 : M) (t : Tenant) (e : Entry) (es : List Entry) (answer : TurnOutcome) (k n : ℕ) (c : JournalCallState) (cs : List JournalCallState) (still : Bool) (j2 : JournalState) (answer2 : TurnResult) (x2 : HostInstanceState) → Advanced w q x x1 m m2 t e es answer k n c cs still
-    → j2 ≡ record x1.journal { open_calls = with_progress c k n ∷ cs } → answer2 ≡ answered (record x1 { journal = j2 }) answer still → x2 ≡ settled_to (record x1 { journal = j2 }) answer still (with_progress c k n) cs → TurnsTenant w q m t e es answer2 x2 m2
+    → j2 ≡ record x1.journal { open_calls = with_progress c k n ∷ cs } → answer2 ≡ answered (record x1 { journal = j2 }) answer still → x2 ≡ settled_to (record x1 { journal = j2 }) answer still (with_progress c k n) cs → TurnsTenant w q m t e es answer2 n x2 m2
 settles_so w q x x1 m m2 t e es answer k n c cs still j2 answer2 x2 a go answered_so left =
     let h = settles w q x x1 m m2 t e es answer k n c cs still a in
     let left2 = left ∙ ap (λ (j : JournalState). settled_to (record x1 { journal = j }) answer still (with_progress c k n) cs) go in
     let answered2 = answered_so ∙ ap (λ (j : JournalState). answered (record x1 { journal = j }) answer still) go in
-    subst (λ z. TurnsTenant w q m t e es z x2 m2) (sym answered2) (subst (λ z. TurnsTenant w q m t e es (answered (written_on x1 c cs k n) answer still) z m2) (sym left2) h)
+    subst (λ z. TurnsTenant w q m t e es z n x2 m2) (sym answered2) (subst (λ z. TurnsTenant w q m t e es (answered (written_on x1 c cs k n) answer still) n z m2) (sym left2) h)

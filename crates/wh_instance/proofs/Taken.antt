@@ -1,14 +1,12 @@
 -- Calls that an instance takes, and those that it doesn't.
 use Rattle.std.proofs.Common.{◌≡◌, ◌≢◌, ℕ, suc, ◌-◌, ◌<◌, ◌≤◌, ◌^◌, Bool, true, false, min, List, [], ◌∷◌, ◌++◌, length, map, Some, slice_get, ℤ, refl, sym, ap, subst, ◌∙◌, arith, length-append}
 use Rattle.std.specs.List.{AllByRecursion}
-use Rattle.wh_model.specs.Format.Syntax.{FuncType, Body, Module}
-use Rattle.wh_model.specs.Execution.Store.{Value, own, Instance, bits_of}
-use Rattle.wh_host_model.specs.Space.Parts.{Space}
-use Rattle.wh_host_model.specs.Host.Worlds.{Rest, Doing, Tenant, journal, store_in}
-use Rattle.wh_host_model.specs.Owners.{Entry, new_entry}
-use Rattle.wh_host_model.specs.Host.CallAnswers.{Faces}
-use Rattle.wh_host_model.specs.Host.OwnerCalls.{open_count, Meets, IsFirst, TakesCall}
-use Rattle.wh_host_model.specs.Owners.{most_open, most_calls, AreArguments, ExportsOwn, InvokeFault, no_export, arguments, queue_full, instance_dead, journal_full, rank}
+use Rattle.wh_model.specs.Format.{FuncType, Body, Module}
+use Rattle.wh_model.specs.Execution.Store.{Instance}
+use Rattle.wh_model.specs.Execution.{Value, own, bits_of}
+use Rattle.wh_space_model.specs.{Space}
+use Rattle.wh_host_model.specs.Host.{Rest, Doing, Tenant, journal, store_in, Faces, open_count, Meets, IsFirst, TakesCall}
+use Rattle.wh_host_model.specs.{Entry, new_entry, most_open, most_calls, AreArguments, ExportsOwn, InvokeFault, no_export, arguments, queue_full, instance_dead, journal_full, rank}
 use Rattle.wh_journal.specs.Calls.{JournalCallState, JournalState}
 use Rattle.wh_syntax.specs.View.{view_module}
 use Rattle.wh_imports.specs.LinkedState.{LinkedState}
@@ -249,15 +247,12 @@ refuses_room l x name given func QueueFull owns takes lacks limit bytes t s rep 
 refuses_room l x name given func Dead owns takes lacks limit bytes t s rep sees =
     let k = clear l limit x bytes t name given func owns takes rep in
     let opens = same_open (byte_setting l limit) x bytes t rep in
-    let few = lacks.0 in
-    first_dead (view_module l.valid.decoded) t name given k.no_export k.no_arguments (omega (arith, opens, few)) (sym rep.dead ∙ lacks.1)
+    first_dead (view_module l.valid.decoded) t name given k.no_export k.no_arguments (omega (arith, opens, lacks.0)) (sym rep.dead ∙ lacks.1)
 refuses_room l x name given func JournalFull owns takes lacks limit bytes t s rep sees =
     let k = clear l limit x bytes t name given func owns takes rep in
     let opens = same_open (byte_setting l limit) x bytes t rep in
     let calls = same_calls (byte_setting l limit) x bytes t rep in
-    let few = lacks.0 in
-    let many = lacks.2 in
-    first_journal (view_module l.valid.decoded) t name given k.no_export k.no_arguments (omega (arith, opens, few)) (sym rep.dead ∙ lacks.1) (omega (arith, calls, many))
+    first_journal (view_module l.valid.decoded) t name given k.no_export k.no_arguments (omega (arith, opens, lacks.0)) (sym rep.dead ∙ lacks.1) (omega (arith, calls, lacks.2))
 
 pub refuses_memory : (l : LinkedState) (x : HostInstanceState) (name : List ℕ) (given : List ℤ) (func : ℕ) → MayTake l x name given func → RefusesInvoke l x name given Memory
 refuses_memory l x name given func may limit bytes t s rep sees =
@@ -265,9 +260,7 @@ refuses_memory l x name given func may limit bytes t s rep sees =
     let opens = same_open (byte_setting l limit) x bytes t rep in
     let calls = same_calls (byte_setting l limit) x bytes t rep in
     let room = may.room in
-    let few = room.few_open in
-    let less = room.few_calls in
-    none_met (view_module l.valid.decoded) t name given k.no_export k.no_arguments (omega (arith, opens, few)) (sym rep.dead ∙ room.alive) (omega (arith, calls, less))
+    none_met (view_module l.valid.decoded) t name given k.no_export k.no_arguments (omega (arith, opens, room.few_open)) (sym rep.dead ∙ room.alive) (omega (arith, calls, room.few_calls))
 
 pub can_take : (l : LinkedState) (x : HostInstanceState) (name : List ℕ) (given : List ℤ) (func : ℕ) → MayTake l x name given func → IsSomeTenant l x → CanTake l func given
 can_take l x name given func may (limit, bytes, t, rep) =

@@ -3,14 +3,12 @@ use Rattle.std.proofs.Common.{◌≡◌, ℕ, zero, suc, ◌<◌, ◌≤◌, inl
 use Rattle.std.specs.List.{AllByRecursion}
 use Rattle.std.proofs.lemmas.Bool.{cases_lt, le-ltb, lt-ltb}
 use Rattle.wh_model.specs.declared.ValType.{ValType}
-use Rattle.wh_model.specs.Format.Syntax.{FuncType, Body, Module}
-use Rattle.wh_model.specs.Validity.Typing.{Context, operand}
-use Rattle.wh_model.specs.Execution.Store.{Value, value, type_of, bits_of, InRange, own, Instance}
-use Rattle.wh_model.specs.Execution.Replay.{Outcome, returned, stopped, cancelled, dead, pending, Call, fails}
-use Rattle.wh_host_model.specs.Host.Worlds.{Tenant, journal}
-use Rattle.wh_host_model.specs.Owners.{Entry, is_open}
-use Rattle.wh_host_model.specs.Host.Turns.{HaveTypes}
-use Rattle.wh_host_model.specs.Host.Journals.{HasEnded, InOrder, IsDeadCall, IsEnded, IsOpenCall, ReturnsTyped, is_starting, has_started, has_died}
+use Rattle.wh_model.specs.Format.{FuncType, Body, Module}
+use Rattle.wh_model.specs.Validity.{Context, operand}
+use Rattle.wh_model.specs.Execution.Store.{Instance}
+use Rattle.wh_model.specs.Execution.{Value, value, type_of, bits_of, InRange, own, Outcome, returned, stopped, cancelled, dead, pending, Call, fails}
+use Rattle.wh_host_model.specs.Host.{Tenant, journal, HaveTypes, HasEnded, InOrder, IsDeadCall, IsEnded, IsOpenCall, ReturnsTyped, is_starting, has_started, has_died}
+use Rattle.wh_host_model.specs.{Entry, is_open}
 use Rattle.wh_host_model.proofs.Host.Entries.{all_join}
 use Rattle.wh_imports.specs.LinkedState.{LinkedState}
 use Rattle.wh_call.specs.Arguments.{IsOwnType}
@@ -92,8 +90,7 @@ returned_is word dead h = absurd h
 pub told_returned : (l : LinkedState) (x : JournalCallState) (waits : Bool) (stands : Option code.Suspension) (word func : Option ℕ) (charges : ℕ) (v : Option CallValue) → x.end ≡ end.Returned word → func ≡ x.func → charges ≡ x.charges → IsReturnedAs l func word v → IsEntryTold l x waits stands (tells.Returned v charges)
 told_returned l x waits stands word func charges v at same many says c inst e is rep typed =
     let r = returned_is word e.call.outcome (subst (λ z. IsCallEnd z e.call.outcome) at rep.end) in
-    let vs = r.0 in
-    let by = says c inst e.call vs is (rep.func ∙ sym same) (subst (ReturnsTyped inst e.call) r.1 typed) r.2 in
+    let by = says c inst e.call r.0 is (rep.func ∙ sym same) (subst (ReturnsTyped inst e.call) r.1 typed) r.2 in
     (r.1 ∙ ap returned by.0, subst (AllByRecursion InRange) by.0 by.1, rep.charges ∙ sym many)
 
 -- ---- the call at a place of the journal

@@ -1,11 +1,9 @@
 -- Pieces that are written, one after the other.
-use Rattle.std.proofs.Common.{◌≡◌, ℕ, ◌+◌, ◌^◌, ◌<◌, ◌≤◌, List, [], ◌∷◌, ◌++◌, length, sym, ap, subst, ◌∙◌, arith, length-append, append_assoc, append-nil}
+use Rattle.std.proofs.Common.{◌≡◌, ℕ, ◌+◌, ◌≤◌, List, [], ◌∷◌, ◌++◌, length, sym, ap, subst, ◌∙◌, arith, length-append, append_assoc, append-nil}
 use Rattle.std.specs.List.{AllByRecursion}
 use Rattle.wh_model.specs.declared.memory.Need.{Need}
-use Rattle.wh_model.specs.Execution.Instance.{Piece, Within}
+use Rattle.wh_model.specs.Execution.{Piece, Within, written, Writes, wrote_all, wrote}
 use Rattle.wh_model.specs.Execution.Memory.{writing}
-use Rattle.wh_model.specs.Execution.Store.{written}
-use Rattle.wh_model.specs.Execution.Taking.{Writes, wrote_all, wrote}
 use Rattle.wh_instance.specs.Pieces.{HasWritten}
 
 writes_last : {M : Type 0} {bytes : M → List ℕ} {ready : M → Need → Type 0} {keeps : M → M → Type 0} {m mid m2 : M} {ps : List Piece} (p : Piece) → Writes bytes ready keeps m ps mid → ready mid (writing p.at (length p.items)) → bytes m2 ≡ written (bytes mid) p.at p.items → keeps mid m2
@@ -23,13 +21,6 @@ more_written bytes ready keeps before left rest m mid m2 n p (front, is, size, w
       omega (arith, size, more),
       writes_last p writes now new kept,
     )
-
--- while a piece is left, one more can be counted
-pub can_count : (before front left rest : List Piece) (p : Piece) (n : ℕ) → before ≡ front ++ left → n ≡ length front → left ≡ p ∷ rest → length before < 2 ^ 64 → n + 1 < 2 ^ 64
-can_count before front left rest p n is size next few =
-    let all = ap length is ∙ length-append front left in
-    let some = ap length next in
-    omega (arith, all, some, size, few)
 
 pub all_behind : (P : Piece → Type 0) (front left : List Piece) → AllByRecursion P (front ++ left) → AllByRecursion P left
 all_behind P [] left all = all

@@ -5,8 +5,8 @@ use Rattle.wh_model.specs.declared.memory.Need.{Need}
 use Rattle.wh_model.specs.Execution.Configuration.{Term, config}
 use Rattle.wh_model.specs.Execution.Reduction.{IsNext}
 use Rattle.wh_model.specs.Execution.Asking.{Asks}
-use Rattle.wh_host_model.specs.declared.plain.SwapError.{SwapError}
-use Rattle.wh_host_model.specs.Space.Parts.{Space, view}
+use Rattle.wh_space_model.specs.declared.plain.SwapError.{SwapError}
+use Rattle.wh_space_model.specs.Parts.{Space, view}
 use Rattle.wh_host_model.specs.Host.Worlds.{Rest, Doing, resting, computing, for_fuel, for_device, Tenant, store_with}
 use Rattle.wh_host_model.specs.Owners.{Entry}
 use Rattle.wh_host_model.specs.Host.Turns.{Upshot, to_end, out_of_fuel, to_wait, to_go_on, Proceeds}
@@ -19,14 +19,14 @@ use Rattle.wh_instance.specs.declared.stages.TurnResult.TheVariants as turned
 use Rattle.wh_instance.specs.Turned.{HasRest, IsCame}
 use Rattle.wh_instance.specs.Tenancy.{HostInstanceState, state_over, IsWhere, RepresentsTenant}
 
--- it stands for some instance with an open call
+-- it represents some instance with an open call
 abbrev pub HasOpenCall : {M : Type 0} → Setting M → HostInstanceState → M → Type 0
 HasOpenCall w x m = (t : Tenant) × (t.open_calls ≢ []) × RepresentsTenant w x m t
 
 -- ---- before the journal is written
 
--- In a turn of q charges the present call of this instance comes so far, with so many pieces and charges; the answer
--- says to what. It has begun, and where it hasn't ended the code's instance has it where it is then.
+-- In a turn of q charges the present call of this instance gets so far, with these pieces and charges; the answer says the
+-- outcome. It has begun, and where it hasn't ended the code's instance has it where it is then.
 pub record AdvancesTenant {M : Type 0} (w : Setting M) (q : ℕ) (m : M) (t : Tenant) (e : Entry) (es : List Entry)
     (answer : TurnOutcome) (pieces charges : ℕ) (x2 : HostInstanceState) (m2 : M) : Type 0 where
   pub to : Upshot
@@ -47,7 +47,7 @@ pub record StaysBut (x x2 : HostInstanceState) : Type 0 where
   pub waiting_for : x2.waiting_for ≡ x.waiting_for
   pub dead : x2.dead ≡ x.dead
 
--- whatever instance with an open call it stands for does so
+-- whatever instance with an open call it represents does so
 abbrev pub AdvancesAny : {M : Type 0} → Setting M → ℕ → HostInstanceState → M → TurnOutcome → ℕ → ℕ → HostInstanceState → M → Type 0
 AdvancesAny w q x m answer pieces charges x2 m2 =
     (t : Tenant) (e : Entry) (es : List Entry) → t.open_calls ≡ e ∷ es → RepresentsTenant w x m t
@@ -67,7 +67,7 @@ pub record KeepsItsFault {M : Type 0} (w : Setting M) (q : ℕ) (m : M) (t : Ten
   pub fuel_left : e.call.charges < e.call.fuel
   pub ready : (need : Need) → Asks t.inst (config (store_with (w.bytes m) t.rest) [] term) need → w.ready m need
 
--- these bytes lie in a memory with these ones, and are at most 4096
+-- these bytes are in a memory with these ones, and are at most 4096
 abbrev pub IsInMemory : List ℕ → Need → Type 0
 IsInMemory bytes need = (need.at + need.length ≤ length bytes) × (need.length ≤ 4096)
 
@@ -76,8 +76,7 @@ abbrev pub SaysStill : TurnResult → ℕ → (Bool → TurnResult) → Type 0
 SaysStill answer steps which =
     (still : Bool) × (answer ≡ which still) × MatchBool still (steps ≡ 0) (¬ (steps ≡ 0))
 
--- So the turn leaves the instance, by what it came to. A call that has ended is closed over whatever space shows this
--- memory.
+-- So the turn leaves the instance, by its outcome. A call that has ended is closed over whatever space shows this memory.
 abbrev pub LeavesTenant : {M : Type 0} → Setting M → ℕ → M → Tenant → Entry → List Entry → ℕ → ℕ → Rest → Doing
     → TurnResult → HostInstanceState → M → Upshot → Type 0
 LeavesTenant w q m t e es k n r d answer x2 m2 (to_end o) =
@@ -93,19 +92,18 @@ LeavesTenant w q m t e es k n r d answer x2 m2 to_go_on =
     × RepresentsTenant w x2 m2 (gone_on t (gone_further e k n) es r d None))
     ⊎ ((answer ≡ turned.Kept) × KeepsItsFault w q m t e m2 × RepresentsTenant w x2 m2 t)
 
--- In a turn of q charges the present call of this instance comes so far, as the host's definitions say, and the
--- instance is left so.
+-- In a turn of q charges the present call of this instance gets so far, and takes n charges, as the host's definitions say, and
+-- the instance is left so.
 pub record TurnsTenant {M : Type 0} (w : Setting M) (q : ℕ) (m : M) (t : Tenant) (e : Entry) (es : List Entry)
-    (answer : TurnResult) (x2 : HostInstanceState) (m2 : M) : Type 0 where
+    (answer : TurnResult) (charges : ℕ) (x2 : HostInstanceState) (m2 : M) : Type 0 where
   pub to : Upshot
   pub pieces : ℕ
-  pub charges : ℕ
   pub rest : Rest
   pub doing : Doing
   pub proceeds : Proceeds w.bytes w.ready w.keeps t.inst q e.call m t.rest t.doing to pieces charges m2 rest doing
   pub leaves : LeavesTenant w q m t e es pieces charges rest doing answer x2 m2 to
 
-abbrev pub TurnsAny : {M : Type 0} → Setting M → ℕ → HostInstanceState → M → TurnResult → HostInstanceState → M → Type 0
-TurnsAny w q x m answer x2 m2 =
+abbrev pub TurnsAny : {M : Type 0} → Setting M → ℕ → HostInstanceState → M → TurnResult → ℕ → HostInstanceState → M → Type 0
+TurnsAny w q x m answer charges x2 m2 =
     (t : Tenant) (e : Entry) (es : List Entry) → t.open_calls ≡ e ∷ es → RepresentsTenant w x m t
-    → TurnsTenant w q m t e es answer x2 m2
+    → TurnsTenant w q m t e es answer charges x2 m2

@@ -44,8 +44,8 @@ pub record IsBegun (t : Tenant) (inst : Instance) (r : Rest) (d : Doing) (ended 
   pub waiting_for : t.waiting_for ≡ None
   pub dead : t.dead ≡ false
 
--- Whatever it was given, its start begins as the definition of an admission says; and with a memory of zeros the code's
--- instance stands for one that has begun so.
+-- Whatever it was given, its start begins as the definition of an admission says; and with a memory of zeros the code's instance
+-- represents one that has begun so.
 abbrev pub BeginsTenant : LinkedState → Instantiated → ℕ → HostInstanceState → Type 0
 BeginsTenant l begun fuel x =
     (p : Parameters) (i : Instantiates (view_module l.valid.decoded) p begun)

@@ -1,4 +1,4 @@
--- What a turn of a call comes to that is under way.
+-- The outcome of a turn of a call that is under way.
 use Rattle.std.specs.Prelude.{◌≡◌, ℕ, ◌<◌, ◌≤◌, Option}
 use Rattle.wh_model.specs.declared.ValType.{ValType}
 use Rattle.wh_model.specs.declared.memory.Need.{Need}
@@ -30,9 +30,9 @@ AsksReady w state =
 abbrev pub IsNextReady : (Need → Type 0) → Instance → Config → Type 0
 IsNextReady ready inst c = IsNext inst c × ((need : Need) → Asks inst c need → ready need)
 
--- To what a call with this result comes in a turn of q charges, with so much fuel left, where `leads` says to which
--- configuration so many charges lead. Its run ends so within the fuel; or the turn's charges are taken, there is fuel
--- left, and the next reduction is ready.
+-- The outcome of a call with this result in a turn of q charges, with this fuel left, where `leads` says to which configuration n
+-- charges lead. Its run ends so within the fuel; or the turn's charges are taken, there is fuel left, and the next reduction is
+-- ready.
 abbrev pub ComesWithin : {M : Type 0} → Setting M → CallState M → Option ValType → Instance
     → (ℕ → Config → Type 0) → ℕ → ℕ → TurnOutcome → ℕ → Store → Type 0
 ComesWithin w after out inst leads q left (Returned result) n s =

@@ -3,7 +3,7 @@ use Rattle.std.specs.Prelude.{◌≡◌, ◌+◌, ◌-◌, ◌<◌, ◌≤◌, �
 use Rattle.wh_model.specs.Format.Syntax.{FuncType, Body}
 use Rattle.wh_model.specs.Validity.Typing.{Context}
 use Rattle.wh_model.specs.Execution.Store.{Value, own, Instance}
-use Rattle.wh_host_model.specs.Space.Parts.{Space, view}
+use Rattle.wh_space_model.specs.Parts.{Space, view}
 use Rattle.wh_host_model.specs.Host.Worlds.{Tenant}
 use Rattle.wh_host_model.specs.Host.OwnerCalls.{Meets, IsFirst, TakesCall}
 use Rattle.wh_host_model.specs.Owners.{most_open, most_calls, InvokeFault, no_export, arguments, queue_full, instance_dead, journal_full, AreArguments, rank}
@@ -84,7 +84,7 @@ new_call func given words fuel =
 abbrev pub with_journal : HostInstanceState → JournalState → HostInstanceState
 with_journal x j = record x { journal = j }
 
--- it stands behind the other calls, at this place
+-- it stands after the other calls, at this place
 abbrev pub AddsCall : LinkedState → HostInstanceState → ℕ → List ℤ → ℕ → ℕ → HostInstanceState → Type 0
 AddsCall l x func given fuel at x2 =
     (words : List ℕ) × WordsAre l func given words × (at ≡ calls_in_journal x)
@@ -94,7 +94,7 @@ AddsCall l x func given fuel at x2 =
 
 -- ---- calls
 
--- it stands for some instance of this module
+-- it represents some instance of this module
 abbrev pub IsSomeTenant : LinkedState → HostInstanceState → Type 0
 IsSomeTenant l x = (limit : ℕ) × (bytes : List ℕ) × (t : Tenant) × IsTenant l limit x bytes t
 

@@ -1,8 +1,8 @@
 -- What the owner's requests do to an instance.
 use Rattle.std.specs.Prelude.{◌≡◌, ◌<◌, ℕ, List, [], ◌∷◌, Option, Some}
 use Rattle.wh_model.specs.Execution.Replay.{cancelled}
-use Rattle.wh_host_model.specs.Space.Parts.{Space, view}
-use Rattle.wh_host_model.specs.declared.plain.SwapError.{SwapError}
+use Rattle.wh_space_model.specs.Parts.{Space, view}
+use Rattle.wh_space_model.specs.declared.plain.SwapError.{SwapError}
 use Rattle.wh_host_model.specs.Host.Worlds.{Tenant, for_device}
 use Rattle.wh_host_model.specs.Owners.{Entry}
 use Rattle.wh_host_model.specs.Host.CallAnswers.{ended_by, Closes}
@@ -27,7 +27,7 @@ OfAnyTenant x P =
 abbrev pub HasNoOpenCall : HostInstanceState → Type 0
 HasNoOpenCall x = OfAnyTenant x (λ l limit bytes t. t.open_calls ≡ [])
 
--- its present call has so much more fuel
+-- its present call has n more fuel
 abbrev pub RefuelsTenant : HostInstanceState → ℕ → HostInstanceState → Type 0
 RefuelsTenant x n x2 =
     OfAnyTenant x (λ l limit bytes t. (t2 : Tenant) × Refuels t n t2 × IsTenant l limit x2 bytes t2)
@@ -46,7 +46,7 @@ FailsTenant x fault x2 =
     OfAnyTenant x (λ l limit bytes t. AwaitsFrame t
     × IsTenant l limit x2 bytes (record t { waiting_for = Some (for_device fault) }))
 
--- it doesn't stand for one
+-- it isn't blocked on one
 abbrev pub AwaitsNoFrame : HostInstanceState → Type 0
 AwaitsNoFrame x = OfAnyTenant x (λ l limit bytes t. ¬ (AwaitsFrame t))
 

@@ -14,7 +14,7 @@ abbrev pub placed_data : List Data → List ℕ → List Piece
 placed_data (d ∷ segments) (n ∷ places) = record { at = n; items = d.init.items } ∷ placed_data segments places
 placed_data segments places = []
 
--- the fragments of pieces, the first without so many bytes
+-- the fragments of pieces, the first without its first `at` bytes
 abbrev pub fragments_behind : ℕ → List Piece → List Piece
 fragments_behind at [] = []
 fragments_behind at (p ∷ ps) = cut_up (p.at + at) (drop at p.items) ++ fragments ps
@@ -31,7 +31,7 @@ IsAtByte segments places c =
 
 -- ---- what is written
 
--- of the pieces so many are written, each ready when it is, and the others are left
+-- of the pieces n are written, each ready when it is, and the others are left
 abbrev pub HasWritten : {M : Type 0} → (M → List ℕ) → (M → Need → Type 0) → (M → M → Type 0) → List Piece → M → ℕ
     → List Piece → M → Type 0
 HasWritten bytes ready keeps before m n left m2 =

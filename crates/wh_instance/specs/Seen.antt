@@ -11,7 +11,7 @@ use Rattle.wh_instance.specs.declared.stages.Suspension.TheVariants as stop
 use Rattle.wh_instance.specs.Tenancy.{HostInstanceState}
 use Rattle.wh_instance.specs.OwnerRequests.{OfAnyTenant}
 
--- so it is answered whether a turn can bring it on
+-- so it is answered whether a turn can make it progress
 abbrev pub CanTurn : HostInstanceState → Bool → Type 0
 CanTurn x can = OfAnyTenant x (λ l limit bytes t. MatchBool can (CanGoOn t) (¬ (CanGoOn t)))
 
@@ -28,7 +28,7 @@ waits_at_frame other = false
 abbrev pub WaitsForFrame : HostInstanceState → Bool → Type 0
 WaitsForFrame x waits = OfAnyTenant x (λ l limit bytes t. MatchBool waits (AwaitsFrame t) (¬ (AwaitsFrame t)))
 
--- so many calls of it have ended
+-- `call` calls of it have ended
 abbrev pub IsPresent : HostInstanceState → ℕ → Type 0
 IsPresent x call = OfAnyTenant x (λ l limit bytes t. length t.ended ≡ call)
 

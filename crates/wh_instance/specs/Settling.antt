@@ -53,7 +53,7 @@ abbrev pub is_fault : Option Suspension → Bool
 is_fault (Some (stop.Device fault)) = true
 is_fault other = false
 
--- of what the present call stands for after a turn that ends at a frame: a fault is kept where no step was taken
+-- of what the present call is blocked on after a turn that ends at a frame: a fault is kept where no step was taken
 abbrev pub frame_or_fault : Bool → Option Suspension → Option Suspension
 frame_or_fault still stands = cond (still && is_fault stands) stands (Some stop.Frame)
 
@@ -72,11 +72,11 @@ settled_to x Fuel still c cs = record x { waiting_for = Some stop.Fuel }
 settled_to x (Frame need) still c cs = record x { waiting_for = frame_or_fault still x.waiting_for }
 settled_to x Again still c cs = cond (still && is_fault x.waiting_for) x (record x { waiting_for = None })
 
--- its present call has written so many pieces more, and taken so many charges more
+-- its present call has written k pieces more, and taken n charges more
 abbrev pub brought_on : HostInstanceState → JournalCallState → List JournalCallState → ℕ → ℕ → HostInstanceState
 brought_on x c cs k n = record x { journal = record x.journal { open_calls = with_progress c k n ∷ cs } }
 
--- So a turn of so many pieces and charges that came to this is written down, with this call as the present one.
+-- So a turn of k pieces and n charges with this outcome is recorded, with this call as the present one.
 pub record IsFinished (x : HostInstanceState) (came : TurnOutcome) (k n : ℕ) (c : JournalCallState)
     (cs : List JournalCallState) (answer : TurnResult) (x2 : HostInstanceState) : Type 0 where
   pub still : Bool

@@ -1,4 +1,4 @@
--- An instance of a host as its code keeps it, and for what that stands.
+-- An instance of a host as its code keeps it, and what that represents.
 use Rattle.std.specs.Prelude.{◌≡◌, ◌≢◌, ◌+◌, ◌<◌, ◌≤◌, ◌^◌, ℕ, Bool, List, [], ◌∷◌, length, map, reverse, slice_get, Option, Some, None}
 use Rattle.std.specs.List.{AllByRecursion}
 use Rattle.wh_model.specs.Format.Syntax.{FuncType, Body}
@@ -25,9 +25,8 @@ use Rattle.wh_instance.specs.declared.stages.Suspension.TheVariants as stop
 use Rattle.wh_instance.specs.Pieces.{pieces_left}
 use Rattle.wh_instance.specs.Turned.{HasRest, IsStarting, IsFaced, IsComputing}
 
--- What contracts see of an instance: its store, the machine of its calls, where the data segments of its module belong
--- and how far they are written, where its present call is, its calls, for what the present one stands, and whether it
--- is dead.
+-- What contracts see of an instance: its store, the machine of its calls, where the data segments of its module belong and how
+-- far they are written, where its present call is, its calls, what the present one is blocked on, and whether it is dead.
 pub record HostInstanceState : Type 0 where
   pub store : code_store.Store
   pub machine : Machine
@@ -84,7 +83,7 @@ pub record IsCounted (e : Entry) : Type 0 where
   pub pieces : e.call.fragments < 2 ^ 64
   pub fuel : e.call.fuel < 2 ^ 64
 
--- those behind the first
+-- those after the first
 abbrev pub behind_first : List Entry → List Entry
 behind_first [] = []
 behind_first (e ∷ es) = es
@@ -116,8 +115,7 @@ suspension_of (Some stop.Fuel) = Some for_fuel
 suspension_of (Some stop.Frame) = Some for_frame
 suspension_of (Some (stop.Device fault)) = Some (for_device fault)
 
--- With this memory it stands for an instance of the host's definitions. A call that is at its invocation stands for
--- nothing.
+-- With this memory it represents an instance of the host's definitions. A call that is at its invocation isn't blocked.
 pub record RepresentsTenant {M : Type 0} (w : Setting M) (x : HostInstanceState) (m : M) (t : Tenant) : Type 0 where
   pub store : HasRest w (state_over x m) t.inst t.rest
   pub ended : RepresentsEach x.journal.ended t.ended
@@ -135,7 +133,7 @@ pub record RepresentsTenant {M : Type 0} (w : Setting M) (x : HostInstanceState)
 abbrev pub byte_setting : LinkedState → ℕ → Setting (List ℕ)
 byte_setting l limit = setting_of l (λ b. b) (λ b need. Unit {0}) (λ b b2. Unit {0}) limit
 
--- With a memory of these bytes, which may grow to so many pages, the code's instance stands for this one. Over any
--- memory with these bytes and this limit it is the same.
+-- With a memory of these bytes, which may grow to `limit` pages, the code's instance represents this one. Over any memory with
+-- these bytes and this limit it is the same.
 abbrev pub IsTenant : LinkedState → ℕ → HostInstanceState → List ℕ → Tenant → Type 0
 IsTenant l limit x bytes t = RepresentsTenant (byte_setting l limit) x bytes t

@@ -62,7 +62,7 @@ pub record IsComputing {M : Type 0} (w : Setting M) (state : CallState M) (inst 
 
 -- ---- what a turn does
 
--- the answer is what the call came to; the result, if there is one, is the last value
+-- the answer is the call's outcome; the result, if there is one, is the last value
 abbrev pub IsCame : TurnOutcome → Upshot → Type 0
 IsCame (came.Returned result) (to_end (returned vs)) = result ≡ slice_get (map bits_of (reverse vs)) 0
 IsCame (came.Trapped x) (to_end (stopped y)) = x ≡ y
@@ -77,8 +77,8 @@ IsThere w state inst call r left resting = HasRest w state inst r
 IsThere w state inst call r left (has_left ps) = IsStarting w state inst call r ps × (ps ≡ left)
 IsThere w state inst call r left (computing t) = IsComputing w state inst call r t × (left ≡ [])
 
--- In a turn of q charges the call comes so far, as the host's definitions say; the answer says to what, and the state
--- stands for where it is then.
+-- In a turn of q charges the call gets so far, as the host's definitions say; the answer says the outcome, and the state
+-- represents where it is then.
 pub record Turns {M : Type 0} (w : Setting M) (inst : Instance) (q : ℕ) (call : Call) (before : M) (r : Rest)
     (d : Doing) (answer : TurnOutcome) (pieces charges : ℕ) (after : CallState M) (left : List Piece) : Type 0 where
   pub to : Upshot

@@ -161,8 +161,8 @@ impl HostInstance {
         )
     }
 
-    /// Brings the present call on by a turn of q charges over its memory: what came of it, how many pieces it has written, and how
-    /// many charges it took. Its journal stays until the turn is finished.
+    /// Runs the present call for a turn of q charges over its memory; returns the outcome, how many pieces it has
+    /// written, and how many charges it took. Its journal doesn't change until the turn is finished.
     pub fn advance<M: LinearMem>(
         &mut self,
         linked: &Linked,
@@ -197,9 +197,9 @@ impl HostInstance {
         }
     }
 
-    /// Brings the present call on by a burst over its memory, or by its first turn alone where the call isn't under way yet: it comes so
-    /// far, with so many pieces written, as in one turn of as many charges as all its turns had. Its journal stays until that is
-    /// finished.
+    /// Runs the present call for a burst over its memory, or for its first turn alone if the call hasn't begun: it gets
+    /// as far, with as many pieces written, as in one turn of as many charges as all its turns had. Its journal doesn't
+    /// change until that is finished.
     pub fn advance_burst<M: LinearMem>(
         &mut self,
         linked: &Linked,
@@ -232,18 +232,24 @@ impl HostInstance {
         (ended, pieces)
     }
 
-    /// Gives the instance a turn of q charges over its memory: its present call goes on, and no other is begun. Its journal
-    /// is written on, and for what the call stands then.
-    pub fn turn<M: LinearMem>(&mut self, linked: &Linked, memory: &mut M, q: u64) -> TurnResult
+    /// Runs a turn of q charges of the instance over its memory: its present call runs, and no other is begun. Updates
+    /// its journal, and what the call is blocked on then. Returns the outcome of the turn, and how many charges it
+    /// took.
+    pub fn turn<M: LinearMem>(
+        &mut self,
+        linked: &Linked,
+        memory: &mut M,
+        q: u64,
+    ) -> (TurnResult, u64)
         requires { HasOpenCall
             (setting_of linked.now M.bytes M.ready M.keeps (M.limit memory.old))
             self.old memory.old }
         ensures turns { TurnsAny
             (setting_of linked.now M.bytes M.ready M.keeps (M.limit memory.old))
-            q self.old memory.old result self.new memory.new }
+            q self.old memory.old result.0 result.1 self.new memory.new }
         ensures keeps { M.keeps memory.old memory.new }
     {
         let (came, pieces, charges) = self.advance(linked, memory, q);
-        self.finish(came, pieces, charges)
+        (self.finish(came, pieces, charges), charges)
     }
 }

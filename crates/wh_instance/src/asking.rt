@@ -8,8 +8,8 @@ ghost use Rattle.wh_instance.specs.OwnerRequests.{HasFuelAgain, HasNoOpenCall, R
 use crate::host_instance::HostInstance;
 use crate::settling::{is_device, is_frame};
 use crate::stages::Suspension;
-use wh_host_model::SwapError;
 use wh_journal::CallEnd;
+use wh_space_model::SwapError;
 
 impl HostInstance {
     // Whether the present call waits for fuel, and has some.
@@ -27,9 +27,9 @@ impl HostInstance {
         }
     }
 
-    /// Gives the present call so much more fuel; what passes 2^64 - 1 is lost. Whether there is one.
+    /// Adds `fuel` charges to the present call, up to 2^64 - 1 in all; tells whether there is one.
     ///
-    /// A call that waits for fuel can then go on, if it was given any.
+    /// A call that waits for fuel can then make progress, if it was given any.
     pub fn refuel(&mut self, fuel: u64) -> bool
         ensures some { result ≡ true → RefuelsTenant self.old fuel self.new }
         ensures none { result ≡ false → HasNoOpenCall self.old × (self.new ≡ self.old) }
@@ -44,7 +44,7 @@ impl HostInstance {
         true
     }
 
-    /// Lets the present call be tried again, if it waits for a device fault: it waits for a frame then. Whether it did.
+    /// Retries the present call, if it is blocked on a device fault: it waits for a frame then. Tells whether it was.
     pub fn retry(&mut self) -> bool
         ensures some { result ≡ true → RetriesTenant self.old self.new }
         ensures none { result ≡ false → CannotRetry self.old × (self.new ≡ self.old) }
@@ -56,8 +56,8 @@ impl HostInstance {
         true
     }
 
-    /// A call of the swap device has failed, for the present call: the fault is kept with it, if it waits for a frame. It
-    /// waits for another try then. Whether it did stand for one.
+    /// Records, if the present call is blocked on a frame, that the swap device has failed for it: the call is blocked
+    /// on that fault then, until it is retried. Tells whether it was blocked on a frame; nothing has changed otherwise.
     pub fn fail(&mut self, fault: SwapError) -> bool
         ensures some { result ≡ true → FailsTenant self.old fault self.new }
         ensures none { result ≡ false → AwaitsNoFrame self.old × (self.new ≡ self.old) }
@@ -69,8 +69,8 @@ impl HostInstance {
         true
     }
 
-    /// Ends the present call where it is; what it has written stays. Whether there is one. A start that is cancelled leaves
-    /// the instance dead, and the calls behind it end as dead.
+    /// Ends the present call where it is; what it has written stays. Whether there is one. A start that is cancelled
+    /// leaves the instance dead, and the calls after it end as dead.
     pub fn cancel(&mut self) -> bool
         ensures some { result ≡ true → CancelsTenant self.old self.new }
         ensures none { result ≡ false → HasNoOpenCall self.old × (self.new ≡ self.old) }

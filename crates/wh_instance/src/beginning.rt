@@ -55,11 +55,11 @@ fn first_journal(
 }
 
 impl HostInstance {
-    /// An instance of a linked module that begins so, with this machine and so much fuel for its start: the start has data
-    /// segments to write, or calls the start function; where there is neither it has ended.
+    /// Creates an instance of a linked module with this initial state and machine, and `fuel` charges for its start.
+    /// The start has data segments to write, or calls the start function; if there is neither, it has ended.
     ///
     /// # Errors
-    /// `AllocError` where room for the journal is refused.
+    /// `AllocError` if the allocation for the journal fails.
     pub fn new(
         alloc: Global,
         linked: &Linked,
@@ -88,10 +88,10 @@ impl HostInstance {
         })
     }
 
-    /// One of no module and without calls, that stands where another one was taken out.
+    /// Creates an instance of no module and without calls, to put in the place of one that is taken out.
     ///
     /// # Errors
-    /// Where room is refused.
+    /// `AllocError` if an allocation fails.
     pub fn spare(alloc: Global) -> Result<HostInstance, AllocError>
         ensures { IfOk result (λ x. x.journal ≡ record { ended = []; open_calls = [] }) }
     {

@@ -1,4 +1,4 @@
-//! Bursts: a call that is brought on by several turns, one right behind the other.
+//! Bursts: several turns of a call, one right after the other.
 
 ghost use Rattle.std.specs.Prelude.{◌≡◌, ◌+◌, ◌*◌, ◌^◌, ◌<◌, ◌≤◌, false, true};
 ghost use Rattle.wh_machine.specs.CallStates.{HasConfiguration, setting_of, call_state};
@@ -13,13 +13,13 @@ use wh_imports::Linked;
 use wh_linmem::LinearMem;
 use wh_machine::{Machine, Store};
 
-/// For how long a call is brought on: by a turn of so many charges, and by so many further ones at most, of which none is begun once
+/// How long a call runs: a turn of `quantum` charges, and at most `further` further ones, of which none is begun once
 /// somebody wants the memory.
 #[derive(Clone, Copy)]
 pub struct Burst<'a> {
     /// How many charges a turn has at most.
     pub quantum: u64,
-    /// How many turns come behind the first at most.
+    /// How many turns come after the first at most.
     pub further: u32,
     /// How many want the memory.
     pub wanted: &'a AtomicU64,
@@ -28,7 +28,7 @@ pub struct Burst<'a> {
 /// What came of a burst.
 #[derive(Clone, Copy)]
 pub struct BurstEnd {
-    /// To what the call came in the last turn.
+    /// The outcome of the last turn.
     pub came: TurnOutcome,
     /// How many charges it took.
     pub charges: u64,
@@ -39,7 +39,7 @@ pub struct BurstEnd {
 }
 
 impl<'a> Burst<'a> {
-    // Whether a further turn is begun behind what came of the last. For that it asks leave.
+    // Whether a further turn is begun after what came of the last. For that it asks leave.
     fn goes_on(&self, came: TurnOutcome, leave: &mut Leave) -> bool
         requires { leave.old.reads + 1 < 2 ^ 64 }
         ensures may { result ≡ true → (came ≡ CanGoOn) × (1 ≤ self.now.quantum) }
@@ -53,8 +53,8 @@ impl<'a> Burst<'a> {
     }
 }
 
-/// Gives the call that a machine represents a burst, where it has so much fuel left: it comes to what it comes to in one turn of as many
-/// charges as all its turns had.
+/// Runs a burst of the call that a machine represents, which has `left` charges of fuel left: it gets as far as in one
+/// turn of as many charges as all its turns had.
 pub fn compute_burst<M: LinearMem>(
     linked: &Linked,
     store: &mut Store,

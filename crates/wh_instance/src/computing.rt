@@ -57,9 +57,9 @@ fn lacking<M: LinearMem>(
     Some(need)
 }
 
-/// Gives the call that a machine represents a turn of q charges, where it has so much fuel left: what came of it, and how
-/// many charges were taken. Fuel is looked at before the bytes of the next step, and these before the call is answered to
-/// have had its turn.
+/// Runs a turn of q charges of the call that a machine represents, which has `left` charges of fuel left; returns the
+/// outcome, and how many charges were taken. Fuel is looked at before the bytes of the next step, and these before the
+/// call is answered to have had its turn.
 pub fn compute<M: LinearMem>(
     linked: &Linked,
     store: &mut Store,

@@ -31,7 +31,8 @@ pub enum InvokeError {
 }
 
 impl InvokeError {
-    /// The number by which replies name the fault, behind an H: 2 to 7. Faults are looked at in its order.
+    /// Returns the number by which replies name the fault, after an H: 2 to 7. An invocation is checked for faults in
+    /// this order.
     pub fn number(self) -> u8
         ensures { result ≡ invoke_number self }
     {

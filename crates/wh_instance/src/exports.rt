@@ -6,7 +6,7 @@ ghost use Rattle.wh_instance.specs.CallsByName.{NamesOwn, NamesOnly, NamesNone};
 use wh_call::{exported, own_type};
 use wh_imports::Linked;
 
-/// The index of the function of the module's own that is exported by this name.
+/// Returns the index of the module's own function that is exported under this name, if there is one.
 pub fn own_export(linked: &Linked, name: &str) -> Option<u32>
     ensures some { IfSome result (NamesOwn linked.now name.now) }
     ensures only { NamesOnly linked.now name.now result }

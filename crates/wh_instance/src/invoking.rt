@@ -61,7 +61,7 @@ impl HostInstance {
         }
     }
 
-    // Puts a call of this function behind the others: its place in the journal.
+    // Puts a call of this function after the others: its place in the journal.
     fn add_call(
         &mut self,
         alloc: Global,
@@ -84,8 +84,8 @@ impl HostInstance {
         Ok(at)
     }
 
-    /// Takes a call of the function that the module exports by this name, with these arguments and so much fuel: its place in
-    /// the journal, where the start is 0. It is run by turns, behind the calls that are open.
+    /// Queues a call of the function that the module exports by this name, with these arguments and `fuel` charges;
+    /// returns its place in the journal, where the start is 0. Turns run it, after the open calls.
     ///
     /// An argument is a number, signed or unsigned, in the bits of its type.
     ///

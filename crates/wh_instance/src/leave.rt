@@ -4,15 +4,15 @@ ghost use Rattle.std.specs.Prelude.{◌≡◌, ◌+◌, ◌<◌, ◌^◌, MatchB
 
 use std::sync::atomic::{AtomicU64, Ordering};
 
-/// How often it was read that nobody wants the memory of all: so many turns may come behind the first one. Nothing but such a read adds
-/// to it.
+/// How often it was read that nobody wants the memory of all: as many turns may come after the first one. Nothing but
+/// such a read adds to it.
 #[derive(Clone, Copy, Debug, PartialEq, Eq)]
 pub struct Leave {
     reads: u64,
 }
 
 impl Leave {
-    /// Leave for no further turn.
+    /// Returns leave for no further turn.
     #[inline(always)]
     pub fn none() -> Leave
         ensures { result.reads ≡ 0 }
@@ -20,7 +20,7 @@ impl Leave {
         Leave { reads: 0 }
     }
 
-    /// Reads how many want the memory: leave for one more turn, if nobody does. Whether that was so.
+    /// Reads how many want the memory, and gives leave for one more turn if nobody does; tells whether that was so.
     #[inline(always)]
     pub fn ask(&mut self, wanted: &AtomicU64) -> bool
         requires { self.old.reads + 1 < 2 ^ 64 }

@@ -1,8 +1,8 @@
 //! An instance of a host of many, over any linear memory: its journal, its turns, and what its owner asks of it.
 //!
-//! In a turn its present call goes on: the data segments of its start are written (4.5.4 of the W3C WebAssembly Core
-//! Specification 1.0), its function is invoked (4.5.5), and so many charges of its execution are taken. No turn takes
-//! memory; an instance that begins does, and so does a call that is taken.
+//! In a turn its present call runs: the data segments of its start are written (4.5.4 of the W3C WebAssembly Core
+//! Specification 1.0), its function is invoked (4.5.5), and a limited number of charges of its execution are taken. No
+//! turn allocates; creating an instance does, and so does queueing a call.
 #![tactic(auto)]
 
 mod advancing;

@@ -81,7 +81,7 @@ fn words_for(alloc: Global, params: &[ValType], given: &[i128]) -> Result<Vec<u6
     Ok(words)
 }
 
-/// Whether the numbers given are arguments of the function of this index, one of the module's own.
+/// Tells whether these numbers are arguments of the function of this index, which has to be one of the module's own.
 pub fn takes(linked: &Linked, func: u32, given: &[i128]) -> bool
     ensures own { (c : Context) (inst : Instance) (type : ModelType) (body : Body)
         → IsInstanceOf linked.now c inst
@@ -98,11 +98,10 @@ pub fn takes(linked: &Linked, func: u32, given: &[i128]) -> bool
     }
 }
 
-/// The words of the arguments that the numbers given are, in order: an i32 modulo 2^32, in the low 32 bits, and an i64
-/// modulo 2^64.
+/// Returns the words of these arguments, in order: an i32 modulo 2^32, in the low 32 bits, and an i64 modulo 2^64.
 ///
 /// # Errors
-/// No memory for them.
+/// `AllocError` if the allocation fails.
 pub fn words_of(
     alloc: Global,
     linked: &Linked,

@@ -7,28 +7,28 @@ use crate::stages::Suspension;
 use wh_journal::Journal;
 
 impl HostInstance {
-    /// Its journal.
+    /// Returns its journal.
     pub fn journal(&self) -> &Journal
         ensures { result.now ≡ self.now.journal }
     {
         &self.journal
     }
 
-    /// For what its present call stands, if no turn of it is taken.
+    /// Returns what its present call is blocked on, if it is.
     pub fn waiting_for(&self) -> Option<Suspension>
         ensures { result ≡ self.now.waiting_for }
     {
         self.waiting_for
     }
 
-    /// The words that the host's function `input` reads for it.
+    /// Returns the words that the host function `input` reads for it.
     pub fn inputs(&self) -> &[u64]
         ensures { result.now ≡ self.now.store.inputs.items }
     {
         &self.store.inputs
     }
 
-    /// Whether its start has trapped or was cancelled.
+    /// Tells whether its start has trapped or was cancelled.
     pub fn is_dead(&self) -> bool
         ensures { result ≡ self.now.dead }
     {

@@ -9,14 +9,14 @@ use std::alloc::Global;
 use std::mem;
 
 impl HostInstance {
-    /// Whether no call is open, so that there is none to bring on.
+    /// Tells whether no call is open, so that there is nothing to run.
     pub fn is_idle(&self) -> bool
         ensures { IsIdle self.now result }
     {
         self.journal.is_idle()
     }
 
-    /// Whether a turn can bring it on: a call is open, and waits neither for fuel nor for a device fault.
+    /// Tells whether a turn can make progress: a call is open, and isn't blocked on fuel or a device fault.
     pub fn can_go_on(&self) -> bool
         ensures { CanTurn self.now result }
     {
@@ -29,7 +29,8 @@ impl HostInstance {
         }
     }
 
-    /// Whether its present call computes: one is open and waits for nothing, and it is no start with data segments left to write.
+    /// Tells whether its present call computes: one is open and isn't blocked, and it is no start with data segments
+    /// left to write.
     pub fn computes(&self) -> bool
         ensures { IsComputingNow self.now result }
     {
@@ -45,21 +46,22 @@ impl HostInstance {
         }
     }
 
-    /// Whether its present call waits for a frame.
+    /// Tells whether its present call is blocked on a frame.
     pub fn awaits_frame(&self) -> bool
         ensures { WaitsForFrame self.now result }
     {
         is_frame(self.waiting_for)
     }
 
-    /// The place of its present call in its journal, which is how many calls have ended.
+    /// Returns the place of its present call in its journal, which is the number of ended calls.
     pub fn present_call(&self) -> usize
         ensures { IsPresent self.now result }
     {
         self.journal.ended_len()
     }
 
-    /// Takes out the bytes that the host functions `put` and `emit` have written for it, as it goes. It takes no memory.
+    /// Takes out the bytes that the host functions `put` and `emit` have written for it, when it is released. Allocates
+    /// nothing.
     pub fn take_output(&mut self, alloc: Global) -> Vec<u8>
         ensures { HasOutput self.old result.items }
     {

@@ -21,7 +21,7 @@ fn fails(end: CallEnd) -> bool
     }
 }
 
-// Whether it is a device fault for which the present call stands.
+// Whether the present call is blocked on a device fault.
 pub(crate) fn is_device(waiting_for: Option<Suspension>) -> bool
     ensures { result ≡ is_fault waiting_for }
 {
@@ -31,7 +31,7 @@ pub(crate) fn is_device(waiting_for: Option<Suspension>) -> bool
     }
 }
 
-// Whether it is a frame.
+// Whether it is blocked on a frame.
 pub(crate) fn is_frame(waiting_for: Option<Suspension>) -> bool
     ensures { result ≡ waits_at_frame waiting_for }
 {
@@ -56,7 +56,7 @@ impl HostInstance {
         self.journal.ended_len() == 0 && fails(end)
     }
 
-    // The present call has ended so. The next one is faced, if there is one; behind a start that has failed they end as
+    // The present call has ended so. The next one is faced, if there is one; after a start that has failed they end as
     // dead.
     pub(crate) fn close(&mut self, end: CallEnd)
         requires { HasPresent self.old.journal.open_calls }
@@ -113,8 +113,8 @@ impl HostInstance {
         }
     }
 
-    /// Finishes a turn that came to this and has written so many pieces and taken so many charges: its journal is written on, and
-    /// for what the call stands then.
+    /// Finishes a turn of this outcome that has written `pieces` pieces and taken `charges` charges: updates its
+    /// journal, and what the call is blocked on then.
     pub fn finish(&mut self, came: TurnOutcome, pieces: u64, charges: u64) -> TurnResult
         requires { CanGoFurther self.old.journal.open_calls pieces charges }
         ensures { (c : JournalCallState) (cs : List JournalCallState)

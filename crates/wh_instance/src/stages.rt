@@ -1,7 +1,7 @@
-//! Where the present call of an instance is, for what it stands, and what a turn of it comes to.
+//! Where the present call of an instance is, what it is blocked on, and the outcome of a turn.
 
-use wh_host_model::SwapError;
 use wh_model::{Need, Trap, ValType};
+use wh_space_model::SwapError;
 
 /// Where the present call of an instance is.
 #[derive(Clone, Copy, Debug, PartialEq, Eq)]
@@ -14,7 +14,7 @@ pub enum CallStage {
     UnderWay,
 }
 
-/// For what the present call of an instance stands, so that no turn of it is taken.
+/// What the present call of an instance is blocked on.
 #[derive(Clone, Copy, Debug, PartialEq, Eq)]
 pub enum Suspension {
     /// All its fuel is used.
@@ -25,7 +25,7 @@ pub enum Suspension {
     Device(SwapError),
 }
 
-/// What a turn of an instance comes to.
+/// The outcome of a turn of an instance.
 #[derive(Clone, Copy)]
 pub enum TurnResult {
     /// The call has ended.
@@ -74,11 +74,11 @@ pub enum CallStatus {
     Cancelled {
         charges: u64,
     },
-    /// It stood behind a start that trapped or was cancelled, and did nothing.
+    /// It was queued after a start that trapped or was cancelled, and did nothing.
     Dead,
     /// It waits behind another open call.
     Waiting,
-    /// It is the present call, and stands for this, if it does.
+    /// It is the present call, and blocked on this, if it is.
     Present {
         waiting_for: Option<Suspension>,
         charges: u64,

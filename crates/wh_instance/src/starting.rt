@@ -14,9 +14,9 @@ use wh_imports::Linked;
 use wh_linmem::LinearMem;
 use wh_machine::{Machine, Store, begin};
 
-/// Gives a start that may have pieces left a turn of q charges: those are written first, as far as they are ready; then its
-/// function is begun, if it has one. It gives what came of it, how many pieces were written, and how many charges were
-/// taken. Where pieces are left (`Cursor::has_pieces`), its next turn is one of this kind, too.
+/// Runs a turn of q charges of a start that may have pieces left: writes those first, as far as they are ready; then
+/// begins its function, if it has one. Returns the outcome, how many pieces were written, and how many charges were
+/// taken. If pieces are left (`Cursor::has_pieces`), its next turn is one of this kind, too.
 ///
 /// The places are those of the data segments of the module (4.5.4), in order.
 pub fn turn_start<M: LinearMem>(

@@ -78,8 +78,8 @@ fn status_of(
 }
 
 impl HostInstance {
-    /// How far the call at this place of its journal is, where the start is at 0; `None` where there is no call at that
-    /// place. It takes constant time and no memory.
+    /// Returns the status of the call at this place of its journal, where the start is at 0; `None` if there is no such
+    /// call. Takes O(1), and allocates nothing.
     pub fn call_status(&self, linked: &Linked, at: u32) -> Option<CallStatus>
         ensures { TellsCall linked.now self.now at result }
     {

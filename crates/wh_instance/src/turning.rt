@@ -15,8 +15,8 @@ use wh_imports::Linked;
 use wh_linmem::LinearMem;
 use wh_machine::{Machine, Store, begin};
 
-/// Gives a call that is under way a burst, of which it has taken so many charges and was given so much fuel: it comes to what it comes
-/// to in a turn of as many charges as the parts had that were begun.
+/// Runs a burst of a call that is under way, which has taken `charges` charges and was given `fuel`: it gets as far as
+/// in a turn of as many charges as the turns had that were begun.
 pub fn turn_on<M: LinearMem>(
     linked: &Linked,
     store: &mut Store,
@@ -47,8 +47,8 @@ pub fn turn_on<M: LinearMem>(
     compute_burst(linked, store, machine, memory, burst, fuel - charges)
 }
 
-/// Begins a call of the function of this index with these words as arguments, and gives it a turn of q charges, where it
-/// was given so much fuel: what came of it, and how many were taken. Whatever the machine did before is given up.
+/// Begins a call of the function of this index with these words as arguments, and runs a turn of q charges of it, where
+/// it was given `fuel`; returns the outcome, and how many were taken. Whatever the machine did before is given up.
 pub fn turn_first<M: LinearMem>(
     linked: &Linked,
     store: &mut Store,

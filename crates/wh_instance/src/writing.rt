@@ -22,8 +22,8 @@ pub struct Cursor {
 }
 
 impl Cursor {
-    /// The one with which a start begins: nothing is written, and all fragments of the segments are left. Where these end
-    /// within so many bytes, each segment has no more fragments than that.
+    /// Returns the cursor with which a start begins: nothing is written, and all fragments of the segments are left. If
+    /// these end within `size` bytes of memory, each segment has no more fragments than that.
     pub fn first() -> Cursor
         ensures all { (segments : List Data) (places : List ℕ)
             → pieces_left segments places result ≡ fragments (placed_data segments places) }
@@ -34,7 +34,7 @@ impl Cursor {
         Cursor { segment: 0, at: 0 }
     }
 
-    /// Whether any piece is left from the cursor on.
+    /// Tells whether any piece is left from the cursor on.
     pub fn has_pieces(self, segments: &[Data], places: &[u32]) -> bool
         ensures { MatchBool result (¬ (pieces_left segments.now places.now self ≡ []))
             (pieces_left segments.now places.now self ≡ []) }
@@ -53,7 +53,7 @@ struct Fragment<'a> {
     at: u64,
     /// Its bytes, 1 to 4096.
     bytes: &'a [u8],
-    /// The cursor behind it.
+    /// The cursor after it.
     after: Cursor,
 }
 
@@ -150,9 +150,9 @@ fn write_piece<M: LinearMem>(piece: Fragment<'_>, memory: &mut M)
     }
 }
 
-/// Writes data segments from the cursor on, each from its place on, as the fragments into which multiples of 4096 cut it.
-/// Each is ready when it is written, and none is written twice. It gives how many were written, and what the next one
-/// wants, if one is left: that isn't ready.
+/// Writes data segments from the cursor on, each from its place on, as the fragments into which multiples of 4096 cut
+/// it. Each is ready when it is written, and none is written twice. Returns how many were written, and what the next
+/// one wants, if one is left: that isn't ready.
 pub fn write_pieces<M: LinearMem>(
     segments: &[Data],
     places: &[u32],

@@ -7,7 +7,7 @@ use Rattle.std.proofs.lemmas.Nat.{mod-pow-add, shr_below, ones-le}
 use Rattle.std.proofs.Common.{add-one, zero-add, one-add, inl, inr, eq-eqb, ne_eqb}
 use Rattle.std.specs.Int.Count.{ones, ones_step, count_leading_zeros, count_trailing_zeros, under}
 use Rattle.std.specs.Prelude.{◌==◌, if◌then◌else◌}
-use Rattle.wh_model.specs.Execution.Numbers.{bits, count_below, iclz, ictz, ipopcnt}
+use Rattle.wh_model.specs.Execution.{bits, count_below, iclz, ictz, ipopcnt}
 use Rattle.wh_model.specs.declared.ValType.{ValType}
 use Rattle.wh_model.specs.declared.ValType.TheVariants.{I32, I64}
 

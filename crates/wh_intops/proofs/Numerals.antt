@@ -2,8 +2,7 @@
 use Rattle.std.proofs.lemmas.Int.{to_z-of_z}
 use Rattle.std.proofs.Common.{◌≡◌, ◌∙◌, ℕ, suc, ◌^◌, ◌%◌, ◌/◌, ◌<◌, ℤ, pos, negsuc, w8, w16, w32, w64, to_z, of_z, arith, SFits, length, zero, refl, ap}
 use Rattle.std.proofs.lemmas.Int.{ints}
-use Rattle.wh_model.specs.Execution.Numbers.{signed, unsigned}
-use Rattle.wh_model.specs.Execution.Store.{bytes_of}
+use Rattle.wh_model.specs.Execution.{signed, unsigned, bytes_of}
 use Rattle.wh_intops.proofs.Words.{read-signed}
 
 -- machine words, read as signed

@@ -6,7 +6,7 @@ use Rattle.std.proofs.lemmas.Bool.{cases_lt, cond-true}
 use Rattle.std.proofs.lemmas.Int.{ints, quot-rem, to_z-of_z}
 use Rattle.std.specs.Prelude.{int_div, int_rem, int_lt}
 use Rattle.wh_model.proofs.Numbers.{signed-low, signed-high, signed-bounds, bits-pos}
-use Rattle.wh_model.specs.Execution.Numbers.{bits, signed, unsigned, quotient, idiv_s, irem_u, irem_s}
+use Rattle.wh_model.specs.Execution.{bits, signed, unsigned, quotient, idiv_s, irem_u, irem_s}
 use Rattle.wh_model.specs.declared.Trap.TheVariants.{DivideByZero, Overflow}
 use Rattle.wh_model.specs.declared.ValType.{ValType}
 use Rattle.wh_model.specs.declared.ValType.TheVariants.{I32, I64}
@@ -67,7 +67,7 @@ module _ (t : ValType) (a b : ℕ) (left : a < 2 ^ bits t) (apart : signed (bits
       let fits = is_true (int_lt (quotient (bits t) a b) (pos (2 ^ (bits t - 1)))) quotient-bounds.1.lt in
       rw (ne_eqb b 0 nonzero) (sym (cond-true (int_lt (quotient (bits t) a b) (pos (2 ^ (bits t - 1)))) (Ok (unsigned (bits t) (quotient (bits t) a b))) (Err Overflow) fits))
 
--- a word that is not 0 stands for a number that is not 0
+-- a word that is not 0 represents a number that is not 0
 nonzero-high : (t : ValType) (b : ℕ) → b < 2 ^ bits t → 0 < b → 0 < of_z w64 (negsuc (2 ^ bits t - suc b))
 nonzero-high I32 b fits some = omega arith
 nonzero-high I64 b fits some = omega arith

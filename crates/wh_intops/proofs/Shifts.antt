@@ -9,7 +9,7 @@ use Rattle.std.specs.Int.Bits.{or_self}
 use Rattle.std.specs.Int.Signed.{mag_shr}
 use Rattle.std.specs.Prelude.{bit_or}
 use Rattle.wh_model.proofs.Numbers.{signed-low, signed-high, pow-half, bits-pos}
-use Rattle.wh_model.specs.Execution.Numbers.{bits, signed, unsigned, ishl, ishr_s, irotl, irotr}
+use Rattle.wh_model.specs.Execution.{bits, signed, unsigned, ishl, ishr_s, irotl, irotr}
 use Rattle.wh_model.specs.declared.ValType.{ValType}
 use Rattle.wh_model.specs.declared.ValType.TheVariants.{I32, I64}
 use Rattle.wh_intops.proofs.Words.{mod-word, signed-fits}

@@ -5,7 +5,7 @@ use Rattle.std.proofs.lemmas.Int.{ints}
 use Rattle.std.proofs.lemmas.Nat.{and_le_l, or_lt, xor_lt}
 use Rattle.std.specs.Prelude.{bit_and, bit_or, bit_xor}
 use Rattle.wh_model.proofs.Numbers.{signed-low, signed-high, signed-bounds, bits-pos, iadd-lt, isub-lt, imul-lt, idiv_u-lt, idiv_s-lt, irem_u-lt, irem_s-lt, ishl-lt, ishr_u-lt, ishr_s-lt, irotl-lt, irotr-lt, iclz-lt, ictz-lt, ipopcnt-lt, iextend_s-lt}
-use Rattle.wh_model.specs.Execution.Numbers.{bits, signed, unsigned, test, truth, iadd, isub, imul, ishr_s, irotl, irotr, wrap, extend_s, iextend_s, unary}
+use Rattle.wh_model.specs.Execution.{bits, signed, unsigned, test, truth, iadd, isub, imul, ishr_s, irotl, irotr, wrap, extend_s, iextend_s, unary}
 use Rattle.wh_model.specs.declared.ValType.{ValType}
 use Rattle.wh_model.specs.declared.ValType.TheVariants.{I32, I64}
 use Rattle.wh_model.specs.declared.TestOp.{TestOp}

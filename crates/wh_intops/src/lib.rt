@@ -15,8 +15,8 @@ ghost use Rattle.wh_model.specs.Execution.Numbers.{iadd, isub, imul, idiv_s, idi
 
 use wh_model::{BinaryOp, CompareOp, ConvertOp, TestOp, Trap, UnaryOp, ValType};
 
-/// A count of an operand's bits (`iclz`, `ictz` and `ipopcnt` of the standard, 4.3.2), from 0 to N, or its low bits as
-/// a signed number (`iextend8_s` and so on of version 2.0, 4.3.2).
+/// Counts bits of an operand (`iclz`, `ictz` and `ipopcnt` of the standard, 4.3.2), which gives 0 to N, or extends its
+/// low bits by their sign (`iextend8_s` and so on of version 2.0, 4.3.2).
 ///
 /// The operand is below 2^N at the type's N, and so is the result.
 #[inline(always)]
@@ -36,7 +36,7 @@ pub fn unop(width: ValType, op: UnaryOp, operand: u64) -> u64
     }
 }
 
-/// An operator on two integers of one type (`iadd`, `isub` and so on of the standard, 4.3.2).
+/// Computes an operator on two integers of one type (`iadd`, `isub` and so on of the standard, 4.3.2).
 ///
 /// The operands are below 2^N at the type's N, and so is the result. Counts of shifts and rotations are taken modulo N.
 /// A division or a remainder by 0 is [`Trap::DivideByZero`], whatever the dividend, and the signed division of the
@@ -68,7 +68,7 @@ pub fn binop(width: ValType, op: BinaryOp, left: u64, right: u64) -> Result<u64,
     }
 }
 
-/// A test of one integer, of either type (`ieqz` of the standard, 4.3.2), with an i32 result: 1 if it holds, else 0.
+/// Tests an integer of either type (`ieqz` of the standard, 4.3.2); returns an i32: 1 if the test holds, else 0.
 #[inline(always)]
 #[tactic(auto, using(crate::proofs::Words::tests_zero), unfolding(wh_model::specs::Execution::Numbers::truth))]
 pub fn testop(op: TestOp, operand: u64) -> u64
@@ -80,8 +80,8 @@ pub fn testop(op: TestOp, operand: u64) -> u64
     }
 }
 
-/// A comparison of two integers of one type (`ieq`, `ilt_s` and so on of the standard, 4.3.2), with an i32 result: 1 if
-/// it holds, else 0.
+/// Compares two integers of one type (`ieq`, `ilt_s` and so on of the standard, 4.3.2); returns an i32: 1 if the
+/// comparison holds, else 0.
 ///
 /// The operands are below 2^N at the type's N.
 #[inline(always)]
@@ -106,7 +106,7 @@ pub fn relop(width: ValType, op: CompareOp, left: u64, right: u64) -> u64
     })
 }
 
-/// A conversion of one integer to the other type (`wrap`, `extend_u` and `extend_s` of the standard, 4.3.4).
+/// Converts an integer to the other type (`wrap`, `extend_u` and `extend_s` of the standard, 4.3.4).
 ///
 /// The operand is below 2^N at the N of the type that the conversion takes, and the result at that of the type that
 /// it gives.
@@ -291,7 +291,7 @@ fn wrap(width: ValType, word: u64) -> u64
     }
 }
 
-/// The signed number that a word stands for.
+/// The signed number that a word represents.
 #[inline(always)]
 #[tactic(auto, using(crate::proofs::Words::signs))]
 fn to_signed(width: ValType, word: u64) -> i64
@@ -304,7 +304,7 @@ fn to_signed(width: ValType, word: u64) -> i64
     }
 }
 
-/// The signed number that a word's low 8 bits stand for.
+/// The signed number that a word's low 8 bits represent.
 #[inline(always)]
 #[tactic(auto, using(crate::proofs::Words::narrow_signs))]
 fn low_8(word: u64) -> i64
@@ -313,7 +313,7 @@ fn low_8(word: u64) -> i64
     i64::from(((word % 0x100) as u8).cast_signed())
 }
 
-/// The signed number that a word's low 16 bits stand for.
+/// The signed number that a word's low 16 bits represent.
 #[inline(always)]
 #[tactic(auto, using(crate::proofs::Words::narrow_signs))]
 fn low_16(word: u64) -> i64
@@ -322,7 +322,7 @@ fn low_16(word: u64) -> i64
     i64::from(((word % 0x1_0000) as u16).cast_signed())
 }
 
-/// The word that stands for a signed number.
+/// The word that represents a signed number.
 #[inline(always)]
 #[tactic(auto, using(crate::proofs::Words::signs))]
 fn from_signed(width: ValType, number: i64) -> u64

@@ -15,11 +15,11 @@ pub record JournalCallState : Type 0 where
   pub charges : ℕ
   pub end : CallEnd
 
--- it has written so many pieces more, and taken so many charges more
+-- it has written `pieces` more pieces, and taken `charges` more charges
 abbrev pub with_progress : JournalCallState → ℕ → ℕ → JournalCallState
 with_progress c pieces charges = record c { pieces = c.pieces + pieces; charges = c.charges + charges }
 
--- it was given so much fuel more, as far as it can be counted in 64 bits
+-- it was given n more fuel, as far as it can be counted in 64 bits
 abbrev pub with_more_fuel : JournalCallState → ℕ → JournalCallState
 with_more_fuel c n = record c { fuel = min (c.fuel + n) (2 ^ 64 - 1) }
 
@@ -38,7 +38,7 @@ pub record JournalState : Type 0 where
 abbrev pub HasPresent : List JournalCallState → Type 0
 HasPresent calls = (c : JournalCallState) × (cs : List JournalCallState) × (calls ≡ c ∷ cs)
 
--- and what it will have written and taken with so many pieces and charges more can be counted in 64 bits
+-- and what it will have written and taken with these pieces and charges more can be counted in 64 bits
 abbrev pub CanGoFurther : List JournalCallState → ℕ → ℕ → Type 0
 CanGoFurther calls pieces charges =
     (c : JournalCallState) × (cs : List JournalCallState) × (calls ≡ c ∷ cs)

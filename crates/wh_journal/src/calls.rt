@@ -19,7 +19,7 @@ pub enum CallEnd {
     Trapped(Trap),
     /// Its owner has cancelled it.
     Cancelled,
-    /// It stood behind a start that trapped or was cancelled, and did nothing.
+    /// It was queued after a start that trapped or was cancelled, and did nothing.
     Dead,
 }
 
@@ -54,8 +54,8 @@ impl Model for JournalCall {
 }
 
 impl JournalCall {
-    /// An open call of this function with these arguments, as they were given and as words, and so much fuel. It has
-    /// written no piece and taken no charge. A start may have no function.
+    /// Creates an open call of this function with these arguments, as they were given and as words, and this fuel in
+    /// charges. It has written no piece and taken no charge. Only a start may have no function.
     pub fn new(func: Option<u32>, given: Vec<i128>, words: Vec<u64>, fuel: u64) -> JournalCall
         ensures { result ≡ record {
           func = func;
@@ -78,59 +78,59 @@ impl JournalCall {
         }
     }
 
-    /// The index of its function, if it has one.
+    /// Returns the index of its function, if it has one.
     pub fn func(&self) -> Option<u32>
         ensures { result ≡ self.now.func }
     {
         self.func
     }
 
-    /// Its arguments in order, as its owner gave them.
+    /// Returns its arguments in order, as its owner gave them.
     pub fn given(&self) -> &[i128]
         ensures { result.now ≡ self.now.given }
     {
         &self.given
     }
 
-    /// Its arguments in order, as words of the machine.
+    /// Returns its arguments in order, as words of the machine.
     pub fn words(&self) -> &[u64]
         ensures { result.now ≡ self.now.words }
     {
         &self.words
     }
 
-    /// The fuel that it was given in all.
+    /// Returns the fuel that it was given in all, in charges.
     pub fn fuel(&self) -> u64
         ensures { result ≡ self.now.fuel }
     {
         self.fuel
     }
 
-    /// How many pieces of data segments it has written.
+    /// Returns the number of pieces of data segments that it has written.
     pub fn pieces(&self) -> u64
         ensures { result ≡ self.now.pieces }
     {
         self.pieces
     }
 
-    /// How many charges it has taken.
+    /// Returns the number of charges that it has taken.
     pub fn charges(&self) -> u64
         ensures { result ≡ self.now.charges }
     {
         self.charges
     }
 
-    /// How it has ended, if it has.
+    /// Returns how it has ended, or that it is open.
     pub fn end(&self) -> CallEnd
         ensures { result ≡ self.now.end }
     {
         self.end
     }
 
-    /// The same call once more.
+    /// Copies the call.
     ///
     /// # Errors
-    /// `AllocError` where room is refused.
+    /// `AllocError` if an allocation fails.
     pub fn copy(&self, alloc: Global) -> Result<JournalCall, AllocError>
         ensures { IfOk result (λ copy. copy ≡ self.now) }
     {
@@ -147,7 +147,7 @@ impl JournalCall {
         })
     }
 
-    /// It has written so many pieces more, and taken so many charges more.
+    /// Adds to the pieces that it has written, and to the charges that it has taken.
     pub(crate) fn go_further(&mut self, pieces: u64, charges: u64)
         requires pieces { self.old.pieces + pieces < 2 ^ 64 }
         requires charges { self.old.charges + charges < 2 ^ 64 }
@@ -157,7 +157,7 @@ impl JournalCall {
         self.charges += charges;
     }
 
-    /// It is given so much fuel more; what passes 2^64 - 1 is lost.
+    /// Adds fuel to what it was given, up to 2^64 - 1.
     pub(crate) fn refuel(&mut self, fuel: u64)
         ensures { self.new ≡ with_more_fuel self.old fuel }
     {

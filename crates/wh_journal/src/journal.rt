@@ -20,8 +20,8 @@ fn copies_of(alloc: Global, calls: &[JournalCall]) -> Result<Vec<JournalCall>, A
     Ok(copies)
 }
 
-/// The calls of one instance in the order of their coming: those that have ended, and behind them the others, the
-/// first of which is the present call.
+/// The calls of one instance in the order of their coming: those that have ended, and after them the others, the first
+/// of which is the present call.
 ///
 /// Each method but `end_all` takes constant time; `push` does so but where the room has to grow. Only `push` takes
 /// memory.
@@ -48,7 +48,7 @@ impl Model for Journal {
 }
 
 impl Journal {
-    /// A journal without calls. It takes no memory.
+    /// Creates a journal without calls. Allocates nothing.
     pub fn new(alloc: Global) -> Journal
         ensures { result ≡ record { ended = []; open_calls = [] } }
     {
@@ -58,7 +58,7 @@ impl Journal {
         }
     }
 
-    /// Adds a call behind the others.
+    /// Adds a call after the others.
     ///
     /// # Errors
     /// `AllocError` where room is refused. Nothing has changed then.
@@ -72,7 +72,7 @@ impl Journal {
         Ok(())
     }
 
-    /// Whether no call is open.
+    /// Tells whether no call is open.
     pub fn is_idle(&self) -> bool
         ensures { MatchBool result
             (self.now.open_calls ≡ []) (HasPresent self.now.open_calls) }
@@ -80,45 +80,45 @@ impl Journal {
         self.first_open == self.calls.len()
     }
 
-    /// How many calls there are.
+    /// Returns the number of calls.
     pub fn len(&self) -> usize
         ensures { result ≡ length self.now.ended + length self.now.open_calls }
     {
         self.calls.len()
     }
 
-    /// How many calls have ended.
+    /// Returns the number of calls that have ended.
     pub fn ended_len(&self) -> usize
         ensures { result ≡ length self.now.ended }
     {
         self.first_open
     }
 
-    /// How many calls are open.
+    /// Returns the number of open calls.
     pub fn open_len(&self) -> usize
         ensures { result ≡ length self.now.open_calls }
     {
         self.calls.len() - self.first_open
     }
 
-    /// The present call, if one is open.
+    /// Returns the present call, which is the first open one, if any is.
     pub fn present(&self) -> Option<&JournalCall>
         ensures { option_copied result ≡ slice_get self.now.open_calls 0 }
     {
         self.calls.get(self.first_open)
     }
 
-    /// The call at this place, from 0 on, if there is one.
+    /// Returns the call at this place, from 0 on, if there is one.
     pub fn call(&self, at: usize) -> Option<&JournalCall>
         ensures { option_copied result ≡ slice_get (self.now.ended ++ self.now.open_calls) at }
     {
         self.calls.get(at)
     }
 
-    /// All calls once more, in order.
+    /// Copies all calls, in order.
     ///
     /// # Errors
-    /// `AllocError` where room is refused.
+    /// `AllocError` if an allocation fails.
     pub fn copies(&self, alloc: Global) -> Result<Vec<JournalCall>, AllocError>
         ensures { IfOk result (λ copies.
             copies.items ≡ self.now.ended ++ self.now.open_calls) }
@@ -126,7 +126,7 @@ impl Journal {
         copies_of(alloc, &self.calls)
     }
 
-    /// The present call has written so many pieces more, and taken so many charges more.
+    /// Adds to the pieces that the present call has written and to the charges that it has taken.
     pub fn go_further(&mut self, pieces: u64, charges: u64)
         requires { CanGoFurther self.old.open_calls pieces charges }
         ensures { (c : JournalCallState) (cs : List JournalCallState)
@@ -136,7 +136,7 @@ impl Journal {
         self.calls[self.first_open].go_further(pieces, charges);
     }
 
-    /// The present call is given so much fuel more; what passes 2^64 - 1 is lost.
+    /// Adds fuel, in charges, to what the present call was given, up to 2^64 - 1.
     pub fn refuel(&mut self, fuel: u64)
         requires { HasPresent self.old.open_calls }
         ensures { (c : JournalCallState) (cs : List JournalCallState)
@@ -146,7 +146,7 @@ impl Journal {
         self.calls[self.first_open].refuel(fuel);
     }
 
-    /// The present call has ended so. The next one, if there is one, is then the present call.
+    /// Ends the present call. The next open one, if any, is the present call then.
     pub fn end_present(&mut self, end: CallEnd)
         requires { HasPresent self.old.open_calls }
         ensures { (c : JournalCallState) (cs : List JournalCallState)
@@ -160,7 +160,7 @@ impl Journal {
         self.first_open += 1;
     }
 
-    /// The present call has ended so, and with it all that wait behind it, as `Dead`. It goes over the open calls.
+    /// Ends the present call, and all open ones after it as `Dead`. Goes over the open calls.
     pub fn end_all(&mut self, end: CallEnd)
         requires { HasPresent self.old.open_calls }
         ensures { (c : JournalCallState) (cs : List JournalCallState)

@@ -3,8 +3,8 @@
 
 ghost use Rattle.std.specs.Prelude.{◌≡◌, ◌↔◌, ◌≤◌, ◌+◌, ℕ, List, IsTrue, length, replicate};
 ghost use Rattle.std.specs.Simd.Lanes.{chunk};
-ghost use Rattle.wh_host_model.specs.Hash.{fnv64};
-ghost use Rattle.wh_host_model.specs.Pages.{zero_page};
+ghost use Rattle.wh_space_model.specs.Hash.{fnv64};
+ghost use Rattle.wh_space_model.specs.Pages.{zero_page};
 
 use std::simd::prelude::*;
 
@@ -33,7 +33,8 @@ fn block_is_zero(block: u8x64) -> bool
     block.reduce_or() == 0
 }
 
-/// Whether two pages have the same bytes. It goes lane by lane, and stops at the first block that differs.
+/// Tells whether two pages have the same bytes. Compares lane by lane, and stops at the first block of 64 bytes that
+/// differs.
 pub fn pages_equal(first: &[u8; 4096], second: &[u8; 4096]) -> bool
     ensures { IsTrue result ↔ (first.now ≡ second.now) }
 {
@@ -45,7 +46,7 @@ pub fn pages_equal(first: &[u8; 4096], second: &[u8; 4096]) -> bool
     true
 }
 
-/// Whether each byte of the page is 0.
+/// Tells whether all bytes of the page are 0.
 pub fn is_zero(page: &[u8; 4096]) -> bool
     ensures { IsTrue result ↔ (page.now ≡ zero_page) }
 {
@@ -71,7 +72,7 @@ fn fnv_of(bytes: &[u8]) -> u64
     })
 }
 
-/// The hash FNV-1a of 64 bits of the page's bytes.
+/// Returns the FNV-1a hash of 64 bits of the page's bytes.
 pub fn fnv64(page: &[u8; 4096]) -> u64
     ensures { result ≡ fnv64 page.now }
 {
@@ -84,7 +85,7 @@ pub trait PageHash {
     /// The hash of a list of bytes.
     ghost hashes: { Self → List ℕ → ℕ };
 
-    /// The hash of the page's bytes.
+    /// Returns the hash of the page's bytes.
     fn hash(&self, page: &[u8; 4096]) -> u64
         ensures { result ≡ hashes self.now page.now };
 }

@@ -7,7 +7,8 @@ use Rattle.std.proofs.Math.Seq.{drop-append_seam}
 use Rattle.wh_model.specs.declared.faults.FaultKind.{FaultKind}
 use Rattle.wh_model.specs.declared.faults.FaultKind.TheVariants.{Truncated, SectionSize, Limit}
 use Rattle.wh_model.specs.declared.faults.DecodeError.{DecodeError}
-use Rattle.wh_model.specs.Format.Grammar.{Grammar, gives, ◌>>=◌ as ◌then◌, one_of, bytes, only_if, up_to, times, exactly, exactly_from, EndsAs, HeadBreaks}
+use Rattle.wh_model.specs.Format.Grammar.{Grammar, ◌>>=◌ as ◌then◌}
+use Rattle.wh_model.specs.Format.{gives, one_of, bytes, only_if, up_to, times, exactly, exactly_from, EndsAs, HeadBreaks}
 use Rattle.wh_leb.specs.Reading.{◌>>=◌, fail, ReadsBy, Anything, with_next, head_of, one_at, read_bytes_at, only_at, limited_at, times_at, is_truncated, outer_fault, closed_window, exactly_at, closed_from, exactly_from_at, with_front}
 
 -- the value of a step that did not fail
@@ -287,10 +288,6 @@ ends_as b at n inner d le e = elim (chosen (is_truncated inner.kind && leb (at +
     ),
   )
 ]
-
-truncated_again : (kind : FaultKind) → (kind ≡ Truncated → ⊥) → is_truncated kind ≡ false
-truncated_again Truncated other = absurd (other refl)
-truncated_again _ other = refl
 
 -- the same from the break on
 ends_again : (b : List ℕ) (at n k : ℕ) (inner kind : FaultKind) → at ≤ length b → EndsAs n (drop at b) inner kind → outer_fault (leb (at + n) (length b)) (record { kind = inner; offset = k }) ≡ record { kind = kind; offset = k }

@@ -6,8 +6,8 @@ use Rattle.std.proofs.lemmas.Int.{ints}
 use Rattle.wh_model.specs.declared.faults.FaultKind.{FaultKind}
 use Rattle.wh_model.specs.declared.faults.FaultKind.TheVariants.{Leb}
 use Rattle.wh_model.specs.declared.faults.DecodeError.{DecodeError}
-use Rattle.wh_model.specs.Format.Grammar.{Grammar, up_to, times, this_byte, exact_byte}
-use Rattle.wh_model.specs.Format.Leb.{IsUnsigned, BreaksUnsigned, IsSigned, BreaksSigned, unsigned, signed, u32, s32, s64, vec, vec_up_to}
+use Rattle.wh_model.specs.Format.Grammar.{Grammar}
+use Rattle.wh_model.specs.Format.{up_to, times, this_byte, exact_byte, IsUnsigned, BreaksUnsigned, IsSigned, BreaksSigned, unsigned, signed, u32, s32, s64, vec, vec_up_to}
 use Rattle.wh_leb.specs.Reading.{fail, ReadsBy, Reader, Anything, unsigned_of, signed_of, u32_at, s32_at, s64_at, one_at, limited_at, times_at, vec_at, vec_up_to_at}
 use Rattle.wh_leb.proofs.Combinators.{bind_ok, bind_err, chosen, ok_is, err_is, after, fails_at, reads_then, reads_one_of, reads_up_to, reads_times}
 

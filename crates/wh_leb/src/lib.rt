@@ -1,6 +1,6 @@
-//! Integers of the binary format, LEB128 (section 5.2.2 of the standard): a number and the place behind it, or the
-//! fault at its byte. Numbers longer than they have to be are numbers too, as long as they have no more bytes than their
-//! type allows and the last one's unused bits are right. Nothing here takes memory.
+//! Integers of the binary format, LEB128 (section 5.2.2 of the standard): a number and the place after it, or the fault
+//! at its byte. Numbers longer than they have to be are numbers too, as long as they have no more bytes than their type
+//! allows and the last one's unused bits are right. Nothing here takes memory.
 #![tactic(auto)]
 
 ghost use Rattle.std.specs.Prelude.{◌≡◌, ◌<◌, ◌≤◌, ◌+◌, ◌-◌, ◌^◌, ◌≤ℤ◌, ◌<ℤ◌, pos, neg_ℤ, length, drop, IfOk, IfErr, Err};
@@ -9,7 +9,7 @@ ghost use Rattle.wh_leb.specs.Reading.{unsigned_of, signed_of, u32_at, s32_at, s
 
 use wh_model::{DecodeError, FaultKind};
 
-/// A fault, as the result of reading.
+/// Returns a fault, as the result of reading.
 pub fn fault<T>(kind: FaultKind, offset: usize) -> Result<T, DecodeError>
     ensures { result ≡ Err (record { kind = kind; offset = offset }) }
 {
@@ -81,7 +81,7 @@ fn word(bytes: &[u8], at: usize) -> Result<(u32, usize), DecodeError>
     Ok((value as u32, next))
 }
 
-/// An unsigned number of 32 bits.
+/// Reads an unsigned number of 32 bits in LEB128; returns it and the offset after it.
 #[inline(always)]
 pub fn read_u32(bytes: &[u8], at: usize) -> Result<(u32, usize), DecodeError>
     requires { at ≤ length bytes.now }
@@ -113,7 +113,7 @@ fn s32(bytes: &[u8], at: usize) -> Result<(i32, usize), DecodeError>
     Ok((value as i32, next))
 }
 
-/// A signed number of 32 bits.
+/// Reads a signed number of 32 bits in LEB128; returns it and the offset after it.
 #[inline(always)]
 pub fn read_s32(bytes: &[u8], at: usize) -> Result<(i32, usize), DecodeError>
     requires { at ≤ length bytes.now }
@@ -144,7 +144,7 @@ fn s64(bytes: &[u8], at: usize) -> Result<(i64, usize), DecodeError>
     signed(bytes, at, 64)
 }
 
-/// A signed number of 64 bits.
+/// Reads a signed number of 64 bits in LEB128; returns it and the offset after it.
 #[inline(always)]
 pub fn read_s64(bytes: &[u8], at: usize) -> Result<(i64, usize), DecodeError>
     requires { at ≤ length bytes.now }

@@ -6,7 +6,7 @@ use lib.Pointwise.{pointwise}
 use Rattle.wh_model.specs.declared.ValType.{ValType}
 use Rattle.wh_model.specs.declared.ValType.TheVariants.{I32, I64}
 use Rattle.wh_model.specs.contracts.ValTypePartialEq.TheImpl.{eq-value}
-use Rattle.wh_model.specs.Format.Syntax.{FuncType}
+use Rattle.wh_model.specs.Format.{FuncType}
 
 type_decides : (a b : ValType) → Decides (eq-value.it a b) (a ≡ b)
 type_decides I32 I32 = (λ e. refl, λ e. refl)

@@ -14,7 +14,7 @@ use wh_control::{Store, ValueStack};
 use wh_linmem::LinearMem;
 use wh_model::{Got, Grown, LoadOp, StoreOp, Trap};
 
-/// `global.get`
+/// Executes `global.get`.
 #[inline(always)]
 pub fn exec_global_get(stack: &mut Stack, store: &Store, global: u32)
     requires { ComesNextInStore stack.old store.now (GlobalGet global) }
@@ -24,7 +24,7 @@ pub fn exec_global_get(stack: &mut Stack, store: &Store, global: u32)
     advance(stack);
 }
 
-/// `global.set`
+/// Executes `global.set`.
 #[inline(always)]
 pub fn exec_global_set(stack: &mut Stack, store: &mut Store, global: u32)
     requires { ComesNextInStore stack.old store.old (GlobalSet global) }
@@ -34,7 +34,7 @@ pub fn exec_global_set(stack: &mut Stack, store: &mut Store, global: u32)
     advance(stack);
 }
 
-/// `memory.size`, in pages of 65536 bytes
+/// Executes `memory.size`, which pushes the size in pages of 65536 bytes.
 #[inline(always)]
 pub fn exec_memory_size<M: LinearMem>(stack: &mut Stack, memory: &M) -> Exec
     requires { ComesNextInMemory stack.old (M.bytes memory.now) (M.limit memory.now) MemorySize }
@@ -59,7 +59,8 @@ fn answer_word(grown: Grown) -> u64
     }
 }
 
-/// `memory.grow`, which answers how many pages there were, or 4294967295 where that many more would pass the limit.
+/// Executes `memory.grow`, which pushes the former size in pages of 65536 bytes, or 4294967295 if the new size would
+/// pass the memory's limit.
 #[inline(always)]
 pub fn exec_memory_grow<M: LinearMem>(stack: &mut Stack, memory: &mut M) -> Exec
     requires { ComesNextInMemory stack.old (M.bytes memory.old) (M.limit memory.old) MemoryGrow }
@@ -77,7 +78,7 @@ pub fn exec_memory_grow<M: LinearMem>(stack: &mut Stack, memory: &mut M) -> Exec
     Exec::Charged
 }
 
-/// The word beneath the topmost one.
+/// Returns the second word from the top.
 #[inline(always)]
 pub fn second(words: &ValueStack) -> u64
     requires { 1 < length words.now }
@@ -86,8 +87,8 @@ pub fn second(words: &ValueStack) -> u64
     words.get(words.len() - 2)
 }
 
-/// A load by this operator, from the topmost word plus the offset, which isn't wrapped. It traps where the bytes aren't
-/// all in the memory; where they aren't at hand nothing changes.
+/// Executes a load at the address that is the top word plus `offset` (the sum doesn't wrap). Traps if not all of its
+/// bytes are in the memory; if they aren't ready, returns `NotReady` and changes nothing.
 #[inline(always)]
 pub fn exec_load<M: LinearMem>(
     stack: &mut Stack,
@@ -119,8 +120,8 @@ pub fn exec_load<M: LinearMem>(
     }
 }
 
-/// A store of the topmost word by this operator, to the word beneath it plus the offset, which isn't wrapped. It traps
-/// where the bytes aren't all in the memory; where they aren't at hand nothing changes.
+/// Executes a store of the top word at the address that is the word beneath it plus `offset` (the sum doesn't wrap).
+/// Traps if not all of its bytes are in the memory; if they aren't ready, returns `NotReady` and changes nothing.
 #[inline(always)]
 pub fn exec_store<M: LinearMem>(
     stack: &mut Stack,

@@ -13,7 +13,7 @@ use wh_control::{Store, ValueStack};
 use wh_linmem::LinearMem;
 use wh_model::{HostFunc, MOST_EMITTED, OUTPUT_ROOM, Trap};
 
-/// `input`: the word of that index, or 0.
+/// Calls `input`: replaces the top word, an index, by the input of that index, or by 0 if there is none.
 #[inline(always)]
 pub fn host_input(words: &mut ValueStack, inputs: &[u64])
     requires { (i : ℕ) × (rest : List ℕ) × (words.old ≡ i ∷ rest) }
@@ -29,7 +29,7 @@ pub fn host_input(words: &mut ValueStack, inputs: &[u64])
     words.push(word);
 }
 
-/// `put`: whether there was room for its 8 bytes.
+/// Calls `put`: pops a word and appends its 8 bytes to the output; tells whether there was room.
 #[inline(always)]
 pub fn host_put(words: &mut ValueStack, store: &mut Store) -> bool
     requires operand { (x : ℕ) × (rest : List ℕ) × (words.old ≡ x ∷ rest) }
@@ -46,7 +46,8 @@ pub fn host_put(words: &mut ValueStack, store: &mut Store) -> bool
     true
 }
 
-/// `emit`: whether its bytes were appended to the output. Where they are awaited the operands are put back.
+/// Calls `emit`: pops a length and an address and appends these bytes of the memory to the output. If they aren't
+/// ready, puts the operands back.
 #[inline(always)]
 pub fn host_emit<M: LinearMem>(words: &mut ValueStack, store: &mut Store, memory: &mut M) -> Emitted
     requires operands { (count i : ℕ) × (rest : List ℕ) × (words.old ≡ count ∷ i ∷ rest)
@@ -76,7 +77,7 @@ pub fn host_emit<M: LinearMem>(words: &mut ValueStack, store: &mut Store, memory
     }
 }
 
-/// A call of a function of the host, whose arguments are the topmost words.
+/// Calls a host function, whose arguments are the top words.
 #[inline(always)]
 pub fn call_host<M: LinearMem>(
     func: HostFunc,

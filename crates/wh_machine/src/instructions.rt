@@ -13,7 +13,7 @@ use crate::operands::{binary, compare, conversion, drop_top, select, test, unary
 use crate::variables::{local_get, local_set, local_tee};
 use wh_model::{BinaryOp, CompareOp, ConvertOp, TestOp, UnaryOp, ValType};
 
-/// On to the next place.
+/// Moves to the next instruction.
 #[inline(always)]
 pub fn advance(stack: &mut Stack)
     requires { stack.old.frame.place + 1 < 2 ^ 64 }
@@ -23,7 +23,7 @@ pub fn advance(stack: &mut Stack)
     stack.frame.place += 1;
 }
 
-/// `drop`
+/// Executes `drop`.
 #[inline(always)]
 pub fn exec_drop(stack: &mut Stack)
     requires { ComesNextAnywhere stack.old Drop }
@@ -33,7 +33,7 @@ pub fn exec_drop(stack: &mut Stack)
     advance(stack);
 }
 
-/// `select`
+/// Executes `select`.
 #[inline(always)]
 pub fn exec_select(stack: &mut Stack)
     requires { ComesNextAnywhere stack.old Select }
@@ -43,7 +43,7 @@ pub fn exec_select(stack: &mut Stack)
     advance(stack);
 }
 
-/// A test of this type.
+/// Executes a test (`eqz`) of this type.
 #[inline(always)]
 pub fn exec_test(stack: &mut Stack, width: ValType, op: TestOp)
     requires { ComesNextAnywhere stack.old (Test width op) }
@@ -54,7 +54,7 @@ pub fn exec_test(stack: &mut Stack, width: ValType, op: TestOp)
     advance(stack);
 }
 
-/// A comparison of this type.
+/// Executes a comparison of this type.
 #[inline(always)]
 pub fn exec_compare(stack: &mut Stack, width: ValType, op: CompareOp)
     requires { ComesNextAnywhere stack.old (Compare width op) }
@@ -64,7 +64,7 @@ pub fn exec_compare(stack: &mut Stack, width: ValType, op: CompareOp)
     advance(stack);
 }
 
-/// A unary operator of this type.
+/// Executes a unary operator of this type.
 #[inline(always)]
 pub fn exec_unary(stack: &mut Stack, width: ValType, op: UnaryOp)
     requires { ComesNextAnywhere stack.old (Unary width op) }
@@ -74,7 +74,7 @@ pub fn exec_unary(stack: &mut Stack, width: ValType, op: UnaryOp)
     advance(stack);
 }
 
-/// A binary operator of this type.
+/// Executes a binary operator of this type, or traps as it does.
 #[inline(always)]
 pub fn exec_binary(stack: &mut Stack, width: ValType, op: BinaryOp) -> Exec
     requires { ComesNextAnywhere stack.old (Binary width op) }
@@ -89,7 +89,7 @@ pub fn exec_binary(stack: &mut Stack, width: ValType, op: BinaryOp) -> Exec
     }
 }
 
-/// A binary operator of this type that never traps.
+/// Executes a binary operator of this type that never traps.
 #[inline(always)]
 pub fn exec_total(stack: &mut Stack, width: ValType, op: BinaryOp)
     requires next { ComesNextAnywhere stack.old (Binary width op) }
@@ -102,7 +102,7 @@ pub fn exec_total(stack: &mut Stack, width: ValType, op: BinaryOp)
     }
 }
 
-/// A conversion.
+/// Executes a conversion.
 #[inline(always)]
 pub fn exec_convert(stack: &mut Stack, op: ConvertOp)
     requires { ComesNextAnywhere stack.old (Convert op) }
@@ -112,7 +112,7 @@ pub fn exec_convert(stack: &mut Stack, op: ConvertOp)
     advance(stack);
 }
 
-/// `local.get`
+/// Executes `local.get`.
 #[inline(always)]
 pub fn exec_local_get(stack: &mut Stack, local: u32)
     requires { ComesNextAnywhere stack.old (LocalGet local) }
@@ -123,7 +123,7 @@ pub fn exec_local_get(stack: &mut Stack, local: u32)
     advance(stack);
 }
 
-/// `local.set`
+/// Executes `local.set`.
 #[inline(always)]
 pub fn exec_local_set(stack: &mut Stack, local: u32)
     requires { ComesNextAnywhere stack.old (LocalSet local) }
@@ -134,7 +134,7 @@ pub fn exec_local_set(stack: &mut Stack, local: u32)
     advance(stack);
 }
 
-/// `local.tee`
+/// Executes `local.tee`.
 #[inline(always)]
 pub fn exec_local_tee(stack: &mut Stack, local: u32)
     requires { ComesNextAnywhere stack.old (LocalTee local) }
@@ -145,7 +145,7 @@ pub fn exec_local_tee(stack: &mut Stack, local: u32)
     advance(stack);
 }
 
-/// `nop`
+/// Executes `nop`.
 #[inline(always)]
 pub fn exec_nop(stack: &mut Stack)
     requires { ComesNextAnywhere stack.old Nop }
@@ -154,7 +154,7 @@ pub fn exec_nop(stack: &mut Stack)
     advance(stack);
 }
 
-/// `block`
+/// Executes `block`.
 #[inline(always)]
 pub fn exec_block(stack: &mut Stack, result_type: Option<ValType>)
     requires { ComesNextAnywhere stack.old (Block result_type) }
@@ -164,7 +164,7 @@ pub fn exec_block(stack: &mut Stack, result_type: Option<ValType>)
     advance(stack);
 }
 
-/// `loop`
+/// Executes `loop`.
 #[inline(always)]
 pub fn exec_loop(stack: &mut Stack, result_type: Option<ValType>)
     requires { ComesNextAnywhere stack.old (Loop result_type) }
@@ -174,7 +174,7 @@ pub fn exec_loop(stack: &mut Stack, result_type: Option<ValType>)
     advance(stack);
 }
 
-/// `end`
+/// Executes `end`.
 #[inline(always)]
 pub fn exec_end(stack: &mut Stack)
     requires { ComesNextAnywhere stack.old End }
@@ -183,7 +183,7 @@ pub fn exec_end(stack: &mut Stack)
     advance(stack);
 }
 
-/// `i32.const`
+/// Executes `i32.const`.
 #[inline(always)]
 pub fn exec_i32_const(stack: &mut Stack, number: i32)
     requires { ComesNextAnywhere stack.old (I32Const number) }
@@ -193,7 +193,7 @@ pub fn exec_i32_const(stack: &mut Stack, number: i32)
     advance(stack);
 }
 
-/// `i64.const`
+/// Executes `i64.const`.
 #[inline(always)]
 pub fn exec_i64_const(stack: &mut Stack, number: i64)
     requires { ComesNextAnywhere stack.old (I64Const number) }

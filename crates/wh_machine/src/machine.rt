@@ -36,7 +36,7 @@ pub struct FunctionCode<'a> {
     pub entries: &'a [BranchEntry],
     /// Where the labels of `br_table`s lead to.
     pub pool: &'a [BranchEntry],
-    /// The tag of each instruction, and `Past` behind them.
+    /// The tag of each instruction, and `Past` after them.
     pub tags: &'a [Tag],
 }
 
@@ -71,7 +71,7 @@ impl Model for Machine {
     ghost invariant = { λ m. IsSome m.stack };
 }
 
-/// What a step came to, or a run of steps.
+/// The outcome of a step, or of a run of steps.
 #[derive(Clone, Copy, Debug, PartialEq, Eq)]
 pub enum Stepped {
     /// One charged reduction, and all uncharged ones after it; of a run, all its fuel was taken and the call runs on.
@@ -80,11 +80,11 @@ pub enum Stepped {
     Done,
     /// The reduction ended in a trap.
     Trapped(Trap),
-    /// The reduction wants bytes that aren't at hand.
+    /// The reduction wants bytes that aren't ready.
     NotReady(Need),
 }
 
-/// What one instruction came to.
+/// The outcome of one instruction.
 #[derive(Clone, Copy, Debug, PartialEq, Eq)]
 pub enum Exec {
     /// It was free, and the same function goes on.
@@ -97,6 +97,6 @@ pub enum Exec {
     Ended(bool),
     /// It has trapped.
     Trapped(Trap),
-    /// It wants bytes that aren't at hand, and nothing has changed.
+    /// It wants bytes that aren't ready, and nothing has changed.
     NotReady(Need),
 }

@@ -18,10 +18,11 @@ use wh_control::{CallFrame, CallStack, ValueStack};
 use wh_imports::Linked;
 
 impl Machine {
-    /// A machine that runs no call. Room for all words and frames of any call is reserved; later no memory is taken.
+    /// Creates a machine that runs no call. Reserves the memory for all words and frames of any call, so that none is
+    /// allocated later.
     ///
     /// # Errors
-    /// Where memory was refused.
+    /// `AllocError` if this memory was refused.
     pub fn new(alloc: Global) -> Result<Machine, AllocError>
         ensures { IfOk result (λ m. m.running ≡ false) }
     {
@@ -43,7 +44,7 @@ impl Machine {
         })
     }
 
-    /// The result of a call that has ended, if it has one; an i32 in the low 32 bits.
+    /// Returns the result of a call that has ended, if its function has one; an i32 in the low 32 bits.
     #[inline(always)]
     pub fn result(&self) -> Option<u64>
         ensures { result ≡ slice_get self.now.stack.words 0 }
@@ -57,7 +58,7 @@ impl Machine {
         Some(stack.words.top())
     }
 
-    /// Whether the call runs.
+    /// Tells whether the call is running.
     #[inline(always)]
     pub fn is_running(&self) -> bool
         ensures { result ≡ self.now.running }

@@ -8,7 +8,7 @@ use wh_control::ValueStack;
 use wh_intops::{binop, convert, relop, testop, unop};
 use wh_model::{BinaryOp, CompareOp, ConvertOp, TestOp, Trap, UnaryOp, ValType};
 
-/// `drop`
+/// Pops the top word, as `drop` does.
 #[inline(always)]
 pub fn drop_top(words: &mut ValueStack)
     requires { (x : ℕ) × (rest : List ℕ) × (words.old ≡ x ∷ rest) }
@@ -17,7 +17,8 @@ pub fn drop_top(words: &mut ValueStack)
     let _ = words.pop();
 }
 
-/// `select`
+/// Pops a condition and two words, and pushes the lower of the words if the condition isn't zero, else the upper, as
+/// `select` does.
 #[inline(always)]
 pub fn select(words: &mut ValueStack)
     requires { (i w v : ℕ) × (rest : List ℕ) × (words.old ≡ i ∷ w ∷ v ∷ rest) }
@@ -30,7 +31,7 @@ pub fn select(words: &mut ValueStack)
     words.push(if condition == 0 { second } else { first });
 }
 
-/// A unary operator of this type.
+/// Replaces the top word by what a unary operator of this type makes of it.
 #[inline(always)]
 pub fn unary(words: &mut ValueStack, width: ValType, op: UnaryOp)
     requires { (x : ℕ) × (rest : List ℕ) × (words.old ≡ x ∷ rest) × (x < 2 ^ bits width) }
@@ -41,7 +42,7 @@ pub fn unary(words: &mut ValueStack, width: ValType, op: UnaryOp)
     words.push(unop(width, op, operand));
 }
 
-/// A test.
+/// Replaces the top word by the result of a test: 1 or 0.
 #[inline(always)]
 pub fn test(words: &mut ValueStack, op: TestOp)
     requires { (x : ℕ) × (rest : List ℕ) × (words.old ≡ x ∷ rest) }
@@ -52,7 +53,7 @@ pub fn test(words: &mut ValueStack, op: TestOp)
     words.push(testop(op, operand));
 }
 
-/// A comparison of this type.
+/// Replaces the two top words by the result of a comparison of this type: 1 or 0.
 #[inline(always)]
 pub fn compare(words: &mut ValueStack, width: ValType, op: CompareOp)
     requires { (y x : ℕ) × (rest : List ℕ) × (words.old ≡ y ∷ x ∷ rest) × (y < 2 ^ bits width)
@@ -65,10 +66,11 @@ pub fn compare(words: &mut ValueStack, width: ValType, op: CompareOp)
     words.push(relop(width, op, left, right));
 }
 
-/// A binary operator of this type.
+/// Replaces the two top words by the result of a binary operator of this type.
 ///
 /// # Errors
-/// Its trap.
+/// The operator's trap: a division by zero, or a quotient or an integer out of range; the words are popped
+/// nevertheless.
 #[inline(always)]
 pub fn binary(words: &mut ValueStack, width: ValType, op: BinaryOp) -> Result<(), Trap>
     requires { (y x : ℕ) × (rest : List ℕ) × (words.old ≡ y ∷ x ∷ rest) × (y < 2 ^ bits width)
@@ -92,7 +94,8 @@ pub fn binary(words: &mut ValueStack, width: ValType, op: BinaryOp) -> Result<()
     }
 }
 
-/// A binary operator of this type, unless it traps; whether it was done. Where it wasn't the words are as they were.
+/// Replaces the two top words by the result of a binary operator of this type. Returns `false`, and leaves the words as
+/// they were, if it traps.
 #[inline(always)]
 pub fn try_operator(words: &mut ValueStack, width: ValType, op: BinaryOp) -> bool
     requires { (y x : ℕ) × (rest : List ℕ) × (words.old ≡ y ∷ x ∷ rest) × (y < 2 ^ bits width)
@@ -118,7 +121,7 @@ pub fn try_operator(words: &mut ValueStack, width: ValType, op: BinaryOp) -> boo
     }
 }
 
-/// A conversion.
+/// Replaces the top word by its conversion.
 #[inline(always)]
 pub fn conversion(words: &mut ValueStack, op: ConvertOp)
     requires { (x : ℕ) × (rest : List ℕ) × (words.old ≡ x ∷ rest)

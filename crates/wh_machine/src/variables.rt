@@ -5,7 +5,7 @@ ghost use Rattle.wh_control.specs.Represents.{most_words};
 
 use wh_control::ValueStack;
 
-/// `local.get`, where the local is the word at this place.
+/// Pushes the local that is the word at this place from the bottom.
 #[inline(always)]
 pub fn local_get(words: &mut ValueStack, place: usize)
     requires there { place < length words.old }
@@ -17,7 +17,7 @@ pub fn local_get(words: &mut ValueStack, place: usize)
     words.push(word);
 }
 
-/// `local.set`
+/// Pops a word and stores it in the local at this place from the bottom.
 #[inline(always)]
 pub fn local_set(words: &mut ValueStack, place: usize)
     requires { (w : ℕ) × (rest : List ℕ) × (words.old ≡ w ∷ rest) × (place < length rest) }
@@ -28,7 +28,7 @@ pub fn local_set(words: &mut ValueStack, place: usize)
     words.put(place, word);
 }
 
-/// `local.tee`
+/// Stores the top word in the local at this place from the bottom.
 #[inline(always)]
 pub fn local_tee(words: &mut ValueStack, place: usize)
     requires { (w : ℕ) × (rest : List ℕ) × (words.old ≡ w ∷ rest) × (place < length words.old) }

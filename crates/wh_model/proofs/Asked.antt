@@ -3,13 +3,11 @@ use Rattle.std.proofs.Common.{◌≡◌, ℕ, List, [], ◌∷◌, subst, arith,
 use Rattle.wh_model.specs.declared.Trap.{Trap}
 use Rattle.wh_model.specs.declared.host.HostFunc.TheVariants.{Input, Put, Emit}
 use Rattle.wh_model.specs.declared.memory.Need.{Need}
-use Rattle.wh_model.specs.Format.Syntax.{Op, unreachable, nop, br, br_if, br_table, return, call, call_indirect, drop_operand, select, local_get, local_set, local_tee, global_get, global_set, load, store, memory_size, memory_grow, i32_const, i64_const, test, comparison, unary, binary, conversion, Code, nothing, plain, block, loop, if_then, if_else}
-use Rattle.wh_model.specs.Execution.Store.{Value, FuncInst, own, host, signature, Instance, Store}
-use Rattle.wh_model.specs.Execution.Configuration.{Term, code, label, frame, config, trapped}
-use Rattle.wh_model.specs.Focus.Focused.{Label, Activation, running, stopped, inside, awaited, plug}
-use Rattle.wh_model.specs.Focus.FocusSteps.{CallStep, OpStep, CodeStep, Steps}
-use Rattle.wh_model.specs.Execution.Asking.{CallAsks, OpAsks, CodeAsks, TermAsks, Asks}
-use Rattle.wh_model.specs.Laws.ReductionLaws.{OneNeed}
+use Rattle.wh_model.specs.Format.{Op, unreachable, nop, br, br_if, br_table, return, call, call_indirect, drop_operand, select, local_get, local_set, local_tee, global_get, global_set, load, store, memory_size, memory_grow, i32_const, i64_const, test, comparison, unary, binary, conversion, Code, nothing, plain, block, loop, if_then, if_else}
+use Rattle.wh_model.specs.Execution.Store.{Instance, Store}
+use Rattle.wh_model.specs.Execution.{Value, FuncInst, own, host, signature, Term, code, label, frame, config, trapped, CallAsks, OpAsks, CodeAsks, TermAsks, Asks}
+use Rattle.wh_model.specs.Focus.{Label, Activation, running, stopped, inside, awaited, plug, CallStep, OpStep, CodeStep, Steps}
+use Rattle.wh_model.specs.Laws.{OneNeed}
 
 inside_asks : (inst : Instance) (s : Store) (need : Need) (t : Term) (ls : List Label) → TermAsks inst s t need → TermAsks inst s (inside t ls) need
 inside_asks inst s need t [] h = h

@@ -7,15 +7,14 @@ use Rattle.std.specs.List.{AllByRecursion}
 use Rattle.wh_model.specs.declared.ValType.{ValType}
 use Rattle.wh_model.specs.declared.ValType.TheVariants.{I32, I64}
 use Rattle.wh_model.specs.declared.Mutability.TheVariants.{Const}
-use Rattle.wh_model.specs.Format.Syntax.{Code, FuncType, GlobalType, Import, of_global, Global, Element, Data, Body}
-use Rattle.wh_model.specs.Execution.Numbers.{unsigned}
-use Rattle.wh_model.specs.Validity.Typing.{Context}
-use Rattle.wh_model.specs.Validity.Valid.{Valid, ConstantOf, ValidGlobal, ValidElement, ValidData, ValidBodies, global_first, imported_globals}
-use Rattle.wh_model.specs.Execution.Store.{Value, value, type_of, FuncInst, own, host, Instance}
-use Rattle.wh_model.specs.Execution.Instance.{Parameters, ImportsGlobal, Imported, Defined, Evaluates, Begun, Piece, Placed, Within, first_size, last_size, Prepares, memory_min, segment_bounds, needs_more, out_of_bounds, in_bounds}
+use Rattle.wh_model.specs.Format.{Code, FuncType, GlobalType, Import, of_global, Global, Element, Data, Body}
+use Rattle.wh_model.specs.Execution.{unsigned, Value, value, type_of, FuncInst, own, host, Parameters, ImportsGlobal, Imported, Defined, Evaluates, Begun, Piece, Placed, Within, first_size, last_size, Prepares, memory_min, segment_bounds, needs_more, out_of_bounds, in_bounds}
+use Rattle.wh_model.specs.Validity.{Context, ConstantOf, ValidGlobal, ValidElement, ValidData, ValidBodies, global_first, imported_globals}
+use Rattle.wh_model.specs.Validity.Valid.{Valid}
+use Rattle.wh_model.specs.Execution.Store.{Instance}
 use Rattle.wh_model.specs.declared.host.HostItem.TheVariants.{Func, Global as GlobalItem}
-use Rattle.wh_model.specs.Linking.Imports.{value_of, HasItem}
-use Rattle.wh_model.specs.Laws.LinkingLaws.{SomeBeginning}
+use Rattle.wh_model.specs.Linking.{value_of, HasItem}
+use Rattle.wh_model.specs.Laws.{SomeBeginning}
 
 -- ---- imports
 

@@ -6,13 +6,13 @@ use Rattle.std.specs.List.{AllByRecursion}
 use Rattle.std.specs.Prelude.{option_map, unwrap_or, min}
 use Rattle.wh_model.specs.declared.ValType.{ValType}
 use Rattle.wh_model.specs.declared.ValType.TheVariants.{I32, I64}
-use Rattle.wh_model.specs.Format.Syntax.{Code, FuncType, Limits, GlobalType, Import, Global, Element, Data, Body, Module}
-use Rattle.wh_model.specs.Validity.Typing.{Context}
-use Rattle.wh_model.specs.Validity.Valid.{WithinBound, func_first, global_first, imported_funcs, imported_globals, Name, ConstantOf, ValidBodies, ValidGlobal, ValidElement, HasFunc, most_pages, IsValidIn}
-use Rattle.wh_model.specs.Execution.Store.{Value, FuncInst, own, host, signature, Instance, Store, written}
-use Rattle.wh_model.specs.Execution.Instance.{Parameters, AreGiven, Imported, Defined, Evaluates, Begun, Piece, Placed, Within, filled, onto_piece, cut_up, fragments, first_size, last_size, begins, IsInitial, in_bounds}
-use Rattle.wh_model.specs.Soundness.StoreTyping.{IsOfType, AreOfTypes, IsByte, FuncInstType, InstanceType, EntryType, StoreType, PieceType, HasBytes}
-use Rattle.wh_model.specs.Laws.SoundnessLaws.{BeginsTyped}
+use Rattle.wh_model.specs.Format.Syntax.{Limits}
+use Rattle.wh_model.specs.Format.{Code, FuncType, GlobalType, Import, Global, Element, Data, Body, Module}
+use Rattle.wh_model.specs.Validity.{Context, WithinBound, func_first, global_first, imported_funcs, imported_globals, Name, ConstantOf, ValidBodies, ValidGlobal, ValidElement, HasFunc, most_pages, IsValidIn}
+use Rattle.wh_model.specs.Execution.Store.{Instance, Store}
+use Rattle.wh_model.specs.Execution.{Value, FuncInst, own, host, signature, written, Parameters, AreGiven, Imported, Defined, Evaluates, Begun, Piece, Placed, Within, filled, onto_piece, cut_up, fragments, first_size, last_size, begins, IsInitial, in_bounds}
+use Rattle.wh_model.specs.Soundness.{IsOfType, AreOfTypes, IsByte, FuncInstType, InstanceType, EntryType, StoreType, PieceType, HasBytes}
+use Rattle.wh_model.specs.Laws.{BeginsTyped}
 use Rattle.wh_model.proofs.Fragments.{fragments_within}
 use Rattle.wh_model.proofs.Numbers.{unsigned-lt}
 use Rattle.wh_model.proofs.StoreTypingLemmas.{types_append, types_get}
@@ -36,9 +36,8 @@ named_all : (types : List FuncType) (p : Parameters) (is : List Import) (xs : Li
 named_all types p [] xs fs bs hosts owns vs n i d =
     ap (λ hs. map signature (hs ++ owns)) i.0 ∙ named_owns types xs fs bs owns n d
 named_all types p (i ∷ is) xs fs bs hosts owns vs n (inl (h, rest, imports, hosts_are, more)) d =
-    let desc = imports.3 in
     let found : Name types (imports.2 ∷ imported_funcs is ++ xs) fs =
-    subst (λ w. Name types (func_first w (imported_funcs is) ++ xs) fs) desc n in
+    subst (λ w. Name types (func_first w (imported_funcs is) ++ xs) fs) imports.3 n in
     let same : signature (host h) ≡ found.0 = let there = sym imports.4 ∙ found.3 in cc there in
     ap (λ hs. map signature (hs ++ owns)) hosts_are ∙ ap (λ t. t ∷ map signature (rest ++ owns)) same
     ∙ ap (λ ts. found.0 ∷ ts) (named_all types p is xs found.1 bs rest owns vs found.4 more d) ∙ sym found.2
@@ -155,8 +154,7 @@ filled_length : (table : List (Option ℕ)) (ps : List Piece) → Within (length
 filled_length table [] h = refl
 filled_length table (q ∷ ps) h =
     let count = length_map q.items in
-    let low = h.0 in
-    let same = length_written table (map (λ x. Some x) q.items) q.at (omega (arith, count, low)) in
+    let same = length_written table (map (λ x. Some x) q.items) q.at (omega (arith, count, h.0)) in
     filled_length (written table q.at (map (λ x. Some x) q.items)) ps (subst (λ n. Within n ps) (sym same) h.1) ∙ same
 
 entries_typed : (c : Context) (xs : List ℕ) → AllByRecursion (HasFunc c) xs
@@ -226,12 +224,10 @@ begins_in {m = m} {p = p} {inst = inst}
     bytes given =
     let context = valid.context in
     let sizes = limits_typed m.memories p.page_limit valid.memories enough in
-    let first = sizes.0 in
-    let last = sizes.1 in
     let limit = r.page_limit in
     let memories = context.memories in
-    let low : inst.page_limit ≤ last_size c.memories most_pages = rw (limit, memories) last in
-    let room : first_size m.memories ≤ inst.page_limit = rw limit first in
+    let low : inst.page_limit ≤ last_size c.memories most_pages = rw (limit, memories) sizes.1 in
+    let room : first_size m.memories ≤ inst.page_limit = rw limit sizes.0 in
     let count = length-replicate {A = ℕ} (first_size m.memories * 65536) 0 in
     let entries = length-replicate {A = Option ℕ} (first_size m.tables) None in
     let imported = imported_typed m.types p m.imports r.hosts r.imported given r.imports in

@@ -1,15 +1,13 @@
 -- Fragments lie in one page each, and together they are the segments.
 use Rattle.std.proofs.Common.{◌≡◌, ℕ, zero, suc, ◌+◌, ◌*◌, ◌%◌, ◌==◌, ◌<◌, ◌≤◌, map, Bool, true, false, List, [], ◌∷◌, ◌++◌, length, refl, sym, ap, subst, arith, ◌∙◌, if◌then◌else◌, take-append-drop, length-append, length-take, length-drop}
 use Rattle.std.specs.List.{AllByRecursion}
-use Rattle.wh_model.specs.Execution.Store.{Store, written}
+use Rattle.wh_model.specs.Execution.Store.{Store}
+use Rattle.wh_model.specs.Execution.{written, Piece, Placed, onto_piece, cut_up, fragments, Within, with_pieces, begins, first_size, IsInitial, needs_more, out_of_bounds, in_bounds, Parameters, Beginning}
 use Rattle.std.proofs.lemmas.Bool.{eqb-true}
 use Rattle.std.proofs.lemmas.List.{length-replicate}
-use Rattle.wh_model.specs.Execution.Instance.{Piece, Placed, onto_piece, cut_up, fragments, Within}
-use Rattle.wh_model.specs.Execution.Replay.{with_pieces}
-use Rattle.wh_model.specs.Execution.Instance.{begins, first_size, IsInitial, needs_more, out_of_bounds, in_bounds, Parameters, Beginning}
-use Rattle.wh_model.specs.Format.Syntax.{Module}
+use Rattle.wh_model.specs.Format.{Module}
 use Rattle.wh_model.specs.Execution.Store.{Instance}
-use Rattle.wh_model.specs.Laws.ReplayLaws.{InOnePage, FragmentsInPages, FragmentsWithin, FragmentsWrite, LaterAtMultiples, CutAtMultiples, CutOfThree, BeginningWrites}
+use Rattle.wh_model.specs.Laws.{InOnePage, FragmentsInPages, FragmentsWithin, FragmentsWrite, LaterAtMultiples, CutAtMultiples, CutOfThree, BeginningWrites}
 
 -- ---- writing
 
@@ -40,7 +38,7 @@ with_append : (s : Store) (ps qs : List Piece) → with_pieces s (ps ++ qs) ≡ 
 with_append s [] qs = refl
 with_append s (p ∷ ps) qs = with_append (record s { bytes = written s.bytes p.at p.items }) ps qs
 
--- the pieces begin at that place, with not more than so many bytes
+-- the pieces begin at that place, with not more than n bytes
 abbrev Begins : ℕ → ℕ → List Piece → Type 0
 Begins at most [] = Unit {0}
 Begins at most (p ∷ ps) = (p.at ≡ at) × (length p.items ≤ most)

@@ -2,9 +2,8 @@
 use Rattle.std.proofs.Common.{◌≡◌, refl, ℕ, ◌≤◌, [], ◌∷◌, Some, None, pos, arith}
 use Rattle.wh_model.specs.declared.ValType.TheVariants.{I32}
 use Rattle.wh_model.specs.declared.BinaryOp.TheVariants.{Add}
-use Rattle.wh_model.specs.Format.Syntax.{Code, nothing, plain, block, loop, if_then, if_else, unreachable, br, binary, drop_operand, i32_const}
-use Rattle.wh_model.specs.Validity.Typing.{Context, under}
-use Rattle.wh_model.specs.Validity.Heights.{greatest}
+use Rattle.wh_model.specs.Format.{Code, nothing, plain, block, loop, if_then, if_else, unreachable, br, binary, drop_operand, i32_const}
+use Rattle.wh_model.specs.Validity.{Context, under, greatest}
 
 -- where a sequence begins counts
 pub begins_within : (c : Context) (floor height : ℕ) (s : Code) → height ≤ greatest c floor height s

@@ -3,10 +3,8 @@ use Rattle.std.proofs.Common.{◌≡◌, List, [], ◌∷◌, ◌++◌, refl, sy
 use Rattle.std.specs.Bool.{MatchBool}
 use Rattle.std.specs.List.{AllByRecursion}
 use Rattle.wh_model.specs.Execution.Store.{Instance, Store}
-use Rattle.wh_model.specs.Execution.Instance.{Piece}
-use Rattle.wh_model.specs.Execution.Replay.{Call, pending, Ends, Standing, idle, Stands, has_pieces, is_invoked, is_under_way, Replays, at_rest, ended, at_work, NamesFunction, IsDead, IsNotDead}
-use Rattle.wh_model.specs.Execution.Histories.{Past, none_yet, one_more}
-use Rattle.wh_model.specs.Laws.ReplayLaws.{HistoryBefore, HistorySplits, JournalGrows}
+use Rattle.wh_model.specs.Execution.{Piece, Call, pending, Ends, Standing, idle, Stands, has_pieces, is_invoked, is_under_way, Replays, at_rest, ended, at_work, NamesFunction, IsDead, IsNotDead, Past, none_yet, one_more}
+use Rattle.wh_model.specs.Laws.{HistoryBefore, HistorySplits, JournalGrows}
 use Rattle.wh_model.proofs.Journals.{from_beginning}
 
 never_idle : {inst : Instance} {s s2 : Store} {ps : List Piece} {call : Call} {z : Standing} → Stands inst s ps call z → z ≡ idle s2 → ⊥

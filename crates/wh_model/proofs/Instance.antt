@@ -2,10 +2,10 @@
 use Rattle.std.proofs.Common.{◌≡◌, ℕ, List, [], ◌∷◌, ◌++◌, refl, sym, ap, subst, arith, ◌∙◌, ⊎_elim, ◌*◌, map, None, replicate}
 use Rattle.wh_model.specs.declared.host.HostFunc.{HostFunc}
 use Rattle.wh_model.specs.declared.host.HostFunc.TheVariants.{Input, Put, Emit}
-use Rattle.wh_model.specs.Format.Syntax.{Code, FuncType, Import, Global, Body, Module}
-use Rattle.wh_model.specs.Execution.Store.{Value, FuncInst, host, Instance}
-use Rattle.wh_model.specs.Execution.Instance.{Parameters, name_of, ImportsFunc, ImportsGlobal, Imported, Defined, Evaluates, Begun, Piece, Placed, Within, first_size, Prepares, Beginning, IsInitial, needs_more, out_of_bounds, in_bounds, begins, fragments, filled}
-use Rattle.wh_model.specs.Laws.ReplayLaws.{OneBeginning}
+use Rattle.wh_model.specs.Format.{Code, FuncType, Import, Global, Body, Module}
+use Rattle.wh_model.specs.Execution.Store.{Instance}
+use Rattle.wh_model.specs.Execution.{Value, FuncInst, host, Parameters, name_of, ImportsFunc, ImportsGlobal, Imported, Defined, Evaluates, Begun, Piece, Placed, Within, first_size, Prepares, Beginning, IsInitial, needs_more, out_of_bounds, in_bounds, begins, fragments, filled}
+use Rattle.wh_model.specs.Laws.{OneBeginning}
 
 -- ---- imports
 

@@ -1,13 +1,11 @@
 -- One end and one standing of a journal, and what it shows.
 use Rattle.std.proofs.Common.{◌≡◌, ◌⊎◌, inl, inr, ⊎_elim, ℕ, List, [], ◌∷◌, ◌++◌, map, take, drop, Some, slice_get, refl, sym, ap, subst, arith, ◌∙◌, take-append-drop}
 use Rattle.std.specs.List.{AllByRecursion}
-use Rattle.wh_model.specs.Format.Syntax.{FuncType, Body, Module}
-use Rattle.wh_model.specs.Execution.Store.{type_of, InRange, own, Instance, Store, written}
-use Rattle.wh_model.specs.Execution.Configuration.{Config, store_of}
-use Rattle.wh_model.specs.Execution.Reduction.{After, IsNext}
-use Rattle.wh_model.specs.Execution.Instance.{Parameters, Piece, begins, IsInitial}
-use Rattle.wh_model.specs.Execution.Replay.{Call, cancelled, Invocation, with_pieces, Ends, has_returned, has_trapped, has_written, was_cancelled, never_began, Standing, idle, writing, running, store_at, pending, Stands, has_pieces, is_invoked, is_under_way, Waits, Replays, at_rest, ended, at_work}
-use Rattle.wh_model.specs.Laws.ReplayLaws.{OneEnd, Alike, OneStanding, StartIsCalled, WithinFuel, FuelSuffices, ArgumentsFit, RunningGoesOn, OthersWait, DeadDoNothing, ReturnedHasWritten, PiecesInOrder, CancelledStays, DoneReplays, TrappedReplays, FuelReplays}
+use Rattle.wh_model.specs.Format.{FuncType, Body, Module}
+use Rattle.wh_model.specs.Execution.Store.{Instance, Store}
+use Rattle.wh_model.specs.Execution.{type_of, InRange, own, written, Config, store_of, After, IsNext, Parameters, Piece, begins, IsInitial, Call, cancelled, Invocation, with_pieces, Ends, has_returned, has_trapped, has_written, was_cancelled, never_began, Standing, idle, running, store_at, pending, Stands, has_pieces, is_invoked, is_under_way, Waits, Replays, at_rest, ended, at_work}
+use Rattle.wh_model.specs.Execution.Replay.{writing}
+use Rattle.wh_model.specs.Laws.{OneEnd, Alike, OneStanding, StartIsCalled, WithinFuel, FuelSuffices, ArgumentsFit, RunningGoesOn, OthersWait, DeadDoNothing, ReturnedHasWritten, PiecesInOrder, CancelledStays, DoneReplays, TrappedReplays, FuelReplays}
 use Rattle.wh_model.proofs.Chains.{one_after}
 use Rattle.wh_model.proofs.Instance.{one_beginning}
 use Rattle.wh_model.proofs.Opened.{opened_store}
@@ -19,8 +17,6 @@ same_function e = (cc e, cc e)
 
 pub functions_same : {inst : Instance} {s : Store} {call : Call} {c : Config} (i : Invocation inst s call c) (x : ℕ) (type : FuncType) (body : Body) → call.func ≡ Some x → slice_get inst.funcs x ≡ Some (own type body) → (i.type ≡ type) × (i.body ≡ body)
 functions_same i x type body e f =
-    let calls = i.calls in
-    let is_own = i.is_own in
     let same : own i.type i.body ≡ own type body = cc in
     same_function same
 

@@ -1,15 +1,15 @@
 -- At most one import is the first without its item, for one cause, and then the module doesn't link.
 use Rattle.std.proofs.Common.{◌≡◌, ℕ, zero, suc, inl, inr, List, [], ◌∷◌, take, Some, slice_get, refl, ap, subst}
 use Rattle.std.specs.List.{AllByRecursion}
-use Rattle.wh_model.specs.Format.Syntax.{FuncType, Import, Module}
-use Rattle.wh_model.specs.Execution.Instance.{Parameters, ImportsGlobal}
+use Rattle.wh_model.specs.Format.{FuncType, Import, Module}
+use Rattle.wh_model.specs.Execution.{Parameters, ImportsGlobal}
 use Rattle.wh_model.specs.declared.host.HostGlobal.{HostGlobal}
 use Rattle.wh_model.specs.declared.host.HostGlobal.TheVariants.{Base, Salt}
 use Rattle.wh_model.specs.declared.host.HostItem.{HostItem}
 use Rattle.wh_model.specs.declared.host.HostItem.TheVariants.{Func, Global}
 use Rattle.wh_model.specs.declared.faults.ImportFault.{ImportFault}
 use Rattle.wh_model.specs.declared.faults.ImportFault.TheVariants.{UnknownImport, ImportType}
-use Rattle.wh_model.specs.Linking.Imports.{value_of, ImportsItem, HasItem, IsKnown, LacksItem, Links, IsFirstFault}
+use Rattle.wh_model.specs.Linking.{value_of, ImportsItem, HasItem, IsKnown, LacksItem, Links, IsFirstFault}
 
 -- what an owner may give
 pub some_parameters : Parameters

@@ -6,12 +6,10 @@ use Rattle.std.specs.List.{AllByRecursion, slice_range}
 use Rattle.wh_model.specs.declared.LoadOp.{LoadOp}
 use Rattle.wh_model.specs.declared.LoadOp.TheVariants.{I32Load, I64Load, I32Load8S, I32Load8U, I32Load16S, I32Load16U, I64Load8S, I64Load8U, I64Load16S, I64Load16U, I64Load32S, I64Load32U}
 use Rattle.wh_model.specs.Format.Syntax.{Limits}
-use Rattle.wh_model.specs.Validity.Typing.{Context, load_type}
-use Rattle.wh_model.specs.Validity.Valid.{most_pages}
-use Rattle.wh_model.specs.Execution.Numbers.{bits, extend_u}
-use Rattle.wh_model.specs.Execution.Store.{Instance, pages, number, bytes_of, bytes_at, written, loaded}
-use Rattle.wh_model.specs.Execution.Instance.{last_size}
-use Rattle.wh_model.specs.Soundness.StoreTyping.{IsByte, MemoryType, InstanceType}
+use Rattle.wh_model.specs.Validity.{Context, load_type, most_pages}
+use Rattle.wh_model.specs.Execution.{bits, extend_u, pages, number, bytes_of, bytes_at, written, loaded, last_size}
+use Rattle.wh_model.specs.Execution.Store.{Instance}
+use Rattle.wh_model.specs.Soundness.{IsByte, MemoryType, InstanceType}
 use Rattle.wh_model.proofs.Fragments.{length-written}
 use Rattle.wh_model.proofs.Numbers.{extend_s-lt}
 
@@ -112,9 +110,8 @@ pub pages_fit : (c : Context) (inst : Instance) (bytes : List ℕ) → InstanceT
     → pages bytes < 2 ^ 32
 pages_fit c inst bytes i h =
     let same = pages_of bytes h.0.0 h.0.1 in
-    let low = h.0.3 in
     let small = limit_small c inst i in
-    omega (arith, same, low, small)
+    omega (arith, same, h.0.3, small)
 
 pub memory_written : (c : Context) (inst : Instance) (bytes : List ℕ) (at : ℕ) (given : List ℕ)
     → MemoryType c inst bytes
@@ -126,12 +123,10 @@ pub memory_grown : (c : Context) (inst : Instance) (bytes : List ℕ) (n : ℕ) 
     → pages bytes + n ≤ inst.page_limit → MemoryType c inst (bytes ++ replicate (n * 65536) 0)
 memory_grown c inst bytes n h room =
     let same = pages_of bytes h.0.0 h.0.1 in
-    let is = h.0.1 in
-    let first = h.0.2 in
     let count : length (bytes ++ replicate (n * 65536) 0) ≡ (h.0.0 + n) * 65536 =
     rw (length-append bytes (replicate (n * 65536) 0), length-replicate {A = ℕ} (n * 65536) 0)
-    (omega (arith, is)) in (
-      (h.0.0 + n, count, omega (arith, first), omega (arith, same, room)),
+    (omega (arith, h.0.1)) in (
+      (h.0.0 + n, count, omega (arith, h.0.2), omega (arith, same, room)),
       each_append IsByte bytes
           (replicate (n * 65536) 0) h.1 (each_replicate IsByte (n * 65536) 0 (omega arith)),
     )

@@ -1,8 +1,7 @@
 -- Sequences of instructions, nested and in binary order: each form determines the other.
 use Rattle.std.proofs.Common.{◌≡◌, ℕ, ◌≤◌, List, [], ◌∷◌, ◌++◌, Option, Some, None, refl, sym, ap, ◌∙◌, append_assoc, arith}
-use Rattle.wh_model.specs.Format.Syntax.{Code, nothing, plain, block, loop, if_then, if_else, Instr, single, block_start, loop_start, if_start, else_mark, end_mark, flatten, expression, join}
-use Rattle.wh_model.specs.Format.Limits.{depth}
-use Rattle.wh_model.specs.Focus.Nested.{Parts, grow, grown, first_code, nested}
+use Rattle.wh_model.specs.Format.{Code, nothing, plain, block, loop, if_then, if_else, Instr, single, block_start, loop_start, if_start, else_mark, end_mark, flatten, expression, join, depth}
+use Rattle.wh_model.specs.Focus.{Parts, grow, grown, first_code, nested}
 
 join-nothing : (c : Code) → join c nothing ≡ c
 join-nothing nothing = refl

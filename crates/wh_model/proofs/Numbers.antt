@@ -6,7 +6,7 @@ use Rattle.std.proofs.lemmas.Nat.{shr_below, mul-add-lt, mod_low, shr_high, div-
 use Rattle.std.proofs.lemmas.Bool.{cases_lt}
 use Rattle.std.proofs.lemmas.Bool.Decides.{nat_tests}
 use Rattle.std.proofs.lemmas.Int.{ints}
-use Rattle.wh_model.specs.Execution.Numbers.{bits, signed, unsigned, iadd, isub, imul, idiv_u, quotient, idiv_s, irem_u, irem_s, ishl, ishr_u, ishr_s, irotl, irotr, count_below, iclz, ictz, ipopcnt, wrap, extend_u, extend_s, iextend_s, truth, unary, binary, test, holds, compare, operand_type, result_type, convert}
+use Rattle.wh_model.specs.Execution.{bits, signed, unsigned, iadd, isub, imul, idiv_u, quotient, idiv_s, irem_u, irem_s, ishl, ishr_u, ishr_s, irotl, irotr, count_below, iclz, ictz, ipopcnt, wrap, extend_u, extend_s, iextend_s, truth, unary, binary, test, holds, compare, operand_type, result_type, convert}
 use Rattle.wh_model.specs.declared.Trap.{Trap}
 use Rattle.wh_model.specs.declared.Trap.TheVariants.{DivideByZero, Overflow}
 use Rattle.wh_model.specs.declared.ValType.{ValType}
@@ -23,7 +23,7 @@ use Rattle.wh_model.specs.declared.ConvertOp.TheVariants.{WrapI64, ExtendI32S, E
 
 -- ---- signs
 
--- `signed` by cases: below 2 ^ (N - 1), where i stands for itself, and from there on, where it stands for i - 2 ^ N
+-- `signed` by cases: below 2 ^ (N - 1), where i represents itself, and from there on, where it represents i - 2 ^ N
 pub signed-low : (N i : ℕ) → i < 2 ^ (N - 1) → signed N i ≡ pos i
 unfolding signed
 signed-low N i low = grind (arith, nat_tests)
@@ -35,45 +35,10 @@ pub signed-high : (N i : ℕ) → 2 ^ (N - 1) ≤ i → i < 2 ^ N → signed N i
 unfolding signed
 signed-high N i high fits = let e = sub_large i (2 ^ N) fits in grind (arith, nat_tests)
 
--- and back, in the two cases
-unsigned-low : (N i : ℕ) → i < 2 ^ N → unsigned N (pos i) ≡ i
-unfolding unsigned
-unsigned-low N i fits = mod-eq_of_lt fits
-
-unsigned-high : (N i : ℕ) → i < 2 ^ N → unsigned N (negsuc (2 ^ N - suc i)) ≡ i
-unfolding unsigned
-unsigned-high N i fits =
-    let small : 2 ^ N - suc i < 2 ^ N = omega arith in
-    let same : (2 ^ N - suc i) % 2 ^ N ≡ 2 ^ N - suc i = mod-eq_of_lt small in
-    omega arith
-
--- an integer is what stands for its signed number
-pub unsigned-signed : (N i : ℕ) → i < 2 ^ N → unsigned N (signed N i) ≡ i
-unsigned-signed N i fits = ⊎_elim
-    (λ low. ap (unsigned N) (signed-low N i low) ∙ unsigned-low N i fits)
-    (λ high. ap (unsigned N) (signed-high N i high fits) ∙ unsigned-high N i fits)
-    (cases_lt i (2 ^ (N - 1)))
-
 -- 2 ^ N is twice 2 ^ (N - 1)
 pub pow-half : (N : ℕ) → 0 < N → 2 ^ N ≡ 2 ^ (N - 1) + 2 ^ (N - 1)
 pow-half zero h = absurd (omega arith)
 pow-half (suc N) h = rw (sub-one, pow-suc) (omega arith)
-
--- a signed number of N bits is what the integer that stands for it means
-pub signed-unsigned : (N : ℕ) (z : ℤ) → 0 < N → neg_ℤ (pos (2 ^ (N - 1))) ≤ℤ z → z <ℤ pos (2 ^ (N - 1)) → signed N (unsigned N z) ≡ z
-unfolding unsigned
-signed-unsigned N (pos n) some low high =
-    let half = pow-half N some in
-    let below : n < 2 ^ (N - 1) = omega (arith, ints) in
-    let fits : n < 2 ^ N = omega arith in
-    ap (signed N) (mod-eq_of_lt fits) ∙ signed-low N n below
-signed-unsigned N (negsuc n) some low high =
-    let half = pow-half N some in
-    let below : n < 2 ^ (N - 1) = omega (arith, ints) in
-    let fits : n < 2 ^ N = omega arith in
-    let above : 2 ^ (N - 1) ≤ 2 ^ N - 1 - n = omega arith in
-    let same : 2 ^ N - suc (2 ^ N - 1 - n) ≡ n = omega arith in
-    ap (λ m. signed N (2 ^ N - 1 - m)) (mod-eq_of_lt fits) ∙ signed-high N (2 ^ N - 1 - n) above (omega arith) ∙ ap negsuc same
 
 -- the signed numbers of N bits are those from -2 ^ (N - 1) to below 2 ^ (N - 1)
 pub signed-bounds : (N i : ℕ) → 0 < N → i < 2 ^ N → (neg_ℤ (pos (2 ^ (N - 1))) ≤ℤ signed N i) × (signed N i <ℤ pos (2 ^ (N - 1)))

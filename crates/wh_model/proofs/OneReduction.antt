@@ -1,10 +1,8 @@
 -- A configuration has at most one reduction.
 use Rattle.std.proofs.Common.{◌≡◌, ℕ, suc, ◌≤◌, List, ◌++◌, refl, ap, subst, arith}
-use Rattle.wh_model.specs.Format.Syntax.{Code, return, plain, nothing, join}
-use Rattle.wh_model.specs.Execution.Store.{Value, Instance, Store}
-use Rattle.wh_model.specs.Execution.Configuration.{Term, code, label, frame, Config, config, trapped, TakesOperands, Block, hole, inner}
-use Rattle.wh_model.specs.Execution.Rules.{pure, traps, invoke, Jumps}
-use Rattle.wh_model.specs.Execution.Reduction.{Reduces, base, in_label, in_frame, trap_label, trap_frame, leave_label, leave_frame, branch, returns}
+use Rattle.wh_model.specs.Format.{Code, return, plain, nothing, join}
+use Rattle.wh_model.specs.Execution.Store.{Instance, Store}
+use Rattle.wh_model.specs.Execution.{Value, Term, code, label, frame, Config, config, trapped, TakesOperands, Block, hole, inner, pure, traps, invoke, Jumps, Reduces, base, in_label, in_frame, trap_label, trap_frame, leave_label, leave_frame, branch, returns}
 use Rattle.wh_model.proofs.OneRule.{takes_same, base_same, jumps_same, jump_not_base}
 
 -- a term has one block context

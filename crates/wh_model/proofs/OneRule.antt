@@ -1,10 +1,9 @@
 -- At most one rule applies to an instruction.
 use Rattle.std.proofs.Common.{◌≡◌, ℕ, List, [], ◌∷◌, ◌++◌, length, refl, sym, ap, subst, arith, ◌∙◌, slice_get, Some}
 use Rattle.wh_model.specs.declared.Trap.{Trap}
-use Rattle.wh_model.specs.Format.Syntax.{Code}
-use Rattle.wh_model.specs.Execution.Store.{Value, value, FuncInst, Instance, Store}
-use Rattle.wh_model.specs.Execution.Configuration.{Term, code, called, Config, config, trapped, TakesOperands}
-use Rattle.wh_model.specs.Execution.Rules.{Rewrites, const_i32, const_i64, unary_op, binary_op, test_op, compare_op, convert_op, drop_top, select_first, select_second, do_nothing, enter_block, enter_loop, then_true, then_false, if_true, if_false, br_if_not, Traps, never_return, no_number, load_beyond, store_beyond, no_entry, empty_entry, other_type, Calls, by_call, by_indirect, Invokes, enter, too_deep, input, put, put_full, emit, emit_long, emit_beyond, emit_full, Base, pure, traps, get_local, set_local, tee_local, get_global, set_global, load_bytes, store_bytes, size_pages, grow_pages, grow_too_far, invoke, Jumps, by_br, by_br_if, by_br_table}
+use Rattle.wh_model.specs.Format.{Code}
+use Rattle.wh_model.specs.Execution.Store.{Instance, Store}
+use Rattle.wh_model.specs.Execution.{Value, value, FuncInst, Term, code, called, Config, config, trapped, TakesOperands, Rewrites, const_i32, const_i64, unary_op, binary_op, test_op, compare_op, convert_op, drop_top, select_first, select_second, do_nothing, enter_block, enter_loop, then_true, then_false, if_true, if_false, br_if_not, Traps, never_return, no_number, load_beyond, store_beyond, no_entry, empty_entry, other_type, Calls, by_call, by_indirect, Invokes, enter, too_deep, input, put, put_full, emit, emit_long, emit_beyond, emit_full, Base, pure, traps, get_local, set_local, tee_local, get_global, set_global, load_bytes, store_bytes, size_pages, grow_pages, grow_too_far, invoke, Jumps, by_br, by_br_if, by_br_table}
 
 -- what is taken of the operands is determined by how many are
 pub takes_same : (n m : ℕ) (o vs ws vs2 ws2 : List Value) → n ≡ m → TakesOperands n o vs ws → TakesOperands m o vs2 ws2 → (vs ≡ vs2) × (ws ≡ ws2)

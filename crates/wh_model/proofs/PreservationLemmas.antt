@@ -5,13 +5,11 @@ use Rattle.std.proofs.lemmas.List.{length-reverse, reverse-reverse}
 use Rattle.std.proofs.lemmas.Option.{slice_get-map}
 use Rattle.wh_model.specs.declared.ValType.{ValType}
 use Rattle.wh_model.specs.declared.ValType.TheVariants.{I32, I64}
-use Rattle.wh_model.specs.Format.Syntax.{Code, FuncType, GlobalType}
-use Rattle.wh_model.specs.Validity.Typing.{Context, operand, load_type, store_type, HasType, no_more}
-use Rattle.wh_model.specs.Execution.Store.{Value, value, FuncInst, signature, Instance, Store, number, bytes_of, bytes_at, output_room}
-use Rattle.wh_model.specs.Execution.Configuration.{arity, Config}
-use Rattle.wh_model.specs.Execution.Rules.{Calls, by_call, by_indirect, Invokes, enter, too_deep, input, put, put_full, emit, emit_long, emit_beyond, emit_full, Base, pure, traps, get_local, set_local, tee_local, get_global, set_global, load_bytes, store_bytes, size_pages, grow_pages, grow_too_far, invoke}
-use Rattle.wh_model.specs.Soundness.StoreTyping.{IsByte, IsOfType, AreOfTypes, FuncInstType, InstanceType, MemoryType, StoreType}
-use Rattle.wh_model.specs.Soundness.TermTyping.{IsInside, ConfigType}
+use Rattle.wh_model.specs.Format.{Code, FuncType, GlobalType}
+use Rattle.wh_model.specs.Validity.{Context, operand, load_type, store_type, HasType, no_more}
+use Rattle.wh_model.specs.Execution.Store.{Instance, Store}
+use Rattle.wh_model.specs.Execution.{Value, value, FuncInst, signature, number, bytes_of, bytes_at, output_room, arity, Config, Calls, by_call, by_indirect, Invokes, enter, too_deep, input, put, put_full, emit, emit_long, emit_beyond, emit_full, Base, pure, traps, get_local, set_local, tee_local, get_global, set_global, load_bytes, store_bytes, size_pages, grow_pages, grow_too_far, invoke}
+use Rattle.wh_model.specs.Soundness.{IsByte, IsOfType, AreOfTypes, FuncInstType, InstanceType, MemoryType, StoreType, IsInside, ConfigType}
 use Rattle.wh_model.proofs.Beginnings.{some_in}
 use Rattle.wh_model.proofs.StoreTypingLemmas.{types_append, types_parted, types_get, types_set, types_zeros, types_reverse}
 use Rattle.wh_model.proofs.MemoryTypingLemmas.{each_append, each_at, number_at, loaded_fits, bytes_of_bytes, length-bytes_of, few_at, pages_fit, memory_written, memory_grown}

@@ -11,15 +11,12 @@ use Rattle.wh_model.specs.declared.BinaryOp.{BinaryOp}
 use Rattle.wh_model.specs.declared.ConvertOp.{ConvertOp}
 use Rattle.wh_model.specs.declared.ConvertOp.TheVariants.{WrapI64, ExtendI32S, ExtendI32U}
 use Rattle.wh_model.specs.declared.host.HostFunc.TheVariants.{Input, Put, Emit}
-use Rattle.wh_model.specs.Format.Syntax.{Op, unreachable, nop, br, br_if, br_table, return, call, call_indirect, drop_operand, select, local_get, local_set, local_tee, global_get, global_set, load, store, memory_size, memory_grow, i32_const, i64_const, test, comparison, unary, binary, conversion, Code, nothing, plain, block, loop, if_then, if_else, FuncType, GlobalType}
-use Rattle.wh_model.specs.Validity.Typing.{Context, operand, load_type, store_type, conversion_type, HasType}
+use Rattle.wh_model.specs.Format.{Op, unreachable, nop, br, br_if, br_table, return, call, call_indirect, drop_operand, select, local_get, local_set, local_tee, global_get, global_set, load, store, memory_size, memory_grow, i32_const, i64_const, test, comparison, unary, binary, conversion, Code, nothing, plain, block, loop, if_then, if_else, FuncType, GlobalType}
+use Rattle.wh_model.specs.Validity.{Context, operand, load_type, store_type, conversion_type, HasType}
 use Rattle.wh_model.specs.Execution.Numbers as numbers
-use Rattle.wh_model.specs.Execution.Store.{Value, value, FuncInst, own, host, signature, Instance, Store, pages, output_room}
-use Rattle.wh_model.specs.Execution.Configuration.{Term, code, Config, config, TakesOperands, Block, hole}
-use Rattle.wh_model.specs.Execution.Rules.{const_i32, const_i64, unary_op, binary_op, test_op, compare_op, convert_op, drop_top, select_first, select_second, do_nothing, enter_block, enter_loop, then_true, then_false, if_true, if_false, br_if_not, never_return, no_number, load_beyond, store_beyond, no_entry, empty_entry, other_type, Calls, by_call, by_indirect, call_depth, most_emitted, Invokes, enter, too_deep, input, put, put_full, emit, emit_long, emit_beyond, emit_full, Base, pure, traps, get_local, set_local, tee_local, get_global, set_global, load_bytes, store_bytes, size_pages, grow_pages, grow_too_far, invoke, Jumps, by_br, by_br_if, by_br_table}
-use Rattle.wh_model.specs.Execution.Reduction.{Reduces, base}
-use Rattle.wh_model.specs.Soundness.StoreTyping.{AreOfTypes, EntryType, InstanceType, StoreType}
-use Rattle.wh_model.specs.Soundness.TermTyping.{IsInside}
+use Rattle.wh_model.specs.Execution.Store.{Instance, Store}
+use Rattle.wh_model.specs.Execution.{Value, value, FuncInst, own, host, signature, pages, output_room, Term, code, Config, config, TakesOperands, Block, hole, const_i32, const_i64, unary_op, binary_op, test_op, compare_op, convert_op, drop_top, select_first, select_second, do_nothing, enter_block, enter_loop, then_true, then_false, if_true, if_false, br_if_not, never_return, no_number, load_beyond, store_beyond, no_entry, empty_entry, other_type, Calls, by_call, by_indirect, call_depth, most_emitted, Invokes, enter, too_deep, input, put, put_full, emit, emit_long, emit_beyond, emit_full, Base, pure, traps, get_local, set_local, tee_local, get_global, set_global, load_bytes, store_bytes, size_pages, grow_pages, grow_too_far, invoke, Jumps, by_br, by_br_if, by_br_table, Reduces, base}
+use Rattle.wh_model.specs.Soundness.{AreOfTypes, EntryType, InstanceType, StoreType, IsInside}
 use Rattle.wh_model.proofs.StoreTypingLemmas.{top_of_type, some_top, types_length, types_split, types_get}
 use Rattle.wh_model.proofs.TermTypingLemmas.{parts, taking, Stands, stands}
 use Rattle.wh_model.proofs.PreservationLemmas.{func_there, global_at, each_get}

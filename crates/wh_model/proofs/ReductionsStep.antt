@@ -2,13 +2,11 @@
 -- frames that are passed.
 use Rattle.std.proofs.Common.{◌≡◌, ℕ, suc, List, [], ◌∷◌, ◌++◌, length, refl, sym, ap, subst, arith, ◌∙◌, inl, inr, append_assoc, append-nil, length-append}
 use Rattle.wh_model.specs.declared.Trap.{Trap}
-use Rattle.wh_model.specs.Format.Syntax.{Code, nothing, join}
-use Rattle.wh_model.specs.Execution.Store.{Value, FuncInst, Instance, Store}
-use Rattle.wh_model.specs.Execution.Configuration.{Term, code, label, frame, Block, hole, inner, Config, config, trapped, TakesOperands}
-use Rattle.wh_model.specs.Execution.Rules.{Rewrites, const_i32, const_i64, unary_op, binary_op, test_op, compare_op, convert_op, drop_top, select_first, select_second, do_nothing, enter_block, enter_loop, then_true, then_false, if_true, if_false, br_if_not, Traps, never_return, no_number, load_beyond, store_beyond, no_entry, empty_entry, other_type, Calls, by_call, by_indirect, Invokes, enter, too_deep, input, put, put_full, emit, emit_long, emit_beyond, emit_full, Base, pure, traps, get_local, set_local, tee_local, get_global, set_global, load_bytes, store_bytes, size_pages, grow_pages, grow_too_far, invoke, Jumps, by_br, by_br_if, by_br_table}
-use Rattle.wh_model.specs.Execution.Reduction.{Reduces, base, in_label, in_frame, trap_label, trap_frame, leave_label, leave_frame, branch, returns}
-use Rattle.wh_model.specs.Focus.Focused.{Label, Activation, Focused, running, finished, stopped, inside, awaited, plug}
-use Rattle.wh_model.specs.Focus.FocusSteps.{returned, CallStep, Steps}
+use Rattle.wh_model.specs.Format.{Code, nothing, join}
+use Rattle.wh_model.specs.Execution.Store.{Instance, Store}
+use Rattle.wh_model.specs.Execution.{Value, FuncInst, Term, code, label, frame, Block, hole, inner, Config, config, trapped, TakesOperands, Rewrites, const_i32, const_i64, unary_op, binary_op, test_op, compare_op, convert_op, drop_top, select_first, select_second, do_nothing, enter_block, enter_loop, then_true, then_false, if_true, if_false, br_if_not, Traps, never_return, no_number, load_beyond, store_beyond, no_entry, empty_entry, other_type, Calls, by_call, by_indirect, Invokes, enter, too_deep, input, put, put_full, emit, emit_long, emit_beyond, emit_full, Base, pure, traps, get_local, set_local, tee_local, get_global, set_global, load_bytes, store_bytes, size_pages, grow_pages, grow_too_far, invoke, Jumps, by_br, by_br_if, by_br_table, Reduces, base, in_label, in_frame, trap_label, trap_frame, leave_label, leave_frame, branch, returns}
+use Rattle.wh_model.specs.Focus.Focused.{Focused}
+use Rattle.wh_model.specs.Focus.{Label, Activation, running, finished, stopped, inside, awaited, plug, returned, CallStep, Steps}
 use Rattle.wh_model.proofs.OneReduction.{done_stays}
 
 -- ---- the focus of a term

@@ -6,14 +6,10 @@ use Rattle.wh_model.specs.declared.ValType.TheVariants.{I32, I64}
 use Rattle.wh_model.specs.declared.BinaryOp.{BinaryOp}
 use Rattle.wh_model.specs.declared.ConvertOp.{ConvertOp}
 use Rattle.wh_model.specs.declared.ConvertOp.TheVariants.{WrapI64, ExtendI32S, ExtendI32U}
-use Rattle.wh_model.specs.Format.Syntax.{Code}
-use Rattle.wh_model.specs.Validity.Typing.{Context, operand, conversion_type, HasType, no_more, then_loop}
-use Rattle.wh_model.specs.Execution.Numbers.{bits, binary, operand_type, result_type}
-use Rattle.wh_model.specs.Execution.Store.{Value, value, InRange}
-use Rattle.wh_model.specs.Execution.Configuration.{Term}
-use Rattle.wh_model.specs.Execution.Rules.{Rewrites, const_i32, const_i64, unary_op, binary_op, test_op, compare_op, convert_op, drop_top, select_first, select_second, do_nothing, enter_block, enter_loop, then_true, then_false, if_true, if_false, br_if_not}
-use Rattle.wh_model.specs.Soundness.StoreTyping.{AreOfTypes}
-use Rattle.wh_model.specs.Soundness.TermTyping.{TermType}
+use Rattle.wh_model.specs.Format.{Code}
+use Rattle.wh_model.specs.Validity.{Context, operand, conversion_type, HasType, no_more, then_loop}
+use Rattle.wh_model.specs.Execution.{bits, binary, operand_type, result_type, Value, value, InRange, Term, Rewrites, const_i32, const_i64, unary_op, binary_op, test_op, compare_op, convert_op, drop_top, select_first, select_second, do_nothing, enter_block, enter_loop, then_true, then_false, if_true, if_false, br_if_not}
+use Rattle.wh_model.specs.Soundness.{AreOfTypes, TermType}
 use Rattle.wh_model.proofs.Numbers.{unsigned-lt, unary-lt, binary-lt, test-lt, compare-lt, convert-lt}
 use Rattle.wh_model.proofs.TermTypingLemmas.{parts, taking, giving, stands, gives_all}
 

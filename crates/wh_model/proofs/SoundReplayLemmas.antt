@@ -4,18 +4,13 @@ use Rattle.std.specs.Prelude.{◌≢◌}
 use Rattle.std.proofs.lemmas.List.{length-reverse, reverse-reverse, append-nil}
 use Rattle.std.specs.List.{AllByRecursion}
 use Rattle.wh_model.specs.declared.ValType.{ValType}
-use Rattle.wh_model.specs.Format.Syntax.{nothing, FuncType, Body}
-use Rattle.wh_model.specs.Validity.Typing.{Context}
-use Rattle.wh_model.specs.Validity.Valid.{ValidStart}
-use Rattle.wh_model.specs.Execution.Store.{Value, own, Instance, Store, written}
-use Rattle.wh_model.specs.Execution.Configuration.{code, called, Config, config, trapped, TakesOperands}
-use Rattle.wh_model.specs.Execution.Rules.{Invokes, enter}
-use Rattle.wh_model.specs.Execution.Reduction.{After}
-use Rattle.wh_model.specs.Execution.Instance.{Piece}
-use Rattle.wh_model.specs.Execution.Replay.{pending, Call, with_pieces, Invocation, Standing, idle, writing, running, store_at, Stands, has_pieces, is_invoked, is_under_way, Ends, has_returned, has_trapped, has_written, was_cancelled, never_began, Waits, Replays, at_rest, ended, at_work}
-use Rattle.wh_model.specs.Soundness.StoreTyping.{AreOfTypes, InstanceType, StoreType, PieceType}
-use Rattle.wh_model.specs.Soundness.TermTyping.{frame_context, ThreadType}
-use Rattle.wh_model.specs.Laws.SoundnessLaws.{IsFinal, GoesFurther, HasFuncType, HasArguments, HasTypedEnd, StandsAs, ReplaySoundness, NoCallSticks}
+use Rattle.wh_model.specs.Format.{nothing, FuncType, Body}
+use Rattle.wh_model.specs.Validity.{Context, ValidStart}
+use Rattle.wh_model.specs.Execution.Store.{Instance, Store}
+use Rattle.wh_model.specs.Execution.{Value, own, written, code, called, Config, config, trapped, TakesOperands, Invokes, enter, After, Piece, pending, Call, with_pieces, Invocation, Standing, idle, running, store_at, Stands, has_pieces, is_invoked, is_under_way, Ends, has_returned, has_trapped, has_written, was_cancelled, never_began, Waits, Replays, at_rest, ended, at_work}
+use Rattle.wh_model.specs.Execution.Replay.{writing}
+use Rattle.wh_model.specs.Soundness.{AreOfTypes, InstanceType, StoreType, PieceType, frame_context, ThreadType}
+use Rattle.wh_model.specs.Laws.{IsFinal, GoesFurther, HasFuncType, HasArguments, HasTypedEnd, StandsAs, ReplaySoundness, NoCallSticks}
 use Rattle.wh_model.proofs.Fragments.{length-written}
 use Rattle.wh_model.proofs.Journals.{from_beginning, not_open}
 use Rattle.wh_model.proofs.StoreTypingLemmas.{types_given, types_length, types_reverse}

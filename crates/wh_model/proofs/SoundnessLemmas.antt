@@ -3,15 +3,12 @@ use Rattle.std.proofs.Common.{◌≡◌, ℕ, zero, suc, List, [], ◌∷◌, �
 use Rattle.std.specs.List.{AllByRecursion}
 use Rattle.wh_model.specs.declared.ValType.{ValType}
 use Rattle.wh_model.specs.declared.ValType.TheVariants.{I32}
-use Rattle.wh_model.specs.Format.Syntax.{Code}
-use Rattle.wh_model.specs.Validity.Typing.{Context, under, operand, HasType}
-use Rattle.wh_model.specs.Execution.Store.{Value, value, Instance, Store}
-use Rattle.wh_model.specs.Execution.Configuration.{Term, Config, config, trapped, arity, TakesOperands}
-use Rattle.wh_model.specs.Execution.Rules.{Jumps, by_br, by_br_if, by_br_table}
-use Rattle.wh_model.specs.Execution.Reduction.{Reduces, base, in_label, in_frame, trap_label, trap_frame, leave_label, leave_frame, branch, returns}
-use Rattle.wh_model.specs.Soundness.StoreTyping.{AreOfTypes, InstanceType, StoreType}
-use Rattle.wh_model.specs.Soundness.TermTyping.{frame_context, IsInside, TermType, ConfigType}
-use Rattle.wh_model.specs.Laws.SoundnessLaws.{Preservation}
+use Rattle.wh_model.specs.Format.{Code}
+use Rattle.wh_model.specs.Validity.{Context, under, operand, HasType}
+use Rattle.wh_model.specs.Execution.Store.{Instance, Store}
+use Rattle.wh_model.specs.Execution.{Value, value, Term, Config, config, trapped, arity, TakesOperands, Jumps, by_br, by_br_if, by_br_table, Reduces, base, in_label, in_frame, trap_label, trap_frame, leave_label, leave_frame, branch, returns}
+use Rattle.wh_model.specs.Soundness.{AreOfTypes, InstanceType, StoreType, frame_context, IsInside, TermType, ConfigType}
+use Rattle.wh_model.specs.Laws.{Preservation}
 use Rattle.wh_model.proofs.Typing.{composed, framed}
 use Rattle.wh_model.proofs.StoreTypingLemmas.{types_append, types_parted}
 use Rattle.wh_model.proofs.TermTypingLemmas.{parts, taking, stands, arity_length, block_typed, drop_at}

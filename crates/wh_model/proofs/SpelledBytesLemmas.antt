@@ -2,16 +2,13 @@
 use Rattle.std.proofs.Common.{◌≡◌, ℕ, zero, suc, inl, inr, List, [], ◌∷◌, ◌++◌, length, sym, subst}
 use Rattle.std.proofs.lemmas.List.Elements.{recursion_from_All}
 use Rattle.std.specs.List.{AllByRecursion}
-use Rattle.wh_model.specs.Format.Grammar.{Grammar, times}
-use Rattle.wh_model.specs.Format.Leb.{u32, vec, vec_up_to}
-use Rattle.wh_model.specs.Format.Syntax.{Data, Module, empty_module}
-use Rattle.wh_model.specs.Format.Limits.{most_types, most_imports, most_functions, most_globals, most_exports, most_elements, most_segments}
-use Rattle.wh_model.specs.Format.Parts.{functype, tabletype, limits, «import», global, export, element, segment, codes}
-use Rattle.wh_model.specs.Format.Modules.{part, section, from_end, from_data, from_code, from_elements, from_start, from_exports, from_globals, from_memories, from_tables, from_functions, from_imports, from_types, «module»}
-use Rattle.wh_model.specs.Format.Spelling.{AreBytes, Spells}
+use Rattle.wh_model.specs.Format.Grammar.{Grammar}
+use Rattle.wh_model.specs.Format.{times, u32, vec, vec_up_to, Data, Module, empty_module, most_types, most_imports, most_functions, most_globals, most_exports, most_elements, most_segments, functype, tabletype, limits, global, export, element, segment, codes, part, section, from_end, from_data, from_code, from_elements, from_start, from_exports, from_globals, from_memories, from_tables, from_functions, from_imports, from_types, AreBytes, Spells}
+use Rattle.wh_model.specs.Format.Parts.{«import»}
+use Rattle.wh_model.specs.Format.Modules.{«module»}
 use Rattle.wh_model.specs.Validity.Valid.{Valid}
-use Rattle.wh_model.specs.Soundness.StoreTyping.{IsByte, HasBytes}
-use Rattle.wh_model.specs.Laws.SoundnessLaws.{SpelledHasBytes, AcceptedSoundness}
+use Rattle.wh_model.specs.Soundness.{IsByte, HasBytes}
+use Rattle.wh_model.specs.Laws.{SpelledHasBytes, AcceptedSoundness}
 use Rattle.wh_model.proofs.SoundReplayLemmas.{replay_soundness}
 
 -- what is derived from bytes has the property

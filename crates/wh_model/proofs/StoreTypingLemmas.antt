@@ -4,9 +4,8 @@ use Rattle.std.proofs.lemmas.Grind.{reverse_onto}
 use Rattle.std.specs.List.{AllByRecursion}
 use Rattle.wh_model.specs.declared.ValType.{ValType}
 use Rattle.wh_model.specs.declared.ValType.TheVariants.{I32, I64}
-use Rattle.wh_model.specs.Execution.Numbers.{bits}
-use Rattle.wh_model.specs.Execution.Store.{Value, value, type_of, InRange, zero_of}
-use Rattle.wh_model.specs.Soundness.StoreTyping.{IsOfType, AreOfTypes}
+use Rattle.wh_model.specs.Execution.{bits, Value, value, type_of, InRange, zero_of}
+use Rattle.wh_model.specs.Soundness.{IsOfType, AreOfTypes}
 
 -- a value of a type is a number of its bits
 pub value_of_type : (t : ValType) (v : Value) → IsOfType t v → (n : ℕ) × (v ≡ value t n) × (n < 2 ^ bits t)

@@ -3,15 +3,12 @@ use Rattle.std.proofs.Common.{◌≡◌, ℕ, ◌+◌, zero, suc, ◌≤◌, ◌
 use Rattle.std.proofs.lemmas.List.{append-nil}
 use Rattle.wh_model.specs.declared.ValType.{ValType}
 use Rattle.wh_model.specs.declared.Mutability.TheVariants.{Const, Var}
-use Rattle.wh_model.specs.Format.Syntax.{Code, GlobalType}
-use Rattle.wh_model.specs.Validity.Typing.{Context, under, operand, store_type, HasType}
-use Rattle.wh_model.specs.Execution.Store.{Value, FuncInst, Instance, Store, bytes_of, bytes_at}
-use Rattle.wh_model.specs.Execution.Configuration.{Term, Config, config, trapped, store_of}
-use Rattle.wh_model.specs.Execution.Rules.{Invokes, enter, too_deep, input, put, put_full, emit, emit_long, emit_beyond, emit_full, Base, pure, traps, get_local, set_local, tee_local, get_global, set_global, load_bytes, store_bytes, size_pages, grow_pages, grow_too_far, invoke}
-use Rattle.wh_model.specs.Execution.Reduction.{Reduces, base, in_label, in_frame, trap_label, trap_frame, leave_label, leave_frame, branch, returns, Leads, stays, goes_on}
-use Rattle.wh_model.specs.Soundness.StoreTyping.{AreOfTypes, InstanceType, StoreExtends}
-use Rattle.wh_model.specs.Soundness.TermTyping.{frame_context, IsInside, TermType, ThreadType}
-use Rattle.wh_model.specs.Laws.SoundnessLaws.{StoresExtend}
+use Rattle.wh_model.specs.Format.{Code, GlobalType}
+use Rattle.wh_model.specs.Validity.{Context, under, operand, store_type, HasType}
+use Rattle.wh_model.specs.Execution.Store.{Instance, Store}
+use Rattle.wh_model.specs.Execution.{Value, FuncInst, bytes_of, bytes_at, Term, Config, config, trapped, store_of, Invokes, enter, too_deep, input, put, put_full, emit, emit_long, emit_beyond, emit_full, Base, pure, traps, get_local, set_local, tee_local, get_global, set_global, load_bytes, store_bytes, size_pages, grow_pages, grow_too_far, invoke, Reduces, base, in_label, in_frame, trap_label, trap_frame, leave_label, leave_frame, branch, returns, Leads, stays, goes_on}
+use Rattle.wh_model.specs.Soundness.{AreOfTypes, InstanceType, StoreExtends, frame_context, IsInside, TermType, ThreadType}
+use Rattle.wh_model.specs.Laws.{StoresExtend}
 use Rattle.wh_model.proofs.Fragments.{length-written}
 use Rattle.wh_model.proofs.MemoryTypingLemmas.{length-bytes_of}
 use Rattle.wh_model.proofs.TermTypingLemmas.{stands}

@@ -2,15 +2,12 @@
 use Rattle.std.proofs.Common.{◌≡◌, ℕ, suc, ◌≤◌, ◌⊎◌, inl, inr, ⊎_elim, List, [], ◌++◌, length, Option, None, slice_get, refl, sym, ap, subst, arith, ◌∙◌, append_assoc}
 use Rattle.std.proofs.lemmas.Bool.{cases_lt}
 use Rattle.wh_model.specs.declared.ValType.{ValType}
-use Rattle.wh_model.specs.Format.Syntax.{Code, nothing, plain, return}
-use Rattle.wh_model.specs.Validity.Typing.{Context, under, operand}
-use Rattle.wh_model.specs.Execution.Store.{Value, Instance, Store}
-use Rattle.wh_model.specs.Execution.Configuration.{Term, code, label, frame, arity, Config, config, trapped, TakesOperands, Block, inner}
-use Rattle.wh_model.specs.Execution.Rules.{Jumps}
-use Rattle.wh_model.specs.Execution.Reduction.{Reduces, in_label, in_frame, trap_label, trap_frame, leave_label, leave_frame, branch, returns, Leads, stays, goes_on}
-use Rattle.wh_model.specs.Soundness.StoreTyping.{AreOfTypes, InstanceType, StoreType}
-use Rattle.wh_model.specs.Soundness.TermTyping.{frame_context, IsInside, TermType, ConfigType, IsAlone, ThreadType}
-use Rattle.wh_model.specs.Laws.SoundnessLaws.{ThreadPreservation, Progress, NeverStuck}
+use Rattle.wh_model.specs.Format.{Code, nothing, plain, return}
+use Rattle.wh_model.specs.Validity.{Context, under, operand}
+use Rattle.wh_model.specs.Execution.Store.{Instance, Store}
+use Rattle.wh_model.specs.Execution.{Value, Term, code, label, frame, arity, Config, config, trapped, TakesOperands, Block, inner, Jumps, Reduces, in_label, in_frame, trap_label, trap_frame, leave_label, leave_frame, branch, returns, Leads, stays, goes_on}
+use Rattle.wh_model.specs.Soundness.{AreOfTypes, InstanceType, StoreType, frame_context, IsInside, TermType, ConfigType, IsAlone, ThreadType}
+use Rattle.wh_model.specs.Laws.{ThreadPreservation, Progress, NeverStuck}
 use Rattle.wh_model.proofs.OneReduction.{done_stays}
 use Rattle.wh_model.proofs.StoreTypingLemmas.{types_length, types_split}
 use Rattle.wh_model.proofs.TermTypingLemmas.{parts, taking, stands, arity_length, block_typed, drop_at, none_behind}

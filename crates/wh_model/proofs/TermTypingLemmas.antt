@@ -3,12 +3,10 @@ use Rattle.std.proofs.Common.{◌≡◌, ℕ, zero, suc, ◌≤◌, List, [], �
 use Rattle.std.proofs.lemmas.List.{append-nil}
 use Rattle.wh_model.specs.declared.ValType.{ValType}
 use Rattle.wh_model.specs.declared.ValType.TheVariants.{I32}
-use Rattle.wh_model.specs.Format.Syntax.{Op, Code, nothing, plain, block, loop, if_then, if_else}
-use Rattle.wh_model.specs.Validity.Typing.{Context, under, operand, OpType, HasType, no_more, then_op, then_block, then_loop, then_if, then_if_else}
-use Rattle.wh_model.specs.Execution.Store.{Value}
-use Rattle.wh_model.specs.Execution.Configuration.{Term, arity, Block, hole, inner}
-use Rattle.wh_model.specs.Soundness.StoreTyping.{AreOfTypes}
-use Rattle.wh_model.specs.Soundness.TermTyping.{TermType}
+use Rattle.wh_model.specs.Format.{Op, Code, nothing, plain, block, loop, if_then, if_else}
+use Rattle.wh_model.specs.Validity.{Context, under, operand, OpType, HasType, no_more, then_op, then_block, then_loop, then_if, then_if_else}
+use Rattle.wh_model.specs.Execution.{Value, Term, arity, Block, hole, inner}
+use Rattle.wh_model.specs.Soundness.{AreOfTypes, TermType}
 
 -- ---- sequences
 

@@ -5,9 +5,9 @@ use Rattle.wh_model.specs.declared.ValType.{ValType}
 use Rattle.wh_model.specs.declared.ValType.TheVariants.{I32, I64}
 use Rattle.wh_model.specs.declared.BinaryOp.TheVariants.{Add}
 use Rattle.wh_model.specs.declared.ExternKind.TheVariants.{Func}
-use Rattle.wh_model.specs.Format.Syntax.{FuncType, Export, Body, Module, Code, nothing, plain, block, if_then, br, binary, local_get, drop_operand, i32_const}
-use Rattle.wh_model.specs.Validity.Valid.{DifferentNames, Valid}
-use Rattle.wh_model.specs.Validity.Typing.{Context, HasType, no_more, then_op, then_block, then_if}
+use Rattle.wh_model.specs.Format.{FuncType, Export, Body, Module, Code, nothing, plain, block, if_then, br, binary, local_get, drop_operand, i32_const}
+use Rattle.wh_model.specs.Validity.Valid.{Valid}
+use Rattle.wh_model.specs.Validity.{DifferentNames, Context, HasType, no_more, then_op, then_block, then_if}
 
 -- a function of two i32 that gives one, and nothing else around
 abbrev around : Context

@@ -1,8 +1,8 @@
 -- Typing composes, and instructions may stand over further operands (3.3.6 of the standard).
 use Rattle.std.proofs.Common.{◌≡◌, List, ◌++◌, sym, subst, append_assoc}
 use Rattle.wh_model.specs.declared.ValType.{ValType}
-use Rattle.wh_model.specs.Format.Syntax.{Code, nothing, plain, block, loop, if_then, if_else, join}
-use Rattle.wh_model.specs.Validity.Typing.{Context, operand, HasType, no_more, then_op, then_block, then_loop, then_if, then_if_else}
+use Rattle.wh_model.specs.Format.{Code, nothing, plain, block, loop, if_then, if_else, join}
+use Rattle.wh_model.specs.Validity.{Context, operand, HasType, no_more, then_op, then_block, then_loop, then_if, then_if_else}
 
 -- a sequence, and behind it another one that takes what the first leaves
 pub composed : {c : Context} {s t : Code} {a b d : List ValType} → HasType c s a b → HasType c t b d → HasType c (join s t) a d

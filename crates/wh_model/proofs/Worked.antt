@@ -8,12 +8,12 @@ use Rattle.wh_model.specs.declared.Trap.{Trap}
 use Rattle.wh_model.specs.declared.Trap.TheVariants.{DivideByZero, Overflow, OutOfBounds}
 use Rattle.wh_model.specs.declared.LoadOp.TheVariants.{I32Load}
 use Rattle.wh_model.specs.Execution.Numbers as numbers
-use Rattle.wh_model.specs.Execution.Numbers.{unsigned, signed, quotient, idiv_s, irem_s}
-use Rattle.wh_model.specs.Format.Syntax.{Code, nothing, plain, block, loop, i32_const, br, br_table, local_get, return, binary, load}
-use Rattle.wh_model.specs.Execution.Store.{Value, value, Instance, Store, number, bytes_at}
-use Rattle.wh_model.specs.Focus.Focused.{Focused, running, finished, stopped, activation, plug}
-use Rattle.wh_model.specs.Focus.FocusSteps.{Steps, FocusedLeads, rests, steps}
-use Rattle.wh_model.specs.Laws.Worked.{invoked, Done, Trapped, StandsForFuel}
+use Rattle.wh_model.specs.Execution.{unsigned, signed, quotient, idiv_s, irem_s, Value, value, number, bytes_at}
+use Rattle.wh_model.specs.Format.{Code, nothing, plain, block, loop, i32_const, br, br_table, local_get, return, binary, load}
+use Rattle.wh_model.specs.Execution.Store.{Instance, Store}
+use Rattle.wh_model.specs.Focus.Focused.{Focused}
+use Rattle.wh_model.specs.Focus.{running, finished, stopped, activation, plug, Steps, FocusedLeads, rests, steps}
+use Rattle.wh_model.specs.Laws.{invoked, Done, Trapped, StandsForFuel}
 use Rattle.wh_model.proofs.Agrees.{after_agrees}
 use Rattle.wh_model.proofs.StepsReduce.{steps_reduce}
 
@@ -140,7 +140,7 @@ goes_round inst s (suc n) true =
     let e : 1 + n ≡ suc n = omega arith in
     (r.0, subst (λ w. FocusedLeads inst (around_loop s true) w r.0) e (steps 1 n (refl, ([], _, _, refl, refl, [], [], record { split = refl; count = refl }, refl)) r.1), r.2)
 
--- an endless loop stands for fuel after any number of charges
+-- an endless loop is blocked on fuel after any number of charges
 pub loop_stands : (inst : Instance) (s : Store) (n : ℕ) → StandsForFuel inst (invoked s [] [] endless []) n
 loop_stands inst s n =
     let r = goes_round inst s n false in

@@ -6,12 +6,12 @@ use Rattle.wh_model.specs.declared.LoadOp.TheVariants.{I32Load}
 use Rattle.wh_model.specs.declared.StoreOp.TheVariants.{I32Store}
 use Rattle.wh_model.specs.declared.Trap.TheVariants.{CallDepth}
 use Rattle.wh_model.specs.Execution.Numbers as numbers
-use Rattle.wh_model.specs.Execution.Numbers.{unsigned, iadd}
-use Rattle.wh_model.specs.Format.Syntax.{Code, nothing, plain, i32_const, load, store, call, binary, FuncType, Body}
-use Rattle.wh_model.specs.Execution.Store.{value, own, Instance, Store, number, bytes_of, bytes_at, written}
-use Rattle.wh_model.specs.Focus.Focused.{Activation, Focused, running, finished, stopped, activation}
-use Rattle.wh_model.specs.Focus.FocusSteps.{FocusedLeads, rests, steps}
-use Rattle.wh_model.specs.Laws.Worked.{invoked, Done, Trapped}
+use Rattle.wh_model.specs.Execution.{unsigned, iadd, value, own, number, bytes_of, bytes_at, written}
+use Rattle.wh_model.specs.Format.{Code, nothing, plain, i32_const, load, store, call, binary, FuncType, Body}
+use Rattle.wh_model.specs.Execution.Store.{Instance, Store}
+use Rattle.wh_model.specs.Focus.Focused.{Focused}
+use Rattle.wh_model.specs.Focus.{Activation, running, finished, stopped, activation, FocusedLeads, rests, steps}
+use Rattle.wh_model.specs.Laws.{invoked, Done, Trapped}
 use Rattle.wh_model.proofs.Agrees.{after_agrees}
 
 -- i32.const 0, i32.const 0, i32.load, i32.const 1, i32.add, i32.store, call 0

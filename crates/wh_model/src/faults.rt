@@ -32,7 +32,7 @@ pub enum FaultKind {
     /// A name isn't UTF-8.
     #[error("the name isn't UTF-8")]
     Utf8,
-    /// A byte that stands for nothing where it stands.
+    /// A byte that has no meaning where it is.
     #[error("the byte has no meaning here")]
     UnknownByte,
     /// A floating-point type or opcode, which this host leaves out.
@@ -53,7 +53,7 @@ pub enum FaultKind {
 }
 
 impl FaultKind {
-    /// The number by which replies name the kind, 1 to 13.
+    /// Returns the number by which replies name the kind, 1 to 13.
     pub fn number(self) -> u8
         ensures { result ≡ fault_number self }
     {
@@ -125,7 +125,7 @@ pub enum ValidKind {
 }
 
 impl ValidKind {
-    /// The number by which replies name the kind, 1 to 11.
+    /// Returns the number by which replies name the kind, 1 to 11.
     pub fn number(self) -> u8
         ensures { result ≡ valid_number self }
     {
@@ -166,7 +166,7 @@ pub enum ImportFault {
 }
 
 impl ImportFault {
-    /// The number by which replies name the fault, 1 to 2.
+    /// Returns the number by which replies name the fault, 1 or 2.
     pub fn number(self) -> u8
         ensures { result ≡ import_number self }
     {

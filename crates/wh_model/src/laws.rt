@@ -6,7 +6,7 @@ ghost use Rattle.wh_model.specs.Laws.ReplayLaws.{OneBeginning, OneEnd, OneStandi
 ghost use Rattle.wh_model.specs.Laws.SoundnessLaws.{Preservation, ThreadPreservation, Progress, NeverStuck, StoresExtend, BeginsTyped, SpelledHasBytes, ReplaySoundness, NoCallSticks, AcceptedSoundness};
 ghost use Rattle.wh_model.specs.Laws.LinkingLaws.{OneFirstFault, LinksWithoutFault, SomeBeginning};
 
-/// What holds of reduction. The function does nothing; what it ensures are the laws.
+/// States what holds of reduction. Does nothing when run: its contract is the laws.
 pub fn execution_holds()
     ensures one_reduction { OneReduction }
     ensures small_charges { SmallCharges }
@@ -18,15 +18,16 @@ pub fn execution_holds()
     ensures one_need { OneNeed }
 {}
 
-/// Configurations read from their innermost instruction take the same steps as nested terms. The function does nothing;
-/// what it ensures are the laws.
+/// States that configurations read from their innermost instruction take the same steps as nested terms. Does nothing
+/// when run: its contract is the laws.
 pub fn focus_holds()
     ensures agrees { Agrees }
     ensures after_agrees { AfterAgrees }
     ensures charged_settles { ChargedSettles }
 {}
 
-/// What holds of instantiation, of journals and of data segments. The function does nothing; what it ensures are the laws.
+/// States what holds of instantiation, of journals and of data segments. Does nothing when run: its contract is the
+/// laws.
 pub fn journals_hold()
     ensures one_beginning { OneBeginning }
     ensures one_end { OneEnd }
@@ -54,14 +55,14 @@ pub fn journals_hold()
     ensures beginning_writes { BeginningWrites }
 {}
 
-/// What holds of linking and of what an instance begins with. The function does nothing; what it ensures are the laws.
+/// States what holds of linking and of an instance's initial state. Does nothing when run: its contract is the laws.
 pub fn linking_holds()
     ensures one_first_fault { OneFirstFault }
     ensures links_without_fault { LinksWithoutFault }
     ensures some_beginning { SomeBeginning }
 {}
 
-/// What is valid never gets stuck. The function does nothing; what it ensures are the laws.
+/// States that what is valid never gets stuck. Does nothing when run: its contract is the laws.
 pub fn soundness_holds()
     ensures preservation { Preservation }
     ensures thread_preservation { ThreadPreservation }

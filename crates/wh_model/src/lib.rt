@@ -59,7 +59,7 @@ pub enum Trap {
 }
 
 impl Trap {
-    /// The number by which replies name the trap, 1 to 10.
+    /// Returns the number by which replies name the trap, 1 to 10.
     pub fn number(self) -> u8
         ensures { result ≡ trap_number self }
     {
@@ -240,7 +240,7 @@ pub enum StoreOp {
     I64Store32,
 }
 
-/// What the first byte of an instruction stands for (5.4), before its immediates.
+/// What the first byte of an instruction encodes (5.4), before its immediates.
 #[derive(Clone, Copy, Debug, PartialEq, Eq)]
 pub enum Opcode {
     /// `unreachable`

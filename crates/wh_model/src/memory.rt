@@ -25,7 +25,7 @@ pub enum Got {
 /// How a growth ended (4.4.4).
 #[derive(Clone, Copy, Debug, PartialEq, Eq)]
 pub enum Grown {
-    /// It was done; before it there were so many pages of 65536 bytes.
+    /// It was done; before it there were this many pages of 65536 bytes.
     Done(u32),
     /// It would have passed the greatest size.
     Refused,

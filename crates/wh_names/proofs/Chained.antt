@@ -33,17 +33,6 @@ leads_before f b n link other leads = record {
   nearest = λ k low high is. leads.nearest k low (omega arith) is;
 }
 
--- no name is in empty buckets
-pub unchained : (f : ℕ → ℕ) (heads links : List ℕ) → ((bucket : ℕ) → get_or heads bucket 0 ≡ 0) → length links ≡ 0
-    → AreNameChains f heads links
-unchained f heads links empty none = record {
-  from_head = λ bucket less. record {
-    there = λ k e. let is = empty bucket in absurd (omega (arith, is, e));
-    nearest = λ k low high is. absurd (omega (arith, none, high));
-  };
-  from_name = λ k less. absurd (omega (arith, none, less));
-}
-
 -- names of the same buckets
 pub alike : (f g : ℕ → ℕ) (heads links : List ℕ) → ((k : ℕ) → k < length links → f k ≡ g k) → AreNameChains f heads links
     → AreNameChains g heads links

@@ -22,8 +22,7 @@ starts_within : (whole start : ℕ) (ends : List ℕ) → AreEnds whole start en
 starts_within whole start [] are = omega (arith, are)
 starts_within whole start (end ∷ ends) are =
     let later = starts_within whole end ends are.1 in
-    let first = are.0 in
-    omega (arith, later, first)
+    omega (arith, later, are.0)
 
 pub within : (whole start : ℕ) (ends : List ℕ) (k : ℕ) → AreEnds whole start ends → k < length ends
     → (get_or (start ∷ ends) k 0 ≤ get_or ends k 0) × (get_or ends k 0 ≤ whole)

@@ -40,8 +40,7 @@ pub there_from : (names : List (List ℕ)) (n bucket place link : ℕ) → Leads
     → place ≤ length names → (k : ℕ) → link ≡ k + 1 → (k < length names) × (bucket_at names n k ≡ bucket)
 there_from names n bucket place link leads few k e =
     let was = leads.there k e in
-    let less = was.0 in
-    (omega (arith, less, few), was.1)
+    (omega (arith, was.0, few), was.1)
 
 -- no name is past all
 pub without_past : (names : List (List ℕ)) (name : List ℕ) (k : ℕ) → length names ≤ k → slice_get names k ≢ Some name
@@ -83,9 +82,7 @@ index_fewer names name n c c2 index all last heads links pops =
     let m = length c.heads.items in
     let few = take n names in
     let short : length few ≡ n = length-take-le n names (omega (arith, all)) in
-    let many = index.links in
-    let roomy = index.buckets in
-    let place : length c.links.items - 1 ≡ n = omega (arith, many, all) in
+    let place : length c.links.items - 1 ≡ n = omega (arith, index.links, all) in
     let at : bucket_at names m (length c.links.items - 1) ≡ hash_of name % m =
     ap (bucket_at names m) place ∙ bucket_there names m n name last in
     let same : (k : ℕ) → k < length c2.links.items → bucket_at names m k ≡ bucket_at few m k =
@@ -94,7 +91,7 @@ index_fewer names name n c c2 index all last heads links pops =
     let chains = alike (bucket_at names m) (bucket_at few m) c2.heads.items c2.links.items same
     (pops (bucket_at names m) at index.chains) in
     record {
-      buckets = omega (arith, short, heads, roomy, all);
+      buckets = omega (arith, short, heads, index.buckets, all);
       links = omega (arith, short, links, place);
       chains = subst (λ k. AreNameChains (bucket_at few k) c2.heads.items c2.links.items) (sym heads) chains;
     }

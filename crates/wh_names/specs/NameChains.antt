@@ -6,7 +6,7 @@ pub record LeadsToName (bucket_of : ℕ → ℕ) (bucket place link : ℕ) : Typ
   pub there : (k : ℕ) → link ≡ k + 1 → (k < place) × (bucket_of k ≡ bucket)
   pub nearest : (k : ℕ) → link ≤ k → k < place → bucket_of k ≢ bucket
 
--- So the head of each bucket leads on from behind all names, and the link of each name from where this is.
+-- So the head of each bucket leads on from after all names, and the link of each name from where this is.
 pub record AreNameChains (bucket_of : ℕ → ℕ) (heads links : List ℕ) : Type 0 where
   pub from_head : (bucket : ℕ) → bucket < length heads
       → LeadsToName bucket_of bucket (length links) (slice_index heads bucket)

@@ -1,4 +1,4 @@
--- Texts one behind the other.
+-- Texts one after the other.
 use Rattle.std.specs.Prelude.{ℕ, ◌≡◌, ◌<◌, ◌≤◌, ◌^◌, List, [], ◌∷◌, length, slice_range}
 use Rattle.wh_names.specs.declared.texts.Texts.TheInside.{Inside}
 

@@ -15,7 +15,7 @@ fn hash_of(name: &[u8]) -> u64
     hasher.finish()
 }
 
-// The bucket of a name, one of so many.
+// The bucket of a name, one of `buckets`.
 pub(crate) fn bucket_of(name: &[u8], buckets: usize) -> usize
     requires { 0 < buckets }
     ensures { result ≡ hash_of name.now % buckets }

@@ -12,7 +12,7 @@ use std::marker::Model;
 
 /// Names in the order in which they were added, each once.
 ///
-/// Beside its bytes a name takes 12 bytes where all room is used, and at most 24.
+/// Besides its bytes a name takes 12 bytes where all room is used, and at most 24.
 #[derive(Drop)]
 pub struct Names {
     texts: Texts,
@@ -66,7 +66,7 @@ fn make_room(alloc: Global, chains: &mut Chains, texts: &Texts) -> Result<(), Al
 }
 
 impl Names {
-    /// No name yet.
+    /// Creates an empty list of names.
     pub fn new(alloc: Global) -> Names
         ensures { result ≡ [] }
     {
@@ -76,14 +76,14 @@ impl Names {
         }
     }
 
-    /// How many names there are.
+    /// Returns the number of names.
     pub fn len(&self) -> usize
         ensures { result ≡ length self.now }
     {
         self.texts.len()
     }
 
-    /// The place of a name, if it is there: how many names were added before it.
+    /// Returns the place of a name, if it is there: the number of names that were added before it.
     pub fn place(&self, name: &str) -> Option<usize>
         ensures { result ≡ place_of_name self.now name.now }
     {
@@ -123,7 +123,7 @@ impl Names {
         Ok(())
     }
 
-    /// Takes the last name away, if there is one.
+    /// Removes the last name, if there is one.
     pub fn remove_last(&mut self)
         ensures { self.new ≡ take (length self.old - 1) self.old }
     {

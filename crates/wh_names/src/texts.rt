@@ -1,4 +1,4 @@
-// Texts one behind the other.
+// Texts one after the other.
 
 ghost use Rattle.std.specs.Prelude.{◌≡◌, ◌-◌, ◌<◌, ◌≤◌, ◌∷◌, ◌++◌, [], Some, OnErr, OnOk, length, slice_get, slice_index, take};
 
@@ -8,7 +8,7 @@ use std::marker::Model;
 // Texts in their order, in one piece of memory.
 #[derive(Drop)]
 pub(crate) struct Texts {
-    // The bytes of all of them, one behind the other.
+    // The bytes of all of them, one after the other.
     bytes: Vec<u8>,
     // Where each ends.
     ends: Vec<u32>,
@@ -65,7 +65,7 @@ impl Texts {
         &self.bytes[start..end]
     }
 
-    // Puts one more behind the others. Room may be refused, also where there would be more than 2^32 - 1 bytes.
+    // Puts one more after the others. Room may be refused, also where there would be more than 2^32 - 1 bytes.
     pub(crate) fn add(&mut self, text: &[u8]) -> Result<(), AllocError>
         ensures ok { OnOk result (self.new ≡ self.old ++ text.now ∷ []) }
         ensures err { OnErr result (self.new ≡ self.old) }

@@ -2,8 +2,8 @@
 use Rattle.std.proofs.Common.{◌≡◌, ◌∙◌, ℕ, ◌+◌, ◌-◌, ◌≤◌, List, [], ◌∷◌, ◌++◌, length, replicate, take, drop, zero, suc, refl, sym, ap, arith, length-append}
 use Rattle.std.proofs.Math.Seq.{drop-append-add}
 use Rattle.std.proofs.lemmas.List.{take-append-le, drop-append-le, length-take-le, length-drop, take_rest, take-replicate, drop-replicate}
-use Rattle.wh_model.specs.Execution.Store.{bytes_at, written}
-use Rattle.wh_host_model.proofs.Space.Blocks.{written_before, written_after}
+use Rattle.wh_model.specs.Execution.{bytes_at, written}
+use Rattle.wh_space_model.proofs.Blocks.{written_before, written_after}
 
 -- ---- a list in three parts
 
@@ -100,10 +100,9 @@ pub read_behind : (xs g : List ℕ) (at k n : ℕ) → at + length g ≤ length 
 read_behind xs g at k n within behind =
     let c = cut xs at (length g) within in
     let begins = c.begins in
-    let long = c.long in
     let j = k - (at + length g) in
     let first : k ≡ length c.before + (length g + j) = omega (arith, begins, behind) in
-    let second : k ≡ length c.before + (length c.mid + j) = omega (arith, begins, long, behind) in
+    let second : k ≡ length c.before + (length c.mid + j) = omega (arith, begins, c.long, behind) in
     ap (λ z. bytes_at z k n) (written_cut xs g at c) ∙ ap (λ z. bytes_at (c.before ++ (g ++ c.behind)) z n) first
     ∙ read_past c.before (g ++ c.behind) (length g + j) n ∙ read_past g c.behind j n
     ∙ sym (ap (λ z. bytes_at z k n) c.is ∙ ap (λ z. bytes_at (c.before ++ (c.mid ++ c.behind)) z n) second

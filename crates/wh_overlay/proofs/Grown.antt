@@ -1,14 +1,12 @@
--- A memory that has grown where it is laid back.
+-- A memory that has grown where it is written back.
 use Rattle.std.proofs.Common.{◌≡◌, ◌∙◌, ℕ, ◌+◌, ◌-◌, ◌*◌, ◌/◌, ◌<◌, ◌≤◌, Bool, true, false, List, [], ◌∷◌, ◌++◌, Option, None, Some, length, get_or, replicate, slice_get, zero, suc, refl, ap, arith}
 use Rattle.wh_model.specs.declared.memory.Grown.{Grown}
 use Rattle.wh_model.specs.declared.memory.Grown.TheVariants.{Done, Refused}
-use Rattle.wh_model.specs.Execution.Memory.{Grows}
-use Rattle.wh_host_model.specs.declared.states.Page.{Page}
-use Rattle.wh_host_model.specs.declared.states.Page.TheVariants.{Untouched}
-use Rattle.wh_host_model.specs.Space.Parts.{Occupant, Space, claim_of, view}
-use Rattle.wh_host_model.specs.Space.Sound.{IsSound}
-use Rattle.wh_host_model.specs.Space.States.{page_at}
-use Rattle.wh_host_model.proofs.Space.Putting.{is_page, there_of}
+use Rattle.wh_model.specs.Execution.{Grows}
+use Rattle.wh_space_model.specs.declared.states.Page.{Page}
+use Rattle.wh_space_model.specs.declared.states.Page.TheVariants.{Untouched}
+use Rattle.wh_space_model.specs.{Occupant, Space, claim_of, view, IsSound, page_at}
+use Rattle.wh_space_model.proofs.Putting.{is_page, there_of}
 use Rattle.wh_space.specs.Steps.{LeavesGrowth, limit_by, page_limit}
 use Rattle.wh_overlay.specs.LaidPages.{grown_by}
 use Rattle.wh_overlay.proofs.Marks.{got_there, got_elsewhere}
@@ -51,9 +49,8 @@ pub come_behind : (s s2 : Space) (i n before p : ℕ) {t : Option Occupant} → 
     → p < length (get_or s.tables i []) + 16 * n → page_at s2.tables i p ≡ Some Untouched
 come_behind s s2 i n before p {t} grew sound there least less =
     let row = get_or s.tables i [] in
-    let tables = sound.occupants.tables in
     let known = there_of s.occupants i t there in
-    let within : i < length s.tables = omega (arith, tables, known) in
+    let within : i < length s.tables = omega (arith, sound.occupants.tables, known) in
     ap (λ (z : Space). page_at z.tables i p) grew ∙ ap (λ t. slice_get t p) (got_there s.tables i (row ++ replicate (16 * n) Untouched) [] within)
     ∙ behind row (replicate (16 * n) Untouched) p least ∙ repeated (16 * n) Untouched (p - length row) (omega (arith, least, less))
 

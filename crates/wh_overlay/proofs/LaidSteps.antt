@@ -1,4 +1,4 @@
--- Steps by which what was written beside a memory is laid back, and several one after the other.
+-- Steps by which what was written beside a memory is written back, and several one after the other.
 use Rattle.std.proofs.Common.{◌≡◌, ◌≢◌, ◌∙◌, ◌⊎◌, inl, inr, ℕ, ◌+◌, ◌*◌, ◌/◌, ◌%◌, ◌<◌, ◌≤◌, Bool, true, false, List, [], ◌∷◌, ◌++◌, Option, None, Some, length, length-append, get_or, replicate, slice_get, zero, suc, refl, sym, ap, subst, arith}
 use Rattle.std.proofs.lemmas.Bool.{cases_eq}
 use Rattle.std.proofs.lemmas.Bool.Decides.{nat_tests}
@@ -6,25 +6,20 @@ use Rattle.wh_model.specs.declared.memory.Got.{Got}
 use Rattle.wh_model.specs.declared.memory.Got.TheVariants.{Value, Trap, NotReady}
 use Rattle.wh_model.specs.declared.memory.Grown.{Grown}
 use Rattle.wh_model.specs.declared.memory.Grown.TheVariants.{Done, Refused}
-use Rattle.wh_model.specs.Execution.Memory.{Stores, reading, writing}
-use Rattle.wh_model.specs.Execution.Store.{written}
-use Rattle.wh_host_model.specs.declared.states.Page.{Page}
-use Rattle.wh_host_model.specs.declared.states.Page.TheVariants.{Untouched, Private, Shared, Leaving, LeavingShared, Coming, Swapped}
-use Rattle.wh_host_model.specs.Pages.{zero_page}
-use Rattle.wh_host_model.specs.Space.Breaks.{Breaks, BreaksEach, GetsFrame, LeavesSharers, TakesFrame, with_fewer}
-use Rattle.wh_host_model.specs.Space.Charges.{IsTouched}
-use Rattle.wh_host_model.specs.Space.Parts.{Space, frame_bytes, sharers, view}
-use Rattle.wh_host_model.specs.Space.Ready.{IsAtHand, Ready, copies, pages_of_need}
-use Rattle.wh_host_model.specs.Space.Sound.{IsSound}
-use Rattle.wh_host_model.specs.Space.States.{at, joined, page_at, put, untouched}
-use Rattle.wh_host_model.specs.Space.Stores.{Overwrites, Touches, touching}
-use Rattle.wh_host_model.proofs.Tally.{one_same, one_other, tally-append}
-use Rattle.wh_host_model.proofs.Space.Counting.{frames_one_page, shared_frame, single}
-use Rattle.wh_host_model.proofs.Space.Filled.{stores_are_right}
-use Rattle.wh_host_model.proofs.Space.Filling.{at_hand}
-use Rattle.wh_host_model.proofs.Space.Putting.{is_page, put_other, put_this}
-use Rattle.wh_host_model.proofs.Space.Quiet.{steps_quiet}
-use Rattle.wh_host_model.proofs.Space.Reading.{on_one_page, view_length}
+use Rattle.wh_model.specs.Execution.Memory.{writing}
+use Rattle.wh_model.specs.Execution.{Stores, reading, written}
+use Rattle.wh_space_model.specs.declared.states.Page.{Page}
+use Rattle.wh_space_model.specs.declared.states.Page.TheVariants.{Untouched, Private, Shared, Leaving, LeavingShared, Coming, Swapped}
+use Rattle.wh_space_model.specs.{zero_page, BreaksEach, GetsFrame, LeavesSharers, TakesFrame, with_fewer, IsTouched, Space, frame_bytes, sharers, view, IsAtHand, copies, pages_of_need, IsSound, at, joined, page_at, put, untouched, Overwrites, Touches, touching}
+use Rattle.wh_space_model.specs.Breaks.{Breaks}
+use Rattle.wh_space_model.specs.Ready.{Ready}
+use Rattle.wh_space_model.proofs.Tally.{one_same, one_other, tally-append}
+use Rattle.wh_space_model.proofs.Counting.{frames_one_page, shared_frame, single}
+use Rattle.wh_space_model.proofs.Filled.{stores_are_right}
+use Rattle.wh_space_model.proofs.Filling.{at_hand}
+use Rattle.wh_space_model.proofs.Putting.{is_page, put_other, put_this}
+use Rattle.wh_space_model.proofs.Quiet.{steps_quiet}
+use Rattle.wh_space_model.proofs.Reading.{on_one_page, view_length}
 use Rattle.wh_space.specs.Steps.{CanBreak, CanStep, LeavesGrowth, LeavesStore}
 use Rattle.wh_space.specs.StepViews.{keeps_all, keeps_on}
 use Rattle.wh_space.proofs.Keeping.{keeps_growth, keeps_load, keeps_store}
@@ -332,10 +327,9 @@ laid_on s i g rs ts us b c xs ys m m2 first second reads hand = record {
   ];
   free =
       (let one = first.free in
-      let two = second.free in
       let less = lacking_less s m i ys first.alone hand in
       let sum = tally-append (λ (x : WrittenPage). at lacks_frame (page_at s.tables i x.number)) xs ys in
-      omega (arith, one, two, less, sum));
+      omega (arith, one, second.free, less, sum));
   at_hand = λ p is. second.at_hand p (first.at_hand p is);
   come = λ p least less. second.at_hand p (first.come p least less);
   alone = λ p is. second.alone p (first.alone p is);

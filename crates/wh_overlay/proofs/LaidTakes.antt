@@ -1,21 +1,13 @@
--- What a call comes to over a memory, it comes to in the memory itself, once what was written is laid back.
+-- What a call comes to over a memory, it comes to in the memory itself, once what was written is written back.
 use Rattle.std.proofs.Common.{◌≡◌, ◌∙◌, inl, inr, ℕ, ◌/◌, ◌≤◌, Bool, true, false, cond, List, [], Option, None, length, get_or, reverse, slice_get, zero, suc, refl, sym, ap, subst, arith}
 use Rattle.wh_model.specs.declared.memory.Need.{Need}
-use Rattle.wh_model.specs.Format.Syntax.{nothing}
+use Rattle.wh_model.specs.Format.{nothing}
 use Rattle.wh_model.specs.Execution.Store.{Instance}
-use Rattle.wh_model.specs.Execution.Configuration.{Term, code, Config, config, trapped}
-use Rattle.wh_model.specs.Execution.Reduction.{After, IsNext}
-use Rattle.wh_model.specs.Execution.Asking.{Asks}
-use Rattle.wh_model.specs.Execution.Replay.{Call}
-use Rattle.wh_model.specs.Execution.Taking.{Takes, took_all, took}
+use Rattle.wh_model.specs.Execution.{Term, code, Config, config, trapped, After, IsNext, Asks, Call, Takes, took_all, took}
 use Rattle.wh_model.proofs.Asked.{one_need}
-use Rattle.wh_host_model.specs.Host.Spaces.{StepsAlone}
-use Rattle.wh_host_model.specs.Host.Turns.{Opens, as_it_was, Computes, Upshot, Proceeds, returns, traps, writes_all, uses_fuel, waits, waits_to_write, has_had_its_turn}
-use Rattle.wh_host_model.specs.Host.Worlds.{Rest, Doing, computing, store_with}
-use Rattle.wh_host_model.specs.Space.Parts.{Occupant, Space, claim_of, need_of, promised_to, view}
-use Rattle.wh_host_model.specs.Space.Ready.{IsAtHand, Ready}
-use Rattle.wh_host_model.specs.Space.Sound.{IsSound}
-use Rattle.wh_host_model.specs.Space.States.{page_at}
+use Rattle.wh_host_model.specs.Host.{StepsAlone, Opens, as_it_was, Computes, Upshot, Proceeds, returns, traps, writes_all, uses_fuel, waits, waits_to_write, has_had_its_turn, Rest, Doing, computing, store_with}
+use Rattle.wh_space_model.specs.{Occupant, Space, claim_of, need_of, promised_to, view, IsAtHand, IsSound, page_at}
+use Rattle.wh_space_model.specs.Ready.{Ready}
 use Rattle.wh_space.specs.Steps.{limit_by, page_limit}
 use Rattle.wh_overlay.specs.LaidPages.{UpperState, with_upper}
 use Rattle.wh_overlay.specs.LaidBack.{ComesThere, IsLaid, LiesOver, LooksSame}
@@ -62,7 +54,7 @@ step_there s s2 i u need looks (inr (within, can)) = inr (within, by need.writes
     by true (inr (inl own, less, room)) = inr (inl (own.0, page_same s s2 i (need.at / 4096) looks ∙ own.1), less, room)
     by true (inr (inr (hand, left), less, room)) = inr (inr (subst IsAtHand (sym (page_same s s2 i (need.at / 4096) looks)) hand, left), less, room)
 
--- ---- between two memories in which it is laid back
+-- ---- between two memories in which it is written back
 
 steps_between : (s a b : Space) (i : ℕ) (u v : UpperState) → IsSound s → IsLaid s i u a → IsLaid s i v b → StepsAlone i a b
 steps_between s a b i u v sound first second =
@@ -89,11 +81,10 @@ over_next s i o p lies same =
     let place : p.place ≡ i = same.place ∙ lies.place in
     let was = subst (λ z. IsWholeOver z o.place o.upper) (sym lies.lower) (subst (λ z. IsWholeOver s z o.upper) (sym lies.place) lies.whole) in
     let lent = same.lent in
-    let few = lies.lent in
     record {
       lower = lower;
       place = place;
-      lent = omega (arith, lent, few);
+      lent = omega (arith, lent, lies.lent);
       whole = subst (λ z. IsWholeOver s z p.upper) place (subst (λ z. IsWholeOver z p.place p.upper) lower (same.stays was));
     }
 
@@ -141,7 +132,7 @@ opens_same : {inst : Instance} {call : Call} {m m1 : OverlayState} {r : Rest} {t
     → (m1 ≡ m) × Opens (λ x. view x i) (λ x. Ready x i) (StepsAlone i) inst call start r (computing term) k start c
 opens_same {inst = inst} {r = r} i start same (as_it_was {term = term} {c1 = c1} after) = (refl, as_it_was (subst (λ b. After inst (config (store_with b r) [] term) 0 c1) same after))
 
--- over one memory, and laid back into another one that is as good
+-- over one memory, and written back into another one that is as good
 pub record Laying (s base : Space) (i : ℕ) (m m2 : OverlayState) (n : ℕ) (start end : Space) : Type 0 where
   pub looks : LooksSame i s base
   pub sound : IsSound base
@@ -185,7 +176,7 @@ proceeds_none none (waits x next some asks never) = computes_none none x
 proceeds_none none (waits_to_write d w never) = absurd (cc d)
 proceeds_none none (has_had_its_turn x next all some at_hand) = computes_none none x
 
--- ---- the whole turn, laid back
+-- ---- the whole turn, written back
 
 -- so a turn over a memory comes there to what it has come to
 pub proceeds_laid : (s base : Space) (i : ℕ) (start end : Space) {inst : Instance} {q k n : ℕ} {call : Call} {m m2 : OverlayState} {r r2 : Rest} {term : Term} {d2 : Doing} {to : Upshot} → Laying s base i m m2 n start end → Proceeds sees IsReadyOver IsOverSame inst q call m r (computing term) to k n m2 r2 d2

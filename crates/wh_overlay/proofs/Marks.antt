@@ -1,10 +1,10 @@
 -- The marks of pages that were read and written.
 use Rattle.std.proofs.Common.{◌≡◌, ◌≢◌, ◌∙◌, ◌⊎◌, inl, inr, ℕ, ◌+◌, ◌<◌, ◌≤◌, List, [], ◌∷◌, ◌++◌, Some, length, length-append, get_or, slice_get, slice_set, take, zero, suc, refl, sym, ap, subst, arith}
 use Rattle.std.proofs.lemmas.Bool.{cases_eq, cases_lt}
-use Rattle.wh_host_model.proofs.Space.Putting.{set_other, there_of}
+use Rattle.wh_space_model.proofs.Putting.{set_other, there_of}
 use Rattle.wh_overlay.specs.declared.upper.WrittenPage.{WrittenPage}
-use Rattle.wh_host_model.specs.Frames.{tally}
-use Rattle.wh_host_model.proofs.Space.Sums.{set_tally}
+use Rattle.wh_space_model.specs.{tally}
+use Rattle.wh_space_model.proofs.Sums.{set_tally}
 use Rattle.wh_overlay.specs.LaidPages.{AreNoted, IsMarked, IsAmong, IsNoted, IsWrittenAt, has_mark}
 
 -- ---- lists
@@ -230,9 +230,6 @@ read_before_end reads number p (k, there) = (k, in_front_of reads k p there)
     in_front_of : (xs : List ℕ) (k x : ℕ) → slice_get xs k ≡ Some x → slice_get (xs ++ number ∷ []) k ≡ Some x
     in_front_of xs k x there = still_there xs number x k there
 
-pub read_last : (reads : List ℕ) (number : ℕ) → IsNoted (reads ++ number ∷ []) number
-read_last reads number = (length reads, last_there reads number)
-
 pub read_or_last : (reads : List ℕ) (number p : ℕ) → IsNoted (reads ++ number ∷ []) p → IsNoted reads p ⊎ (p ≡ number)
 read_or_last reads number p (k, there) = elim (was_there reads number p k there) [
   | inl before ↦ inl (k, before)
@@ -247,9 +244,8 @@ noted_read reads marks number is less none = record {
   ];
   many =
       (let more = marks_more marks number 1 less none (omega arith) in
-      let had = is.many in
       let long = length-append reads (number ∷ []) in
-      omega (arith, more, had, long));
+      omega (arith, more, is.many, long));
 }
 
 pub noted_new : (reads marks : List ℕ) (number mark : ℕ) → AreNoted reads marks → number < length marks → 2 ≤ mark → AreNoted reads (slice_set marks number mark)

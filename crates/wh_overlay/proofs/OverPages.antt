@@ -1,7 +1,7 @@
 -- What is read of a memory with pages over it, and what is written there.
 use Rattle.std.proofs.Common.{◌≡◌, ◌≢◌, ◌∙◌, inl, inr, ℕ, ◌+◌, ◌*◌, ◌≤◌, ◌<◌, List, [], ◌∷◌, ◌++◌, Some, length, slice_get, slice_set, zero, suc, refl, sym, ap, subst, arith}
 use Rattle.std.proofs.lemmas.Bool.{cases_lt}
-use Rattle.wh_model.specs.Execution.Store.{bytes_at, written}
+use Rattle.wh_model.specs.Execution.{bytes_at, written}
 use Rattle.wh_overlay.specs.declared.upper.WrittenPage.{WrittenPage}
 use Rattle.wh_overlay.specs.LaidPages.{AreWrittenOnce, FitIn, IsAmong, laid_over}
 use Rattle.wh_overlay.proofs.Bytes.{read_before, read_behind, read_written, written_apart, written_inside, written_length, written_same}
@@ -31,8 +31,7 @@ pub laid_length : (v : List ℕ) (xs : List WrittenPage) → FitIn (length v) xs
 laid_length v [] fit = refl
 laid_length v (x ∷ xs) fit =
     let first = fit 0 x refl in
-    let one = first.0 in
-    laid_length (written v (4096 * x.number) x.bytes) xs (rest_fits v x xs fit) ∙ written_length v x.bytes (4096 * x.number) (omega (arith, one, first.1))
+    laid_length (written v (4096 * x.number) x.bytes) xs (rest_fits v x xs fit) ∙ written_length v x.bytes (4096 * x.number) (omega (arith, first.0, first.1))
 
 -- ---- another page
 
@@ -79,8 +78,7 @@ write_other : (v g : List ℕ) (xs : List WrittenPage) (p k : ℕ) → FitIn (le
 write_other v g [] p k fit never within inside = refl
 write_other v g (x ∷ xs) p k fit never within inside =
     let first = fit 0 x refl in
-    let one = first.0 in
-    let same = written_length v x.bytes (4096 * x.number) (omega (arith, one, first.1)) in
+    let same = written_length v x.bytes (4096 * x.number) (omega (arith, first.0, first.1)) in
     ap (λ z. laid_over z xs) (write_apart v x.bytes g x.number p k first.0 first.1 within (not_first x xs p never) inside)
     ∙ write_other (written v (4096 * x.number) x.bytes) g xs p k (rest_fits v x xs fit) (rest_apart x xs p never) (omega (arith, same, within)) inside
 
@@ -123,9 +121,8 @@ pub add_same : (v : List ℕ) (xs : List WrittenPage) (x : WrittenPage) → FitI
 add_same v [] x fit never within same = ap (written v (4096 * x.number)) same ∙ written_same v (4096 * x.number) 4096 within
 add_same v (y ∷ xs) x fit never within same =
     let first = fit 0 y refl in
-    let one = first.0 in
     let zero_in : 4096 * x.number + 0 ≡ 4096 * x.number = omega arith in
     let as_was = page_apart v y.bytes y.number x.number 0 4096 first.0 first.1 (not_first y xs x.number never) (omega arith) in
     let there : bytes_at (written v (4096 * y.number) y.bytes) (4096 * x.number) 4096 ≡ bytes_at v (4096 * x.number) 4096 = subst (λ z. bytes_at (written v (4096 * y.number) y.bytes) z 4096 ≡ bytes_at v z 4096) zero_in as_was in
-    let long = written_length v y.bytes (4096 * y.number) (omega (arith, one, first.1)) in
+    let long = written_length v y.bytes (4096 * y.number) (omega (arith, first.0, first.1)) in
     add_same (written v (4096 * y.number) y.bytes) xs x (rest_fits v y xs fit) (rest_apart y xs x.number never) (omega (arith, long, within)) (same ∙ sym there)

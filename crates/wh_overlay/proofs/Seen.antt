@@ -1,18 +1,15 @@
 -- What an instance sees of a memory with what is written beside it.
 use Rattle.std.proofs.Common.{◌≡◌, ◌∙◌, inl, inr, ℕ, ◌+◌, ◌-◌, ◌*◌, ◌<◌, ◌≤◌, List, [], ◌∷◌, ◌++◌, Some, length, get_or, replicate, slice_get, slice_set, refl, sym, ap, subst, zero, suc, arith, length-append, append_assoc}
 use Rattle.std.proofs.lemmas.List.{length-replicate}
-use Rattle.wh_model.specs.Execution.Store.{bytes_at, written}
-use Rattle.wh_host_model.specs.declared.states.Page.TheVariants.{Private}
-use Rattle.wh_host_model.specs.Space.Parts.{Space, view}
-use Rattle.wh_host_model.specs.Space.Ready.{IsAtHand}
-use Rattle.wh_host_model.specs.Space.Sound.{IsSound}
-use Rattle.wh_host_model.specs.Space.States.{at, page_at}
-use Rattle.wh_host_model.proofs.Tally.{tally-append}
-use Rattle.wh_host_model.proofs.Space.Blocks.{written_before}
-use Rattle.wh_host_model.proofs.Space.Filling.{at_hand}
-use Rattle.wh_host_model.proofs.Space.Putting.{is_page, set_other}
-use Rattle.wh_host_model.proofs.Space.Reading.{view_length}
-use Rattle.wh_host_model.proofs.Space.Sums.{set_tally}
+use Rattle.wh_model.specs.Execution.{bytes_at, written}
+use Rattle.wh_space_model.specs.declared.states.Page.TheVariants.{Private}
+use Rattle.wh_space_model.specs.{Space, view, IsAtHand, IsSound, at, page_at}
+use Rattle.wh_space_model.proofs.Tally.{tally-append}
+use Rattle.wh_space_model.proofs.Blocks.{written_before}
+use Rattle.wh_space_model.proofs.Filling.{at_hand}
+use Rattle.wh_space_model.proofs.Putting.{is_page, set_other}
+use Rattle.wh_space_model.proofs.Reading.{view_length}
+use Rattle.wh_space_model.proofs.Sums.{set_tally}
 use Rattle.wh_overlay.specs.declared.upper.WrittenPage.{WrittenPage}
 use Rattle.wh_overlay.specs.LaidPages.{AreWrittenOnce, AreWhole, FitIn, IsAmong, IsNoted, IsWrittenAt, NotesRead, UpperState, grown_by, laid_over, with_upper}
 use Rattle.wh_overlay.specs.Over.{AreAtHand, CanWrite, HasCome, IsOver, IsOverSame, IsThereToRead, IsWholeOver, ReadsAreThere, frames_lacking, lacks_frame}
@@ -104,10 +101,6 @@ noted_over s i u v p over there (inr is) = subst (IsOver s i) (sym is) (record {
   limited = over.limited;
 })
 
-pub noted_pages : (u v : UpperState) (p : ℕ) → NotesRead u p v → v.pages ≡ u.pages
-noted_pages u v p (inl (same, known)) = ap (λ (z : UpperState). z.pages) same
-noted_pages u v p (inr is) = ap (λ (z : UpperState). z.pages) is
-
 pub noted_lent : (u v : UpperState) (p : ℕ) → NotesRead u p v → v.lent ≡ u.lent
 noted_lent u v p (inl (same, known)) = ap (λ (z : UpperState). z.lent) same
 noted_lent u v p (inr is) = ap (λ (z : UpperState). z.lent) is
@@ -115,10 +108,6 @@ noted_lent u v p (inr is) = ap (λ (z : UpperState). z.lent) is
 pub noted_reads : (u v : UpperState) (p q : ℕ) → NotesRead u p v → IsNoted u.reads q → IsNoted v.reads q
 noted_reads u v p q (inl (same, known)) read = subst (λ (z : UpperState). IsNoted z.reads q) (sym same) read
 noted_reads u v p q (inr is) read = subst (λ (z : UpperState). IsNoted z.reads q) (sym is) (read_before_end u.reads p q read)
-
-pub noted_seen : (bytes : List ℕ) (u v : UpperState) (p : ℕ) → NotesRead u p v → with_upper bytes v ≡ with_upper bytes u
-noted_seen bytes u v p (inl (same, known)) = ap (with_upper bytes) same
-noted_seen bytes u v p (inr is) = ap (with_upper bytes) is
 
 -- and takes a frame where it may have to get one
 pub added_over : (s : Space) (i : ℕ) (u v : UpperState) (p n : ℕ) (bytes : List ℕ) → IsOver s i u → IsAtHand (page_at s.tables i p) → at lacks_frame (page_at s.tables i p) ≤ n → u.taken + n ≤ u.lent

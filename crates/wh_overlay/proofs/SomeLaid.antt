@@ -1,23 +1,19 @@
--- Where what is written beside a memory can be laid back, there is a memory in which it is, and there is ready what was over it.
+-- Where what is written beside a memory can be written back, there is a memory in which it is, and there is ready what was over it.
 use Rattle.std.proofs.Common.{◌≡◌, ◌∙◌, inl, inr, ℕ, ◌+◌, ◌*◌, ◌/◌, ◌%◌, ◌<◌, ◌⊎◌, ◌≤◌, Bool, true, false, cond, List, [], ◌∷◌, ◌++◌, length, get_or, replicate, slice_set, zero, suc, refl, sym, ap, subst, arith}
 use Rattle.std.proofs.lemmas.Bool.{cases_lt}
 use Rattle.wh_model.specs.declared.memory.Got.{Got}
 use Rattle.wh_model.specs.declared.memory.Got.TheVariants.{Value, Trap, NotReady}
 use Rattle.wh_model.specs.declared.memory.Need.{Need}
 use Rattle.wh_model.specs.declared.memory.Grown.TheVariants.{Done}
-use Rattle.wh_model.specs.Execution.Store.{written}
-use Rattle.wh_host_model.specs.declared.states.Page.TheVariants.{Untouched}
-use Rattle.wh_host_model.specs.Space.Parts.{Space, view}
-use Rattle.wh_model.specs.Execution.Memory.{Loads, reading}
-use Rattle.wh_host_model.specs.Space.Ready.{IsAtHand, Ready, pages_of_need}
-use Rattle.wh_host_model.specs.Space.Stores.{Touches, touching}
-use Rattle.wh_host_model.specs.Space.Sound.{IsSound}
-use Rattle.wh_host_model.specs.Space.States.{at, page_at}
-use Rattle.wh_host_model.proofs.Space.Deciding.{no_bytes_are_ready}
-use Rattle.wh_host_model.proofs.Space.Enlarged.{grows_by_zeros, grows_soundly}
-use Rattle.wh_host_model.proofs.Space.Reading.{on_one_page, view_length}
-use Rattle.wh_host_model.proofs.Space.Filling.{at_hand, some_store}
-use Rattle.wh_host_model.proofs.Space.Putting.{is_page}
+use Rattle.wh_model.specs.Execution.{written, Loads, reading}
+use Rattle.wh_space_model.specs.declared.states.Page.TheVariants.{Untouched}
+use Rattle.wh_space_model.specs.{Space, view, IsAtHand, pages_of_need, Touches, touching, IsSound, at, page_at}
+use Rattle.wh_space_model.specs.Ready.{Ready}
+use Rattle.wh_space_model.proofs.Deciding.{no_bytes_are_ready}
+use Rattle.wh_space_model.proofs.Enlarged.{grows_by_zeros, grows_soundly}
+use Rattle.wh_space_model.proofs.Reading.{on_one_page, view_length}
+use Rattle.wh_space_model.proofs.Filling.{at_hand, some_store}
+use Rattle.wh_space_model.proofs.Putting.{is_page}
 use Rattle.wh_space.specs.Steps.{CanBreak, CanStep, LeavesLoad, page_limit}
 use Rattle.wh_space.proofs.Blocks.{can_break}
 use Rattle.wh_space.proofs.Loading.{one_hand}
@@ -25,7 +21,7 @@ use Rattle.wh_space.proofs.Storing.{can_step_one}
 use Rattle.wh_overlay.specs.declared.upper.WrittenPage.{WrittenPage}
 use Rattle.wh_overlay.specs.LaidPages.{AreWhole, IsAmong, IsNoted, UpperState, grown_by, laid_over}
 use Rattle.wh_overlay.specs.LaidBack.{HasLaid, IsLaid}
-use Rattle.wh_overlay.specs.Over.{AreAtHand, CanRead, CanStepOver, CanWrite, IsOnItsOwn, IsOver, IsThereToRead, IsWholeOver, ReadsAreThere, frames_lacking, lacks_frame}
+use Rattle.wh_overlay.specs.Over.{AreAtHand, CanRead, CanStepOver, CanWrite, IsOnItsOwn, IsOver, IsThereToRead, IsWholeOver, frames_lacking, lacks_frame}
 use Rattle.wh_overlay.proofs.Grown.{come_behind, lives}
 use Rattle.wh_overlay.proofs.LaidSteps.{can_be_written, growth_step, lacking_less, lacks_most, laid_on, no_growth, no_step, page_ready, page_step, touch_step}
 
@@ -40,7 +36,7 @@ pub there_then : (s : Space) (i : ℕ) (u : UpperState) (p : ℕ) (m : Space) �
 there_then s i u p m stay come (inl hand) = stay p hand
 there_then s i u p m stay come (inr (least, less)) = come p least less
 
--- what is ready over a memory is ready once it is laid back, where the frames that are lent are free
+-- what is ready over a memory is ready once it is written back, where the frames that are lent are free
 pub laid_ready : (s : Space) (i : ℕ) (u : UpperState) (s2 : Space) (need : Need) → IsSound s → IsOver s i u → u.lent ≤ length s.pool.free → IsLaid s i u s2 → CanStepOver s i u need → Ready s2 i need
 laid_ready s i u s2 need sound over room laid (inl none) = no_bytes_are_ready s2 i need none
 laid_ready s i u s2 need sound over room laid (inr (within, can)) = elim (cases_lt 0 need.length) [
@@ -61,10 +57,8 @@ laid_ready s i u s2 need sound over room laid (inr (within, can)) = elim (cases_
     can_be (inl here) = breaks (among here)
     can_be (inr (inl own, less, room)) = breaks (laid.alone p own)
     can_be (inr (inr (hand, left), less, some)) =
-        let free = laid.free in
-        let frames = over.frames in
         let most = lacks_most (page_at s2.tables i p) in
-        can_be_written s2 i p (laid.keeps.sound sound) (laid.at_hand p hand) (omega (arith, free, frames, left, room, most))
+        can_be_written s2 i p (laid.keeps.sound sound) (laid.at_hand p hand) (omega (arith, laid.free, over.frames, left, room, most))
 
     there_at_hand : CanRead s i u p → IsAtHand (page_at s2.tables i p)
     there_at_hand (inl here) = let own = among here in subst IsAtHand (sym own.1) refl
@@ -87,8 +81,7 @@ grown_laid s i (suc k) sound limited =
       touched = slice_set s.touched i (get_or s.touched i [] ++ replicate (16 * n) false);
     } in
     let long = view_length s i sound in
-    let limit = it.limit in
-    let fits : length (get_or s.tables i []) + 16 * n ≤ it.occupant.max = omega (arith, within, long, limit) in
+    let fits : length (get_or s.tables i []) + 16 * n ≤ it.occupant.max = omega (arith, within, long, it.limit) in
     let sound2 : IsSound m = grows_soundly s i n it.occupant m sound it.there it.live fits refl in
     let many : 65536 * n ≡ n * 65536 = omega arith in
     let sees : view m i ≡ grown_by (view s i) n = grows_by_zeros s i n it.occupant m sound it.there refl ∙ ap (λ z. view s i ++ replicate z 0) many in
@@ -113,8 +106,7 @@ each_laid s i (x ∷ xs) sound hand whole some =
     let others : AreAtHand s i xs = λ k y there. hand (suc k) y there in
     let then : AreAtHand m i xs = λ k y there. h.at_hand y.number (others k y there) in
     let less = lacking_less s m i xs h.alone others in
-    let free = h.free in
-    let rest = each_laid m i xs (h.keeps.sound sound) then (λ k y there. whole (suc k) y there) (omega (arith, some, less, free)) in
+    let rest = each_laid m i xs (h.keeps.sound sound) then (λ k y there. whole (suc k) y there) (omega (arith, some, less, h.free)) in
     let all = laid_on s i 0 [] [] [] (written (view s i) (4096 * x.number) x.bytes) (laid_over (view m i) xs) (x ∷ []) xs m rest.0 h rest.1 (λ p is. inl is) others in
     (rest.0, subst (λ b. HasLaid s i 0 [] b (x ∷ xs) rest.0) (ap (λ b. laid_over b xs) h.sees) all)
 
@@ -155,10 +147,7 @@ some_laid s i u sound (over, whole) room =
     let hand = over.at_hand in
     let then : AreAtHand m i u.pages = λ k y there. h.at_hand y.number (hand k y there) in
     let less = lacking_less s m i u.pages h.alone hand in
-    let free = h.free in
-    let frames = over.frames in
-    let lent = over.lent in
-    let rest = each_laid m i u.pages (h.keeps.sound sound) then whole (omega (arith, frames, lent, room, less, free)) in
+    let rest = each_laid m i u.pages (h.keeps.sound sound) then whole (omega (arith, over.frames, over.lent, room, less, h.free)) in
     (rest.0, then_written s m rest.0 i u.grown u.reads u.pages h rest.1 hand)
 
 -- where nothing was written and nothing read it is the one that there was
@@ -174,8 +163,7 @@ is_loaded s i p k Trap into into2 s2 sound hand at one loads leaves = absurd (
     let on = at_hand (page_at s.tables i p) hand in
     let less = (is_page s.tables i p on.0 on.1).1 in
     let long = view_length s i sound in
-    let past = loads.0 in
-    omega (arith, long, past, less, one, at))
+    omega (arith, long, loads.0, less, one, at))
 is_loaded s i p k (NotReady need) into into2 s2 sound hand at one loads leaves =
     let number : k / 4096 ≡ p = omega (arith, at) in
     let start : k % 4096 ≡ 0 = omega (arith, at) in

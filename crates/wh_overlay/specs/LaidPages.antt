@@ -1,12 +1,13 @@
--- Pages that were written beside a memory, and what the memory is with them.
+-- Pages that were written in an overlay on a memory, and what the memory is with them.
 use Rattle.std.specs.Prelude.{◌≡◌, ◌⊎◌, ℕ, ◌+◌, ◌*◌, ◌++◌, ◌≤◌, List, [], ◌∷◌, Some, length, replicate, get_or, slice_get, zero, suc}
 use Rattle.wh_model.specs.Execution.Store.{written}
-use Rattle.wh_host_model.specs.Frames.{tally}
+use Rattle.wh_space_model.specs.Frames.{tally}
 use Rattle.wh_overlay.specs.declared.upper.WrittenPage.{WrittenPage}
 
--- What is written beside a memory: pages of 4096 bytes; the numbers of the pages that were read there before they were written; by
--- how many pages of 65536 bytes it has grown; for how many more written pages there is room; below which number all pages are that
--- may be read and written; how many frames are lent for pages that have none of their own, and how many such pages were written.
+-- What is written in an overlay: pages of 4096 bytes; the numbers of the pages that were read in the memory before they were
+-- written; by how many pages of 65536 bytes it has grown; for how many more written pages there is room; below which number all
+-- pages are that may be read and written; how many frames are lent for pages that have none of their own, and how many such pages
+-- were written.
 pub record UpperState : Type 0 where
   pub pages : List WrittenPage
   pub reads : List ℕ
@@ -21,11 +22,11 @@ abbrev pub laid_over : List ℕ → List WrittenPage → List ℕ
 laid_over bytes [] = bytes
 laid_over bytes (x ∷ xs) = laid_over (written bytes (4096 * x.number) x.bytes) xs
 
--- a memory that has grown by so many pages of 65536 zeros
+-- a memory that has grown by n pages of 65536 zeros
 abbrev pub grown_by : List ℕ → ℕ → List ℕ
 grown_by bytes n = bytes ++ replicate (n * 65536) 0
 
--- a memory with what is written beside it
+-- a memory with what is written in the overlay
 abbrev pub with_upper : List ℕ → UpperState → List ℕ
 with_upper bytes u = laid_over (grown_by bytes u.grown) u.pages
 
@@ -61,12 +62,12 @@ abbrev pub has_mark : ℕ → ℕ
 has_mark zero = 0
 has_mark (suc mark) = 1
 
--- Marks by page: 1 only where the page was read. So many pages have a mark at least as were read.
+-- Marks by page: 1 only where the page was read. At least as many pages have a mark as were read.
 pub record AreNoted (reads marks : List ℕ) : Type 0 where
   pub each : (number : ℕ) → get_or marks number 0 ≡ 1 → IsNoted reads number
   pub many : length reads ≤ tally has_mark marks
 
--- each page has 4096 bytes, and lies in a memory of so many
+-- each page has 4096 bytes, and is in a memory of `long` bytes
 abbrev pub FitIn : ℕ → List WrittenPage → Type 0
 FitIn long pages =
     (k : ℕ) (x : WrittenPage) → slice_get pages k ≡ Some x

@@ -3,12 +3,12 @@ use Rattle.std.specs.Prelude.{◌≡◌, ℕ, ◌*◌, ◌+◌, ◌/◌, ◌%◌
 use Rattle.wh_model.specs.declared.memory.Got.{Got}
 use Rattle.wh_model.specs.declared.memory.Got.TheVariants.{Value, Trap, NotReady}
 use Rattle.wh_model.specs.declared.memory.Need.{Need}
-use Rattle.wh_host_model.specs.Frames.{tally}
-use Rattle.wh_host_model.specs.declared.states.Page.{Page}
-use Rattle.wh_host_model.specs.declared.states.Page.TheVariants.{Untouched, Private, Shared, Leaving, LeavingShared, Coming, Swapped}
-use Rattle.wh_host_model.specs.Space.Parts.{Space, view}
-use Rattle.wh_host_model.specs.Space.Ready.{IsAtHand}
-use Rattle.wh_host_model.specs.Space.States.{at, page_at}
+use Rattle.wh_space_model.specs.Frames.{tally}
+use Rattle.wh_space_model.specs.declared.states.Page.{Page}
+use Rattle.wh_space_model.specs.declared.states.Page.TheVariants.{Untouched, Private, Shared, Leaving, LeavingShared, Coming, Swapped}
+use Rattle.wh_space_model.specs.Parts.{Space, view}
+use Rattle.wh_space_model.specs.Ready.{IsAtHand}
+use Rattle.wh_space_model.specs.States.{at, page_at}
 use Rattle.wh_space.specs.Steps.{page_limit}
 use Rattle.wh_overlay.specs.declared.upper.WrittenPage.{WrittenPage}
 use Rattle.wh_overlay.specs.LaidPages.{AreWhole, IsAmong, IsNoted, NotesRead, UpperState, with_upper}
@@ -22,7 +22,7 @@ HasCome s i u number =
 abbrev pub IsThereToRead : Space → ℕ → UpperState → ℕ → Type 0
 IsThereToRead s i u number = IsAtHand (page_at s.tables i number) ⊎ HasCome s i u number
 
--- a page can be read: it was written beside the memory, or it is there, and can be noted as read
+-- a page can be read: it was written in the overlay, or it is there, and can be noted as read
 abbrev pub CanRead : Space → ℕ → UpperState → ℕ → Type 0
 CanRead s i u number = IsAmong u.pages number ⊎ ((number < u.most) × IsThereToRead s i u number)
 
@@ -30,7 +30,7 @@ CanRead s i u number = IsAmong u.pages number ⊎ ((number < u.most) × IsThereT
 abbrev pub IsOnItsOwn : Space → ℕ → ℕ → Type 0
 IsOnItsOwn s i number = (frame : ℕ) × (page_at s.tables i number ≡ Some (Private frame))
 
--- There is a frame for a page that is written: it is alone on its own, or it is at hand, and one of those that are lent is left.
+-- There is a frame for a page that is written: it has one of its own, or it is at hand, and one of those that are lent is left.
 abbrev pub HasFrameFor : Space → ℕ → UpperState → ℕ → Type 0
 HasFrameFor s i u number = IsOnItsOwn s i number ⊎ (IsAtHand (page_at s.tables i number) × (u.taken < u.lent))
 
@@ -38,7 +38,7 @@ HasFrameFor s i u number = IsOnItsOwn s i number ⊎ (IsAtHand (page_at s.tables
 abbrev pub CanWrite : Space → ℕ → UpperState → ℕ → Type 0
 CanWrite s i u number = IsAmong u.pages number ⊎ (HasFrameFor s i u number × (number < u.most) × (1 ≤ u.room))
 
--- These bytes can be read or written at once: there are none, or they lie on one page with which that can be done.
+-- These bytes can be read or written at once: there are none, or they are on one page with which that can be done.
 abbrev pub CanStepOver : Space → ℕ → UpperState → Need → Type 0
 CanStepOver s i u need =
     (need.length ≡ 0)
@@ -68,7 +68,7 @@ lacks_frame (Swapped k) = 1
 abbrev pub frames_lacking : Space → ℕ → List WrittenPage → ℕ
 frames_lacking s i pages = tally (λ x. at lacks_frame (page_at s.tables i x.number)) pages
 
--- The memory of the instance at a place, with a limit of pages of 65536 bytes, and what is written beside it.
+-- The memory of the instance at a place, with a limit of pages of 65536 bytes, and what is written in the overlay.
 pub record OverlayState : Type 0 where
   pub lower : Space
   pub place : ℕ
@@ -83,9 +83,9 @@ sees o = with_upper (view o.lower o.place) o.upper
 abbrev pub HasGrown : Space → ℕ → UpperState → Type 0
 HasGrown s i u = 1 ≤ u.grown → length (view s i) + u.grown * 65536 ≤ page_limit s i * 65536
 
--- What is written beside a memory are pages that are at hand there, and each page that was read is there. Of frames that are lent no
--- more are taken than there are, and one at least for each page that may have to get one. There are no more bytes than pages can be
--- counted.
+-- What is written in an overlay are pages that are at hand in the memory below, and each page that was read is there. Of frames
+-- that are lent no more are taken than there are, and one at least for each page that may have to get one. There are no more
+-- bytes than pages can be counted.
 pub record IsOver (s : Space) (i : ℕ) (u : UpperState) : Type 0 where
   pub at_hand : AreAtHand s i u.pages
   pub there : ReadsAreThere s i u
@@ -98,7 +98,7 @@ pub record IsOver (s : Space) (i : ℕ) (u : UpperState) : Type 0 where
 abbrev pub IsWholeOver : Space → ℕ → UpperState → Type 0
 IsWholeOver s i u = IsOver s i u × AreWhole u.pages
 
--- Only what is written beside it changes, and stays what can be laid back. What was noted as read stays so.
+-- Only what is written in the overlay changes, and stays what can be written back. What was noted as read stays so.
 pub record IsOverSame (o p : OverlayState) : Type 0 where
   pub lower : p.lower ≡ o.lower
   pub place : p.place ≡ o.place
@@ -114,7 +114,7 @@ pub record NotesOver (o : OverlayState) (number : ℕ) (p : OverlayState) : Type
   pub page_limit : p.page_limit ≡ o.page_limit
   pub notes : NotesRead o.upper number p.upper
 
--- so many bytes are read from a place on: where there are some, the page on which they lie is noted as read
+-- n bytes are read from a place on: where there are some, the page that they are on is noted as read
 abbrev pub ReadsOver : OverlayState → ℕ → ℕ → Got → OverlayState → Type 0
 ReadsOver o k n Value p = 1 ≤ n → NotesOver o (k / 4096) p
 ReadsOver o k n Trap p = p ≡ o

@@ -1,4 +1,4 @@
--- What contracts see of what is written beside a memory can be stored: as its parts.
+-- What contracts see of what is written in an overlay can be stored: as its parts.
 use Rattle.std.specs.Prelude.{ℕ, List, refl}
 use Rattle.std.specs.Coded.{Coded, code_by, coded_list, coded_ℕ, coded×}
 use Rattle.wh_overlay.specs.declared.upper.WrittenPage.{WrittenPage}

@@ -1,19 +1,19 @@
-// What was written beside the memory is laid back.
+// What was written in the overlay is written back to the memory.
 
 ghost use Rattle.std.specs.Prelude.{◌≡◌, ◌≢◌, ◌+◌, ◌*◌, ◌≤◌, ℕ, [], length, get_or};
-ghost use Rattle.wh_host_model.specs.Space.Parts.{view};
+ghost use Rattle.wh_space_model.specs.Parts.{view};
 ghost use Rattle.wh_space.specs.Steps.{page_limit};
 ghost use Rattle.wh_space.specs.StepViews.{KeepsRest};
 ghost use Rattle.wh_overlay.specs.LaidBack.{HasLaid, IsLaid};
 ghost use Rattle.wh_overlay.specs.LaidPages.{AreWhole, IsNoted, grown_by, laid_over, with_upper};
-ghost use Rattle.wh_host_model.specs.Space.Ready.{IsAtHand};
-ghost use Rattle.wh_host_model.specs.Space.States.{page_at};
+ghost use Rattle.wh_space_model.specs.Ready.{IsAtHand};
+ghost use Rattle.wh_space_model.specs.States.{page_at};
 ghost use Rattle.wh_overlay.specs.Over.{AreAtHand, HasGrown, ReadsAreThere, frames_lacking};
 
-use crate::upper::{Upper, WrittenPage};
+use crate::upper::{OverlayPages, WrittenPage};
 use wh_space::Memory;
 
-// Grows the memory of the instance at this place by so many pages of 65536 bytes.
+// Grows the memory of the instance at this place by `pages` pages of 65536 bytes.
 fn grow_by(memory: &mut Memory, place: usize, pages: u32)
     requires { 1 ≤ pages → length (view memory.old place) + pages * 65536
         ≤ page_limit memory.old place * 65536 }
@@ -51,10 +51,10 @@ fn write_all(memory: &mut Memory, place: usize, pages: &[WrittenPage])
     }
 }
 
-impl Upper {
-    /// Lays what was written back into the memory of the instance at this place: each page is marked as touched, and one that isn't
-    /// alone on its frame gets one of its own. Marks each page that was read as touched, too. Nothing lies beside it then. Of other
-    /// instances nothing changes.
+impl OverlayPages {
+    /// Writes back what was written to the memory of the instance at this place: each page is marked as touched, and
+    /// one that shares its frame gets one of its own. Marks each page that was read as touched, too. The overlay is
+    /// empty then. Of other instances nothing changes.
     pub fn lay(&mut self, memory: &mut Memory, place: usize)
         requires hand { AreAtHand memory.old place self.old.pages }
         requires frames { frames_lacking memory.old place self.old.pages ≤ length memory.old.pool.free }

@@ -11,7 +11,7 @@ use crate::overlay::Overlay;
 use wh_linmem::LinearMem;
 use wh_model::{Got, Grown, Need};
 
-// Whether so many bytes from a place on lie on one page of 4096 bytes.
+// Whether `count` bytes from a place on are on one page of 4096 bytes.
 #[inline(always)]
 fn is_on_one_page(at: u64, count: usize) -> bool
     ensures { MatchBool result (at % 4096 + count ≤ 4096) (¬ (at % 4096 + count ≤ 4096)) }

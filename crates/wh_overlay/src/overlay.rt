@@ -1,29 +1,29 @@
 // The memory of an instance while others compute.
 
 ghost use Rattle.std.specs.Prelude.{◌≡◌, ◌+◌, ◌*◌, ◌^◌, ◌<◌, ◌≤◌, [], IsTrue, IsFalse, IfSome, IfNone, MatchBool, length, min, replicate};
-ghost use Rattle.wh_host_model.specs.Space.Parts.{view};
-ghost use Rattle.wh_host_model.specs.Space.Ready.{IsAtHand};
-ghost use Rattle.wh_host_model.specs.Space.States.{page_at};
+ghost use Rattle.wh_space_model.specs.Parts.{view};
+ghost use Rattle.wh_space_model.specs.Ready.{IsAtHand};
+ghost use Rattle.wh_space_model.specs.States.{page_at};
 ghost use Rattle.wh_model.specs.Execution.Store.{bytes_at, written};
 ghost use Rattle.wh_space.specs.Steps.{page_limit};
 ghost use Rattle.wh_overlay.specs.LaidPages.{IsAmong, IsWrittenAt, grown_by};
 ghost use Rattle.wh_overlay.specs.Over.{AreAtHand, CanRead, CanWrite, HasFrameFor, HasGrown, IsOverSame, IsWholeOver, NotesOver, frames_lacking, sees};
 
-use crate::upper::Upper;
+use crate::upper::OverlayPages;
 use std::marker::Model;
 use wh_space::Memory;
 
-/// The memory of the instance at one place, of which others read at the same time: what it writes lies beside it.
+/// The memory of the instance at one place, of which others read at the same time: what it writes goes to an overlay.
 ///
-/// It reads and writes bytes that lie on one page. A page that was read is noted, if there is a mark for it. A page that was written
-/// lies beside the memory; it is copied there when it is written for the first time, if there is room and it is alone on its frame, or
-/// at hand and a frame is lent for it. All else waits until what was written is laid back.
+/// It reads and writes bytes that are on one page. A page that was read is noted, if there is a mark for it. A page is
+/// copied to the overlay when it is written for the first time, if there is room and it has a frame of its own, or it
+/// is resident or a page of zeros and a frame is lent for it. All else waits until what was written is written back.
 #[derive(Drop)]
 pub struct Overlay<'a> {
     lower: &'a Memory,
     place: usize,
     page_limit: u32,
-    upper: Upper,
+    upper: OverlayPages,
 }
 
 impl<'a> Model for Overlay<'a> {
@@ -58,8 +58,9 @@ fn copy_from(bytes: &[u8; 4096], offset: usize, into: &mut [u8])
 }
 
 impl<'a> Overlay<'a> {
-    /// The memory of the instance at this place, which may grow to so many pages of 65536 bytes at most, with nothing written.
-    pub fn new(lower: &'a Memory, place: usize, page_limit: u32, upper: Upper) -> Overlay<'a>
+    /// Creates an overlay on the memory of the instance at this place, with nothing written, that may grow to
+    /// `page_limit` pages of 65536 bytes.
+    pub fn new(lower: &'a Memory, place: usize, page_limit: u32, upper: OverlayPages) -> Overlay<'a>
         requires pages { upper.pages ≡ [] }
         requires reads { upper.reads ≡ [] }
         requires grown { upper.grown ≡ 0 }
@@ -81,8 +82,9 @@ impl<'a> Overlay<'a> {
         }
     }
 
-    /// What was written beside the memory. Each page of it is at hand there, and no more frames are taken than are lent.
-    pub fn into_upper(self) -> Upper
+    /// Returns what was written in the overlay. Each page of it is resident in the memory below, or a page of zeros
+    /// there, and it takes no more frames than are lent.
+    pub fn into_upper(self) -> OverlayPages
         ensures upper { result ≡ self.entry.upper }
         ensures hand { AreAtHand self.entry.lower self.entry.place result.pages }
         ensures frames { frames_lacking self.entry.lower self.entry.place result.pages ≤ result.lent }
@@ -128,7 +130,7 @@ impl<'a> Overlay<'a> {
         self.page_limit.min(self.lower.limit(self.place))
     }
 
-    // Adds so many pages of 65536 zeros.
+    // Adds `pages` pages of 65536 zeros.
     pub(crate) fn grow_by(&mut self, pages: u32)
         requires few { length (sees self.old) + pages * 65536 < 2 ^ 44 }
         requires limit { length (sees self.old) + pages * 65536
@@ -179,7 +181,7 @@ impl<'a> Overlay<'a> {
         self.upper.has_frame() && self.lower.peek(self.place, number, 0, &mut [])
     }
 
-    // Whether so many bytes from a place on are in the memory.
+    // Whether `count` bytes from a place on are in the memory.
     #[inline(always)]
     pub(crate) fn has(&self, at: u64, count: usize) -> bool
         ensures within { MatchBool result (at + count ≤ length (sees self.now))
@@ -228,8 +230,8 @@ impl<'a> Overlay<'a> {
         true
     }
 
-    // Copies a page that isn't alone on its frame beside the memory, where it is at hand and a frame is lent for it: its place among the
-    // written ones; else none, and nothing is done.
+    // Copies a page that has no frame of its own to the overlay, if it is resident or a page of zeros and a frame is
+    // lent for it; returns its place among the written ones; else none, and nothing is done.
     #[inline(never)]
     fn copy(&mut self, number: u32) -> Option<usize>
         requires new { ¬ (IsAmong self.old.upper.pages number) }

@@ -1,4 +1,4 @@
-// What an instance writes beside the memory of all.
+// What an instance writes in an overlay on the memory of all.
 
 ghost use Rattle.std.specs.Prelude.{◌≡◌, ◌+◌, ◌-◌, ◌^◌, ◌<◌, ◌≤◌, ◌++◌, ◌∷◌, ℕ, [], cond, false, Some, IfOk, IfSome, IfNone, MatchBool, length, get_or, slice_get, slice_set, vec_capacity};
 ghost use Rattle.wh_model.specs.Execution.Store.{written as overwritten};
@@ -22,10 +22,10 @@ pub struct WrittenPage {
     pub bytes: [u8; 4096],
 }
 
-/// The pages that an instance has written beside the memory of all, those that it has read there, and by how much its memory has
-/// grown. All room is made before.
+/// The overlay itself: the pages that an instance has written, those that it has read in the memory of all, and by how
+/// much its memory has grown. All room is reserved before.
 #[derive(Drop)]
-pub struct Upper {
+pub struct OverlayPages {
     pub(crate) pages: Vec<WrittenPage>,
     // How many may be written.
     most_written: usize,
@@ -39,7 +39,7 @@ pub struct Upper {
     taken: u32,
 }
 
-impl Model for Upper {
+impl Model for OverlayPages {
     ghost use Rattle.std.specs.Prelude.{◌-◌, ◌≤◌, length, vec_capacity};
     ghost use Rattle.wh_overlay.specs.LaidPages.{AreNoted, IsMarked, UpperState as State};
     ghost use Rattle.wh_overlay.specs.Stored.{stored_upper};
@@ -127,17 +127,17 @@ fn clear_read(marks: &mut Vec<u32>, reads: &[u32])
     }
 }
 
-impl Upper {
-    /// Makes room for so many written pages, of a memory with so many pages of 4096 bytes at most.
+impl OverlayPages {
+    /// Reserves room for `written` written pages, of a memory of at most `pages` pages of 4096 bytes.
     ///
     /// # Errors
-    /// Where that room is refused.
-    pub fn new(alloc: Global, written: u16, pages: usize) -> Result<Upper, AllocError>
+    /// `AllocError` if an allocation fails.
+    pub fn new(alloc: Global, written: u16, pages: usize) -> Result<OverlayPages, AllocError>
         ensures { IfOk result (λ u.
             u ≡ record { pages = []; reads = []; grown = 0; room = written; most = pages; lent = 0; taken = 0 }) }
     {
         let most_written = written as usize;
-        Ok(Upper {
+        Ok(OverlayPages {
             pages: Vec::with_capacity(alloc, most_written)?,
             most_written,
             reads: Vec::with_capacity(alloc, pages)?,
@@ -148,7 +148,7 @@ impl Upper {
         })
     }
 
-    /// What always holds of the pages that were written: each is there once, and has 4096 bytes.
+    /// States what always holds of the written pages: each is there once, and has 4096 bytes. Does nothing when run.
     #[inline(always)]
     pub fn invariant(&self)
         ensures once { AreWrittenOnce self.now.pages }
@@ -157,7 +157,7 @@ impl Upper {
         let _ = &self.grown;
     }
 
-    /// The place of a page among those that were written, if it was.
+    /// Returns the place of a page among the written ones, if it was written.
     #[inline(always)]
     pub fn find(&self, number: u32) -> Option<usize>
         ensures some { IfSome result (λ k. IsWrittenAt self.now.pages number k) }
@@ -170,7 +170,7 @@ impl Upper {
         Some((mark - WRITTEN) as usize)
     }
 
-    /// The bytes of the written page at this place.
+    /// Returns the bytes of the written page at this place.
     #[inline(always)]
     pub fn bytes(&self, at: usize) -> &[u8; 4096]
         requires { at < length self.now.pages }
@@ -180,7 +180,7 @@ impl Upper {
         &self.pages[at].bytes
     }
 
-    /// By how many pages of 65536 bytes the memory has grown.
+    /// Returns the number of pages of 65536 bytes by which the memory has grown.
     #[inline(always)]
     pub fn grown(&self) -> u32
         ensures { result ≡ self.now.grown }
@@ -188,7 +188,7 @@ impl Upper {
         self.grown
     }
 
-    /// Lends so many frames for pages that have none of their own, in place of those that were lent before.
+    /// Lends `frames` frames for pages that have none of their own, in place of those that were lent before.
     pub fn lend(&mut self, frames: u32)
         ensures { self.new ≡ record self.old { lent = frames; taken = 0 } }
     {
@@ -196,14 +196,14 @@ impl Upper {
         self.taken = 0;
     }
 
-    /// Whether one of the frames is left that are lent.
+    /// Tells whether a lent frame is left.
     pub fn has_frame(&self) -> bool
         ensures { MatchBool result (self.now.taken < self.now.lent) (¬ (self.now.taken < self.now.lent)) }
     {
         self.taken < self.lent
     }
 
-    /// Whether one more page may be written, of this number.
+    /// Tells whether one more page, of this number, may be written.
     pub fn has_room_for(&self, number: u32) -> bool
         ensures { MatchBool result ((number < self.now.most) × (1 ≤ self.now.room))
             (¬ ((number < self.now.most) × (1 ≤ self.now.room))) }
@@ -211,7 +211,7 @@ impl Upper {
         (number as usize) < self.marks.len() && self.pages.len() < self.most_written
     }
 
-    /// Whether a page of this number can be noted as read.
+    /// Tells whether a page of this number can be noted as read.
     #[inline(always)]
     pub fn has_mark_for(&self, number: u64) -> bool
         ensures { MatchBool result (number < self.now.most) (¬ (number < self.now.most)) }
@@ -219,7 +219,8 @@ impl Upper {
         number < self.marks.len() as u64
     }
 
-    /// Keeps that a page was read, so that it is marked as touched in the memory of all when what is written here is laid back.
+    /// Keeps that a page was read, so that it is marked as touched in the memory of all when what is written here is
+    /// written back.
     #[inline(always)]
     pub fn note_read(&mut self, number: u32)
         requires { number < self.old.most }
@@ -230,8 +231,8 @@ impl Upper {
         }
     }
 
-    /// Takes a page with these bytes among the written ones, as the last one: its place. A page that isn't alone on its frame takes
-    /// one of those that are lent.
+    /// Adds a page with these bytes to the written ones, as the last one; returns its place. Unless the page has a
+    /// frame of its own, it takes one of those that are lent.
     pub fn add(&mut self, number: u32, bytes: &[u8; 4096], is_alone: bool) -> usize
         requires new { ¬ (IsAmong self.old.pages number) }
         requires room { (number < self.old.most) × (1 ≤ self.old.room) }
@@ -267,7 +268,7 @@ impl Upper {
         overwrite(&mut self.pages[at].bytes, offset, given);
     }
 
-    /// Grows by so many pages of 65536 bytes.
+    /// Grows by `pages` pages of 65536 bytes.
     pub fn grow(&mut self, pages: u32)
         requires { self.old.grown + pages < 2 ^ 32 }
         ensures { self.new ≡ record self.old { grown = self.old.grown + pages } }

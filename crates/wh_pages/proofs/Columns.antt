@@ -2,7 +2,7 @@
 use Rattle.std.proofs.Common.{◌≡◌, ℕ, ◌<◌, ◌≤◌, List, Bool, length, map, take, slice_set, refl, ◌∙◌, ap, arith}
 use Rattle.std.proofs.lemmas.List.{map-set}
 use Rattle.std.proofs.lemmas.Grind.{common_steps}
-use Rattle.wh_host_model.specs.declared.states.Page.{Page}
+use Rattle.wh_space_model.specs.declared.states.Page.{Page}
 use Rattle.wh_pages.specs.Table.{PageTableState}
 use Rattle.std.proofs.Math.Seq.{take-set-lt}
 

@@ -1,6 +1,6 @@
 -- The marks go one by one, and pages come one by one.
 use Rattle.std.proofs.Common.{◌≡◌, ℕ, ◌+◌, ◌<◌, ◌++◌, List, [], ◌∷◌, Bool, false, length, drop, replicate, slice_set, zero, suc, refl, ap, arith}
-use Rattle.wh_host_model.specs.declared.states.Page.TheVariants.{Untouched}
+use Rattle.wh_space_model.specs.declared.states.Page.TheVariants.{Untouched}
 use Rattle.wh_pages.specs.Table.{PageTableState}
 
 -- the table with the first k marks taken away

@@ -1,9 +1,8 @@
 -- What the counts of a leaf say of its entries.
 use Rattle.std.proofs.Common.{◌≡◌, ℕ, zero, suc, ◌≤◌, cond, Bool, true, false, List, [], ◌∷◌, length, slice_index_or, refl, arith}
 use Rattle.std.specs.List.{All}
-use Rattle.wh_host_model.specs.Frames.{tally}
-use Rattle.wh_host_model.specs.Space.States.{resident}
-use Rattle.wh_host_model.proofs.Space.Sums.{tally_le}
+use Rattle.wh_space_model.specs.{tally, resident}
+use Rattle.wh_space_model.proofs.Sums.{tally_le}
 use Rattle.wh_pages.specs.declared.entry.PageEntry.{PageEntry}
 use Rattle.wh_pages.specs.Leaves.{AreCountsOf, IsSoughtEntry, actives_of, residents_of}
 use Rattle.wh_pages.specs.Parts.{page_of}

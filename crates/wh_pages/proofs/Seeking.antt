@@ -1,7 +1,7 @@
 -- What is looked for among the rows of a table.
 use Rattle.std.proofs.Common.{◌≡◌, ◌≢◌, ◌∙◌, ℕ, zero, suc, ◌+◌, ◌*◌, ◌<◌, ◌≤◌, ◌⊎◌, inl, inr, is_some, Bool, true, false, List, [], ◌∷◌, Option, Some, None, map, take, slice_get, refl, sym, ap, arith}
 use Rattle.std.specs.Prelude.{IfNone, IfSome}
-use Rattle.wh_host_model.specs.Space.States.{resident}
+use Rattle.wh_space_model.specs.{resident}
 use Rattle.wh_pages.specs.declared.entry.PageEntry.{PageEntry}
 use Rattle.wh_pages.specs.declared.table.PageTable.TheInside.{Inside}
 use Rattle.wh_pages.specs.Leaves.{IsSoughtEntry}

@@ -1,7 +1,7 @@
--- What the parts of a page table stand for.
+-- What the parts of a page table represent.
 use Rattle.std.specs.Prelude.{ℕ, ◌≤◌, length, map, take}
-use Rattle.wh_host_model.specs.declared.states.Page.{Page}
-use Rattle.wh_host_model.specs.declared.states.Page.TheVariants.{Untouched, Private, Shared, Leaving, LeavingShared, Coming, Swapped}
+use Rattle.wh_space_model.specs.declared.states.Page.{Page}
+use Rattle.wh_space_model.specs.declared.states.Page.TheVariants.{Untouched, Private, Shared, Leaving, LeavingShared, Coming, Swapped}
 use Rattle.wh_pages.specs.declared.entry.EntryKind.{EntryKind}
 use Rattle.wh_pages.specs.declared.entry.EntryKind.TheVariants as kind
 use Rattle.wh_pages.specs.declared.entry.PageEntry.{PageEntry}

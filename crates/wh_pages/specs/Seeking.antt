@@ -1,10 +1,10 @@
 -- Pages that are looked for in a page table.
 use Rattle.std.specs.Prelude.{ℕ, ◌≡◌, ◌≢◌, ◌≤◌, ◌<◌, Bool, true, Option, Some, None, slice_get}
-use Rattle.wh_host_model.specs.declared.states.Page.{Page}
-use Rattle.wh_host_model.specs.Space.States.{resident}
+use Rattle.wh_space_model.specs.declared.states.Page.{Page}
+use Rattle.wh_space_model.specs.States.{resident}
 use Rattle.wh_pages.specs.Table.{PageTableState}
 
--- the page at this place stands on a frame; if idle ones alone are looked for, it wasn't touched in this epoch
+-- the page at this place is resident; if idle ones alone are looked for, it wasn't touched in this epoch
 pub record IsSought (t : PageTableState) (idle : Bool) (p : ℕ) : Type 0 where
   pub page : Page
   pub there : slice_get t.pages p ≡ Some page

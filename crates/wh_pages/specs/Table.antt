@@ -1,7 +1,7 @@
 -- The page table of one instance.
 use Rattle.std.specs.Prelude.{ℕ, ◌≡◌, List, Bool, cond, Option, Some, None}
-use Rattle.wh_host_model.specs.declared.states.Page.{Page}
-use Rattle.wh_host_model.specs.declared.states.Page.TheVariants.{Coming, Leaving, LeavingShared, Private, Shared, Swapped, Untouched}
+use Rattle.wh_space_model.specs.declared.states.Page.{Page}
+use Rattle.wh_space_model.specs.declared.states.Page.TheVariants.{Coming, Leaving, LeavingShared, Private, Shared, Swapped, Untouched}
 
 -- its pages in order, which of them were touched in this epoch, and how many it may have
 pub record PageTableState : Type 0 where
@@ -9,7 +9,7 @@ pub record PageTableState : Type 0 where
   pub touched : List Bool
   pub max : ℕ
 
--- the frame on which a page stands alone, without leaving it
+-- the frame of its own of a page that isn't leaving it
 abbrev pub own_frame_of : Page → Option ℕ
 own_frame_of (Private f) = Some f
 own_frame_of Untouched = None

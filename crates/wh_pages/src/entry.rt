@@ -2,14 +2,14 @@
 
 ghost use Rattle.std.specs.Bool.{MatchBool};
 ghost use Rattle.std.specs.Prelude.{◌≡◌, ◌≤◌, None, false, cond};
-ghost use Rattle.wh_host_model.specs.declared.states.Page.TheVariants.{Untouched as UntouchedPage};
-ghost use Rattle.wh_host_model.specs.Space.Moves.{frame_of};
-ghost use Rattle.wh_host_model.specs.Space.States.{resident};
+ghost use Rattle.wh_space_model.specs.declared.states.Page.TheVariants.{Untouched as UntouchedPage};
+ghost use Rattle.wh_space_model.specs.Moves.{frame_of};
+ghost use Rattle.wh_space_model.specs.States.{resident};
 ghost use Rattle.wh_pages.specs.Leaves.{IsSoughtEntry};
 ghost use Rattle.wh_pages.specs.Parts.{page_of};
 ghost use Rattle.wh_pages.specs.Table.{own_frame_of};
 
-use wh_host_model::Page;
+use wh_space_model::Page;
 
 // Which state a page is in.
 #[derive(Clone, Copy)]
@@ -34,7 +34,7 @@ pub struct PageEntry {
 const _: () = prove!(size_of::<PageEntry>() <= 8);
 
 impl PageEntry {
-    // An untouched page without a mark.
+    /// Returns the entry of a page of zeros without a frame and without a mark.
     pub fn blank() -> PageEntry
         ensures page { page_of result ≡ UntouchedPage }
         ensures touched { result.touched ≡ false }
@@ -46,7 +46,7 @@ impl PageEntry {
         }
     }
 
-    // This page with this mark.
+    /// Returns the entry of this page with this mark of touch.
     pub fn new(page: Page, touched: bool) -> PageEntry
         ensures page { page_of result ≡ page }
         ensures touched { result.touched ≡ touched }
@@ -67,7 +67,7 @@ impl PageEntry {
         }
     }
 
-    // 1 where the page stands on a frame, else 0.
+    /// Returns 1 if the page is resident, else 0.
     #[inline(always)]
     pub fn residents(self) -> u32
         ensures is { result ≡ resident (page_of self) }
@@ -82,7 +82,7 @@ impl PageEntry {
         }
     }
 
-    // 1 where the page stands on a frame and was touched in this epoch, else 0.
+    /// Returns 1 if the page is resident and was touched in this epoch, else 0.
     #[inline(always)]
     pub fn actives(self) -> u32
         ensures is { result ≡ cond self.touched (resident (page_of self)) 0 }
@@ -91,7 +91,7 @@ impl PageEntry {
         if self.touched { self.residents() } else { 0 }
     }
 
-    // The frame on which the page stands, where it was touched in this epoch.
+    /// Returns the frame of the page, if it was touched in this epoch.
     #[inline(always)]
     pub fn touched_frame(self) -> Option<u32>
         ensures { result ≡ cond self.touched (frame_of (page_of self)) None }
@@ -108,7 +108,7 @@ impl PageEntry {
         }
     }
 
-    // The frame on which the page stands alone, where it is `Private` and was touched in this epoch.
+    /// Returns the frame of its own, if the page is `Private` and was touched in this epoch.
     #[inline(always)]
     pub fn touched_own_frame(self) -> Option<u32>
         ensures { result ≡ cond self.touched (own_frame_of (page_of self)) None }
@@ -119,7 +119,7 @@ impl PageEntry {
         }
     }
 
-    // Whether the page is looked for: it stands on a frame, and with `idle` wasn't touched in this epoch.
+    /// Tells whether the page is resident, and with `idle` also wasn't touched in this epoch.
     #[inline(always)]
     pub fn is_sought(self, idle: bool) -> bool
         ensures { MatchBool result (IsSoughtEntry idle self) (¬ IsSoughtEntry idle self) }
@@ -127,7 +127,7 @@ impl PageEntry {
         self.residents() == 1 && !(idle && self.touched)
     }
 
-    // The page.
+    /// Returns the page.
     #[inline(always)]
     pub fn page(self) -> Page
         ensures { result ≡ page_of self }

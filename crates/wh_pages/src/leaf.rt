@@ -12,7 +12,7 @@ use std::marker::Model;
 // How many entries a leaf has.
 pub const LEAF: u32 = 256;
 
-// Entries, with how many of their pages stand on frames, and how many of these were touched in this epoch.
+// Entries, with how many of their pages are resident, and how many of these were touched in this epoch.
 #[derive(Drop)]
 pub struct Leaf {
     entries: Vec<PageEntry>,
@@ -34,7 +34,7 @@ impl Model for Leaf {
 }
 
 impl Leaf {
-    // Blank entries.
+    /// Creates a leaf of 256 blank entries.
     pub fn new(alloc: Global) -> Result<Leaf, AllocError>
         ensures { IfOk result (λ leaf. length leaf.items ≡ 256) }
     {
@@ -46,7 +46,7 @@ impl Leaf {
         })
     }
 
-    // The entry at this place.
+    /// Returns the entry at this place.
     #[inline(always)]
     pub fn get(&self, at: u32) -> PageEntry
         requires { at < 256 }
@@ -55,7 +55,7 @@ impl Leaf {
         self.entries[at as usize]
     }
 
-    // Puts an entry at this place.
+    /// Replaces the entry at this place.
     #[inline(always)]
     pub fn set(&mut self, at: u32, entry: PageEntry)
         requires { at < 256 }
@@ -67,7 +67,7 @@ impl Leaf {
         self.entries[at as usize] = entry;
     }
 
-    // Whether some page is looked for: one that stands on a frame, and with `idle` wasn't touched in this epoch.
+    /// Tells whether some page is resident, and with `idle` also wasn't touched in this epoch.
     pub fn has_sought(&self, idle: bool) -> bool
         ensures { IsFalse result → All (λ entry. ¬ IsSoughtEntry idle entry) self.now.items }
     {

@@ -29,7 +29,7 @@ impl Model for Rows {
 }
 
 impl Rows {
-    // So many leaves of blank entries.
+    /// Creates `leaves` leaves of blank entries.
     pub fn new(alloc: Global, leaves: u32) -> Result<Rows, AllocError>
         ensures { IfOk result (λ rows. length rows ≡ 256 * leaves) }
     {
@@ -40,7 +40,7 @@ impl Rows {
         Ok(Rows { leaves: directory })
     }
 
-    // The entry at this place.
+    /// Returns the entry at this place.
     #[inline(always)]
     pub fn get(&self, at: u32) -> PageEntry
         requires { at < length self.now }
@@ -49,7 +49,7 @@ impl Rows {
         self.leaves[(at / LEAF) as usize].get(at % LEAF)
     }
 
-    // Whether some page of a leaf is looked for.
+    /// Tells whether some page of a leaf is resident, and with `idle` also wasn't touched in this epoch.
     pub fn has_sought(&self, leaf: u32, idle: bool) -> bool
         requires { 256 * leaf < length self.now }
         ensures { IsFalse result → (q : ℕ) (entry : PageEntry) → 256 * leaf ≤ q → q < 256 * leaf + 256
@@ -58,7 +58,7 @@ impl Rows {
         self.leaves[leaf as usize].has_sought(idle)
     }
 
-    // Puts an entry at this place.
+    /// Replaces the entry at this place.
     #[inline(always)]
     pub fn set(&mut self, at: u32, entry: PageEntry)
         requires { at < length self.old }

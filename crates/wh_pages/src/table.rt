@@ -1,9 +1,9 @@
 // The table as its caller sees it.
 
 ghost use Rattle.std.specs.Prelude.{◌≡◌, ℕ, ◌*◌, ◌↔◌, ◌+◌, ◌<◌, ◌≤◌, ◌++◌, [], ◌∷◌, true, false, IsTrue, IsFalse, Some, IfOk, IfSome, IfNone, length, replicate, slice_get, slice_set};
-ghost use Rattle.wh_host_model.specs.Space.Moves.{frame_of};
+ghost use Rattle.wh_space_model.specs.Moves.{frame_of};
 ghost use Rattle.wh_pages.specs.Parts.{page_of};
-ghost use Rattle.wh_host_model.specs.declared.states.Page.TheVariants.{Untouched};
+ghost use Rattle.wh_space_model.specs.declared.states.Page.TheVariants.{Untouched};
 ghost use Rattle.wh_pages.specs.Seeking.{IsFirstFrom, IsSought};
 ghost use Rattle.wh_pages.specs.Table.{IsFrameIfTouched, own_frame_of};
 
@@ -12,7 +12,7 @@ use crate::leaf::LEAF;
 use crate::rows::Rows;
 use std::alloc::{AllocError, Global};
 use std::marker::Model;
-use wh_host_model::Page;
+use wh_space_model::Page;
 
 /// The pages of one instance in order, each of 4096 bytes and with a mark that says whether it was
 /// touched in this epoch.
@@ -39,10 +39,10 @@ impl Model for PageTable {
 }
 
 impl PageTable {
-    /// A table without pages, that may get `max` of them, up to 65536. All its room is taken here.
+    /// Creates a page table without pages, that may grow to `max`, up to 65536. Reserves the room for them all.
     ///
     /// # Errors
-    /// `AllocError` where room is refused. Nothing is left behind then.
+    /// `AllocError` if an allocation fails; what was allocated is given back.
     pub fn new(alloc: Global, max: u32) -> Result<PageTable, AllocError>
         requires { max ≤ 65536 }
         ensures { IfOk result (λ table. table ≡ record { pages = []; touched = []; max = max }) }
@@ -51,7 +51,7 @@ impl PageTable {
         Ok(PageTable { rows, len: 0, max })
     }
 
-    /// How many pages there are.
+    /// Returns the number of pages.
     #[inline(always)]
     pub fn len(&self) -> u32
         ensures pages { result ≡ length self.now.pages }
@@ -61,7 +61,7 @@ impl PageTable {
         self.len
     }
 
-    /// How many pages there may be, at most 65536.
+    /// Returns the number of pages to which it may grow, at most 65536.
     pub fn max(&self) -> u32
         ensures max { result ≡ self.now.max }
         ensures most { result ≤ 65536 }
@@ -69,7 +69,7 @@ impl PageTable {
         self.max
     }
 
-    /// The page at this place, which is below `len`.
+    /// Returns the page at this place, which is below `len`.
     #[inline(always)]
     pub fn page(&self, at: u32) -> Page
         requires { at < length self.now.pages }
@@ -78,7 +78,7 @@ impl PageTable {
         self.rows.get(at).page()
     }
 
-    /// Whether the page at this place, which is below `len`, was touched in this epoch.
+    /// Tells whether the page at this place, which is below `len`, was touched in this epoch.
     #[inline(always)]
     pub fn is_touched(&self, at: u32) -> bool
         requires { at < length self.now.pages }
@@ -87,8 +87,7 @@ impl PageTable {
         self.rows.get(at).touched
     }
 
-    /// The frame on which the page at this place, which is below `len`, stands, where it was touched in this epoch. It is one
-    /// look, which changes nothing.
+    /// Returns, in O(1), the frame of the page at this place, which is below `len`, if it was touched in this epoch.
     #[inline(always)]
     pub fn touched_frame(&self, at: u32) -> Option<u32>
         requires { at < length self.now.pages }
@@ -97,8 +96,8 @@ impl PageTable {
         self.rows.get(at).touched_frame()
     }
 
-    /// The frame on which the page at this place, which is below `len`, stands alone, where it is `Private` and was touched in
-    /// this epoch. It is one look, which changes nothing.
+    /// Returns, in O(1), the frame of its own of the page at this place, which is below `len`, if it is `Private` and
+    /// was touched in this epoch.
     #[inline(always)]
     pub fn touched_own_frame(&self, at: u32) -> Option<u32>
         requires { at < length self.now.pages }
@@ -107,8 +106,8 @@ impl PageTable {
         self.rows.get(at).touched_own_frame()
     }
 
-    /// The first page from this place on that stands on a frame; with `idle`, of those alone that weren't touched in this epoch.
-    /// It passes over leaves that have none.
+    /// Returns the first resident page from this place on; with `idle`, the first of those not touched in this epoch.
+    /// Skips leaves that have none.
     pub fn next_resident(&self, from: u32, idle: bool) -> Option<u32>
         ensures { IsFirstFrom (IsSought self.now idle) from result }
     {
@@ -147,7 +146,7 @@ impl PageTable {
         None
     }
 
-    /// Puts a page at this place, which is below `len`. The mark there stays.
+    /// Replaces the page at this place, which is below `len`. Its mark of touch stays.
     pub fn set(&mut self, at: u32, page: Page)
         requires { at < length self.old.pages }
         ensures { self.new ≡ record self.old { pages = slice_set self.old.pages at page } }
@@ -164,7 +163,7 @@ impl PageTable {
         self.mark(at, true);
     }
 
-    /// Takes the mark from the page at this place, which is below `len`: it wasn't touched in this epoch.
+    /// Clears the mark of touch of the page at this place, which is below `len`.
     pub fn untouch(&mut self, at: u32)
         requires { at < length self.old.pages }
         ensures { self.new ≡ record self.old { touched = slice_set self.old.touched at false } }
@@ -172,7 +171,7 @@ impl PageTable {
         self.mark(at, false);
     }
 
-    /// Begins a new epoch: no page is marked as touched any more. It goes over all pages.
+    /// Begins an epoch: clears all marks of touch. Goes over all pages.
     pub fn clear_touched(&mut self)
         ensures { self.new ≡ record self.old { touched = replicate (length self.old.pages) false } }
     {
@@ -181,8 +180,8 @@ impl PageTable {
         }
     }
 
-    /// Adds so many untouched pages without marks, and says whether they fit within `max`. Where they
-    /// don't, nothing changes. It takes no memory.
+    /// Adds `count` pages of zeros that have no frames and no marks; tells whether they fit within `max`. If they
+    /// don't, nothing changes. Allocates nothing.
     pub fn grow(&mut self, count: u32) -> bool
         ensures fits { IsTrue result ↔ (length self.old.pages + count ≤ self.old.max) }
         ensures grown { IsTrue result → self.new ≡ record self.old {
@@ -200,7 +199,7 @@ impl PageTable {
         true
     }
 
-    /// Takes all pages away. The room stays.
+    /// Removes all pages. The room stays.
     pub fn clear(&mut self)
         ensures { self.new ≡ record self.old { pages = []; touched = [] } }
     {

@@ -1,15 +1,9 @@
 -- What is reserved for a step, and tickets that begin.
 use Rattle.std.proofs.Common.{◌≡◌, ◌∙◌, inl, inr, ℕ, ◌<◌, ◌≤◌, cond, min, Bool, true, false, List, [], ◌∷◌, Option, Some, None, length, length-append, get_or, slice_get, zero, suc, refl, sym, ap, arith}
 use Rattle.wh_model.specs.declared.memory.Need.{Need}
-use Rattle.wh_host_model.specs.Frames.{one_if, tally}
-use Rattle.wh_host_model.specs.Space.Claims.{MustLeave}
-use Rattle.wh_host_model.specs.Space.Moves.{IsFirstSwapped}
-use Rattle.wh_host_model.specs.Space.Parts.{Occupant, Space, kept_by, need_of, wants}
-use Rattle.wh_host_model.specs.Space.Ready.{among, frames_in_all, may_take, pages_of_need}
-use Rattle.wh_host_model.specs.Space.States.{at, page_at, swapped}
-use Rattle.wh_host_model.specs.Space.Tickets.{BeginsEvict, BeginsFetch, Reserves, WaitsForBytes}
-use Rattle.wh_host_model.proofs.Tally.{one_other}
-use Rattle.wh_host_model.proofs.Space.Putting.{cond_here, get_or_is, here_or}
+use Rattle.wh_space_model.specs.{one_if, tally, MustLeave, IsFirstSwapped, Occupant, Space, kept_by, need_of, wants, among, frames_in_all, may_take, pages_of_need, at, page_at, swapped, BeginsEvict, BeginsFetch, Reserves, WaitsForBytes}
+use Rattle.wh_space_model.proofs.Tally.{one_other}
+use Rattle.wh_space_model.proofs.Putting.{cond_here, get_or_is, here_or}
 use Rattle.wh_space.specs.Transits.{IsDeparting, IsSentFor}
 
 -- ---- who waits for a frame

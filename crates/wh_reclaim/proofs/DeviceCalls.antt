@@ -1,6 +1,6 @@
 -- What calls of a device leave, one behind the other.
 use Rattle.std.proofs.Common.{◌∙◌, List, [], ◌++◌, refl, sym, ap, append_assoc}
-use Rattle.wh_host_model.specs.declared.plain.SwapError.{SwapError}
+use Rattle.wh_space_model.specs.declared.plain.SwapError.{SwapError}
 use Rattle.wh_swap.specs.DeviceCalls.{ServesOn}
 
 module _ {D : Type 0} (keeps honest : D → Type 0) (faults : D → List SwapError) where

@@ -1,21 +1,14 @@
 -- How a step comes nearer, move by move.
 use Rattle.std.proofs.Common.{◌≡◌, ◌≢◌, ◌∙◌, ◌⊎◌, inl, inr, ℕ, ◌+◌, ◌<◌, ◌≤◌, cond, nat_eq, true, false, Bool, List, [], ◌∷◌, Option, Some, None, length, slice_get, refl, sym, ap, subst, arith}
 use Rattle.wh_model.specs.declared.memory.Need.{Need}
-use Rattle.wh_host_model.specs.Frames.{one_if, tally}
-use Rattle.wh_host_model.specs.declared.states.Page.{Page}
-use Rattle.wh_host_model.specs.declared.states.Page.TheVariants.{Untouched, Private, Shared, Leaving, LeavingShared, Coming, Swapped}
-use Rattle.wh_host_model.specs.Space.Moves.{Earmarks, IsFirstSwapped, pinned, residents, unpinned}
-use Rattle.wh_host_model.specs.Space.Parts.{Space, kept, pinned_by}
-use Rattle.wh_host_model.specs.Space.Provide.{GivesUp, IsOnTheWay, IsServed, IsServing, IsTrueTo, MovesOn, comes, far, goes}
-use Rattle.wh_host_model.specs.Space.Ready.{frames_to_write, pages_of_need}
-use Rattle.wh_host_model.specs.Space.Sound.{IsSound}
-use Rattle.wh_host_model.specs.Space.States.{at, page_at, resident, swapped}
-use Rattle.wh_host_model.specs.Space.Tickets.{WaitsForBytes}
-use Rattle.wh_host_model.proofs.Tally.{one_other, one_same}
-use Rattle.wh_host_model.proofs.Space.Putting.{here_or, pinned_here}
-use Rattle.wh_host_model.proofs.Space.Serving.{evict_on, fetch_on}
-use Rattle.wh_host_model.proofs.Space.Slotting.{slot_taken}
-use Rattle.wh_host_model.proofs.Space.Wanting.{OneOrTwo, few_pages}
+use Rattle.wh_space_model.specs.{one_if, tally, Earmarks, IsFirstSwapped, pinned, residents, unpinned, Space, kept, pinned_by, GivesUp, IsOnTheWay, IsServed, IsServing, IsTrueTo, MovesOn, comes, far, goes, frames_to_write, pages_of_need, IsSound, at, page_at, resident, swapped, WaitsForBytes}
+use Rattle.wh_space_model.specs.declared.states.Page.{Page}
+use Rattle.wh_space_model.specs.declared.states.Page.TheVariants.{Untouched, Private, Shared, Leaving, LeavingShared, Coming, Swapped}
+use Rattle.wh_space_model.proofs.Tally.{one_other, one_same}
+use Rattle.wh_space_model.proofs.Putting.{here_or, pinned_here}
+use Rattle.wh_space_model.proofs.Serving.{evict_on, fetch_on}
+use Rattle.wh_space_model.proofs.Slotting.{slot_taken}
+use Rattle.wh_space_model.proofs.Wanting.{OneOrTwo, few_pages}
 use Rattle.wh_reclaim.specs.Providing.{GoesOn, LosesSlot}
 use Rattle.wh_reclaim.specs.declared.ready.MoveOutcome.{MoveOutcome}
 use Rattle.wh_reclaim.specs.declared.ready.MoveOutcome.TheVariants.{Done, Came, Left}

@@ -1,13 +1,10 @@
 -- How the choice of the one that pays goes on by one place.
 use Rattle.std.proofs.Common.{◌≡◌, ◌≢◌, ◌∙◌, ◌⊎◌, inl, inr, ℕ, ◌+◌, ◌*◌, ◌<◌, ◌≤◌, Bool, true, false, Option, Some, None, length, refl, sym, subst, arith}
 use Rattle.std.specs.Prelude.{MatchBool}
-use Rattle.wh_host_model.specs.declared.Claim.{Claim}
-use Rattle.wh_host_model.specs.declared.Tax.{Tax}
-use Rattle.wh_host_model.specs.Space.Charges.{active_of, charged_of}
-use Rattle.wh_host_model.specs.Space.Claims.{CanBeTaken, HasLess, IsEarlier, IsPayer, MayPay, NobodyPays, weight_of}
-use Rattle.wh_host_model.specs.Space.Parts.{Occupant, Space, occupant_at}
-use Rattle.wh_host_model.specs.Tax.{weight}
-use Rattle.wh_host_model.proofs.Space.Putting.{there_of}
+use Rattle.wh_space_model.specs.declared.Claim.{Claim}
+use Rattle.wh_space_model.specs.declared.Tax.{Tax}
+use Rattle.wh_space_model.specs.{active_of, charged_of, CanBeTaken, HasLess, IsEarlier, IsPayer, MayPay, NobodyPays, weight_of, Occupant, Space, occupant_at, weight}
+use Rattle.wh_space_model.proofs.Putting.{there_of}
 use Rattle.wh_reclaim.specs.Choosing.{IsAtPlace, IsPayerBelow, PaysBefore, PaysBelow}
 use Rattle.wh_reclaim.specs.declared.choice.Payer.{Payer}
 use Rattle.wh_space.specs.Claiming.{IsClaimOf, TakesNoPage}
@@ -25,7 +22,7 @@ cross_less s1 w1 s2 w2 s3 w3 first second some =
     let not : ¬ (s3 * w1 ≤ s1 * w3) = λ most. (let back = cross_lt s2 w2 s3 w3 s1 w1 second most some in omega arith) in
     omega (arith, not)
 
--- ---- claims stand for who is there
+-- ---- claims represent who is there
 
 pub same_occupant : (s : Space) (i : ℕ) (t u : Occupant) → occupant_at s i t → occupant_at s i u → u ≡ t
 same_occupant s i t u first second = let e = sym second ∙ first in cc

@@ -2,23 +2,15 @@
 use Rattle.std.proofs.Common.{◌≡◌, ◌∙◌, inl, inr, ℕ, Some, Result, Ok, Err, sym, ap, arith}
 use Rattle.std.specs.Prelude.{IfOk, OnErr, OnOk}
 use Rattle.wh_model.specs.declared.memory.Need.{Need}
-use Rattle.wh_host_model.specs.Space.Errands.{tickets}
-use Rattle.wh_host_model.specs.Space.Laws.{IsProvided}
-use Rattle.wh_host_model.specs.Space.Charges.{charged_of}
-use Rattle.wh_host_model.specs.Space.Claims.{MustLeave}
-use Rattle.wh_host_model.specs.Space.Moves.{Evicts}
-use Rattle.wh_host_model.specs.Space.Parts.{Space}
-use Rattle.wh_host_model.specs.Space.Provide.{FailsToProvide, GivesUp, OthersKeepMinimum, Provides}
-use Rattle.wh_host_model.specs.Space.Sound.{IsSound}
-use Rattle.wh_host_model.specs.Space.Tickets.{WaitsForBytes}
-use Rattle.wh_host_model.proofs.Space.Provided.{provision_is_right, serves_way}
+use Rattle.wh_space_model.specs.{tickets, IsProvided, charged_of, MustLeave, Evicts, Space, FailsToProvide, GivesUp, OthersKeepMinimum, Provides, IsSound, WaitsForBytes}
+use Rattle.wh_space_model.proofs.Provided.{provision_is_right, serves_way}
 use Rattle.wh_reclaim.specs.Providing.{Revokes}
 use Rattle.wh_reclaim.proofs.Beginning.{stands_wants}
 
 some_need : {a b : Need} → Some a ≡ Some b → a ≡ b
 some_need e = cc
 
--- it stands for one step
+-- it is blocked on one step
 pub one_need : (s : Space) (i : ℕ) (a b : Need) → WaitsForBytes s i a → WaitsForBytes s i b → a ≡ b
 one_need s i a b first second = some_need (sym (stands_wants s i a first) ∙ stands_wants s i b second)
 

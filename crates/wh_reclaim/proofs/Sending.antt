@@ -1,23 +1,17 @@
 -- A page that leaves with a ticket that comes back at once.
 use Rattle.std.proofs.Common.{◌≡◌, ◌≢◌, ◌∙◌, ◌⊎◌, ◌==◌, ◌++◌, inl, inr, ℕ, ◌<◌, cond, true, false, Bool, List, [], ◌∷◌, Option, Some, None, length, get_or, slice_get, slice_set, zero, suc, refl, sym, ap, subst, arith}
 use Rattle.std.proofs.lemmas.List.{get_or-set_same}
-use Rattle.wh_host_model.specs.Frames.{one_if, tally}
-use Rattle.wh_host_model.specs.declared.states.EvictEnd.{EvictEnd}
-use Rattle.wh_host_model.specs.declared.states.Page.{Page}
-use Rattle.wh_host_model.specs.declared.states.Page.TheVariants.{Untouched, Private, Shared, Leaving, LeavingShared, Coming, Swapped}
-use Rattle.wh_host_model.specs.declared.states.Slot.{Slot}
-use Rattle.wh_host_model.specs.declared.states.Slot.TheVariants.{Vacant, Taken, Evicting, Fetching}
-use Rattle.wh_host_model.specs.Space.Claims.{CanLeave}
-use Rattle.wh_host_model.specs.Space.Moves.{Evicts, evicted, frame_of}
-use Rattle.wh_host_model.specs.Space.Parts.{Occupant, Pins, Space, frame_bytes, pinned_by, sharers}
-use Rattle.wh_host_model.specs.Space.Sound.{IsSound, IsUsed}
-use Rattle.wh_host_model.specs.Space.States.{count, page_at, put, shares}
-use Rattle.wh_host_model.specs.Space.Tickets.{CommitsEvict, IsEvicting, as_before, as_leaving, departing, leaving_by, not_sent, sent_off, unpinned_page, with_held, without}
-use Rattle.wh_host_model.proofs.Tally.{one_same}
-use Rattle.wh_host_model.proofs.Space.Putting.{cond_other, put_this, set_same, there_of}
-use Rattle.wh_host_model.proofs.Space.Sent.{set_set}
-use Rattle.wh_host_model.proofs.Space.Slotting.{vacant_there}
-use Rattle.wh_host_model.proofs.Space.Sums.{put_tally}
+use Rattle.wh_space_model.specs.{one_if, tally, CanLeave, Evicts, evicted, frame_of, Occupant, Pins, Space, frame_bytes, pinned_by, sharers, IsSound, IsUsed, count, page_at, put, shares, CommitsEvict, IsEvicting, as_before, as_leaving, departing, leaving_by, not_sent, sent_off, unpinned_page, with_held, without}
+use Rattle.wh_space_model.specs.declared.states.EvictEnd.{EvictEnd}
+use Rattle.wh_space_model.specs.declared.states.Page.{Page}
+use Rattle.wh_space_model.specs.declared.states.Page.TheVariants.{Untouched, Private, Shared, Leaving, LeavingShared, Coming, Swapped}
+use Rattle.wh_space_model.specs.declared.states.Slot.{Slot}
+use Rattle.wh_space_model.specs.declared.states.Slot.TheVariants.{Vacant, Taken, Evicting, Fetching}
+use Rattle.wh_space_model.proofs.Tally.{one_same}
+use Rattle.wh_space_model.proofs.Putting.{cond_other, put_this, set_same, there_of}
+use Rattle.wh_space_model.proofs.Sent.{set_set}
+use Rattle.wh_space_model.proofs.Slotting.{vacant_there}
+use Rattle.wh_space_model.proofs.Sums.{put_tally}
 use Rattle.wh_space.specs.Transits.{IsDeparting, IsFetching, IsSentFor}
 use Rattle.wh_space.proofs.Fetching.{lies_there}
 

@@ -1,11 +1,9 @@
 -- What keeps memory and device together.
 use Rattle.std.proofs.Common.{◌≡◌, ◌∙◌, ℕ, List, [], ◌∷◌, Option, Some, None, map, replicate, zero, suc, refl, sym, ap, arith}
-use Rattle.wh_host_model.specs.Frames.{tally}
-use Rattle.wh_host_model.specs.declared.Tax.{Tax}
-use Rattle.wh_host_model.specs.declared.states.Slot.{Slot}
-use Rattle.wh_host_model.specs.declared.states.Slot.TheVariants.{Vacant, Taken, Evicting, EvictVoid, Fetching, FetchVoid}
-use Rattle.wh_host_model.specs.Space.Errands.{Errand, Pass, errand_for, is_ticket, pass_of, tickets}
-use Rattle.wh_host_model.specs.Space.Parts.{Slots, Space}
+use Rattle.wh_space_model.specs.{tally, Errand, Pass, errand_for, is_ticket, pass_of, tickets, Slots, Space}
+use Rattle.wh_space_model.specs.declared.Tax.{Tax}
+use Rattle.wh_space_model.specs.declared.states.Slot.{Slot}
+use Rattle.wh_space_model.specs.declared.states.Slot.TheVariants.{Vacant, Taken, Evicting, EvictVoid, Fetching, FetchVoid}
 use Rattle.wh_space.specs.Arrivals.{IsNew}
 use Rattle.wh_reclaim.specs.Together.{AreTogether}
 

@@ -2,9 +2,7 @@
 use Rattle.std.proofs.Common.{◌∙◌, inl, inr, ℕ, List, [], ◌∷◌, Result, Ok, Err, length-set, refl, subst, sym}
 use Rattle.std.specs.Prelude.{IfOk, OnErr}
 use Rattle.wh_model.specs.declared.memory.Need.{Need}
-use Rattle.wh_host_model.specs.Space.Moves.{Evicts, Fetches, Earmarks}
-use Rattle.wh_host_model.specs.Space.Parts.{Space}
-use Rattle.wh_host_model.specs.Space.Provide.{FailsToProvide, GivesUp, Move, MovesOn, Provides, Serves, comes, goes}
+use Rattle.wh_space_model.specs.{Evicts, Fetches, Earmarks, Space, FailsToProvide, GivesUp, Move, MovesOn, Provides, Serves, comes, goes}
 use Rattle.wh_reclaim.specs.Whole.{IsAsWhole}
 
 pub then_whole : (a b c : Space) → IsAsWhole a b → IsAsWhole b c → IsAsWhole a c

@@ -1,9 +1,9 @@
 -- The one that pays, among the places that were looked at.
 use Rattle.std.specs.Prelude.{ℕ, ◌≡◌, ◌<◌, ◌⊎◌, Option, Some, None}
-use Rattle.wh_host_model.specs.declared.Tax.{Tax}
-use Rattle.wh_host_model.specs.Space.Claims.{HasLess, IsEarlier, MayPay}
-use Rattle.wh_host_model.specs.Space.Parts.{Occupant, Space, occupant_at}
-use Rattle.wh_host_model.specs.Tax.{RhoEqual, RhoLess}
+use Rattle.wh_space_model.specs.declared.Tax.{Tax}
+use Rattle.wh_space_model.specs.Claims.{HasLess, IsEarlier, MayPay}
+use Rattle.wh_space_model.specs.Parts.{Occupant, Space, occupant_at}
+use Rattle.wh_space_model.specs.Tax.{RhoEqual, RhoLess}
 use Rattle.wh_reclaim.specs.declared.choice.Payer.{Payer}
 use Rattle.wh_space.specs.Claiming.{IsClaimOf}
 

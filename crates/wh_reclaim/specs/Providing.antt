@@ -1,12 +1,12 @@
 -- One move nearer to a step.
 use Rattle.std.specs.Prelude.{ℕ, ◌≡◌, ◌⊎◌, List, [], Some, slice_get}
 use Rattle.wh_model.specs.declared.memory.Need.{Need}
-use Rattle.wh_host_model.specs.declared.states.Slot.TheVariants.{Vacant}
-use Rattle.wh_host_model.specs.Space.Claims.{MustLeave}
-use Rattle.wh_host_model.specs.Space.Moves.{Evicts}
-use Rattle.wh_host_model.specs.Space.Parts.{Space}
-use Rattle.wh_host_model.specs.Space.Provide.{IsServed, IsTrueTo, MovesOn, comes, goes}
-use Rattle.wh_host_model.specs.Space.Tickets.{with_held}
+use Rattle.wh_space_model.specs.declared.states.Slot.TheVariants.{Vacant}
+use Rattle.wh_space_model.specs.Claims.{MustLeave}
+use Rattle.wh_space_model.specs.Moves.{Evicts}
+use Rattle.wh_space_model.specs.Parts.{Space}
+use Rattle.wh_space_model.specs.Provide.{IsServed, IsTrueTo, MovesOn, comes, goes}
+use Rattle.wh_space_model.specs.Tickets.{with_held}
 use Rattle.wh_reclaim.specs.declared.ready.MoveOutcome.{MoveOutcome}
 use Rattle.wh_reclaim.specs.declared.ready.MoveOutcome.TheVariants.{Done, Came, Left}
 

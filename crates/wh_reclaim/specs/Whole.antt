@@ -1,6 +1,6 @@
 -- What a provision leaves of the memory of all.
 use Rattle.std.specs.Prelude.{◌≡◌, length}
-use Rattle.wh_host_model.specs.Space.Parts.{Space}
+use Rattle.wh_space_model.specs.Parts.{Space}
 
 -- there are as many frames and slots as before, and the same tax
 pub record IsAsWhole (s s2 : Space) : Type 0 where

@@ -1,7 +1,7 @@
 // Pages that begin to leave, and to come.
 
 ghost use Rattle.std.specs.Prelude.{◌≡◌, IfErr, IfOk};
-ghost use Rattle.wh_host_model.specs.Space.Tickets.{BeginsEvict, BeginsFetch, IsEvicting, Reserves, WaitsForBytes};
+ghost use Rattle.wh_space_model.specs.Tickets.{BeginsEvict, BeginsFetch, IsEvicting, Reserves, WaitsForBytes};
 ghost use Rattle.wh_reclaim.specs.TicketViews.{bytes_begun, slot_begun};
 ghost use Rattle.wh_space.specs.Transits.{IsFetching};
 
@@ -23,12 +23,12 @@ fn reserve(memory: &mut Memory, place: usize, need: Need)
     memory.earmark(place, free.min(wanted));
 }
 
-/// A page begins to leave for the step for which the instance at this place waits: that of the one that pays, or where nobody
-/// has to pay one of its own. Before that all pins and earmarks end, the step's resident pages are pinned, and frames are
-/// earmarked for it. No byte of any page changes.
+/// Begins to evict a page for the step on which the instance at this place is blocked: the page that `page_to_take`
+/// returns. Before that it ends all pins and earmarks, pins the step's resident pages, and earmarks frames for the
+/// step. No byte of any page changes.
 ///
 /// # Errors
-/// The buffer, where the instance doesn't wait for a frame, its step lacks no frame, no slot is vacant or no page has to
+/// The buffer, if the instance isn't blocked on a frame, its step lacks no frame, no slot is vacant, or no page has to
 /// leave.
 pub fn evict_begin(memory: &mut Memory, place: usize, buf: Buf) -> Result<EvictTicket, Buf>
     ensures begins { BeginsEvict memory.old place (slot_begun result) (bytes_begun result)
@@ -55,12 +55,12 @@ pub fn evict_begin(memory: &mut Memory, place: usize, buf: Buf) -> Result<EvictT
     Ok(EvictTicket { slot, bytes })
 }
 
-/// The first page that lies in a slot of the step for which the instance at this place waits begins to come, into a frame that
-/// is earmarked for it. Before that all pins and earmarks end, the step's resident pages are pinned, and frames are earmarked
-/// for it. No byte of any page changes.
+/// Begins to fetch the first swapped page of the step on which the instance at this place is blocked, into a frame that
+/// is earmarked for it. Before that it ends all pins and earmarks, pins the step's resident pages, and earmarks frames
+/// for the step. No byte of any page changes.
 ///
 /// # Errors
-/// The buffer, where the instance doesn't wait for a frame, no page of its step lies in a slot, or no frame is free or
+/// The buffer, if the instance isn't blocked on a frame, no page of its step is in a slot, or no frame is free or
 /// earmarked for it.
 pub fn fetch_begin(memory: &mut Memory, place: usize, buf: Buf) -> Result<FetchTicket, Buf>
     ensures begins { BeginsFetch memory.old place (slot_begun result) memory.new }

@@ -1,15 +1,15 @@
 // Which page leaves.
 
 ghost use Rattle.std.specs.Prelude.{◌≡◌, ◌+◌, ◌<◌, None, Some, MatchBool, MatchOption, length};
-ghost use Rattle.wh_host_model.specs.Space.Claims.{MustLeave, NobodyPays, NoneMustLeave};
-ghost use Rattle.wh_host_model.specs.Space.Tickets.{WaitsForBytes};
+ghost use Rattle.wh_space_model.specs.Claims.{MustLeave, NobodyPays, NoneMustLeave};
+ghost use Rattle.wh_space_model.specs.Tickets.{WaitsForBytes};
 ghost use Rattle.wh_reclaim.specs.Choosing.{IsPayerBelow, PaysBefore};
 
 use crate::tax::cmp_rho;
 use std::cmp::Ordering;
-use wh_host_model::{Claim, Tax};
 use wh_model::Need;
 use wh_space::Memory;
+use wh_space_model::{Claim, Tax};
 
 /// A page of the instance at a place.
 #[derive(Clone, Copy, Debug, PartialEq, Eq)]
@@ -97,9 +97,9 @@ fn payer_of(memory: &Memory) -> Option<Payer>
     payer
 }
 
-/// The page that has to leave where a step of the instance at this place lacks a frame: that of the one that pays; where
-/// nobody has to pay, a sharer of a frame that the step writes, so that the write needs no copy; and where there is none, one of
-/// its own; or none. It looks at each instance once, and takes no memory.
+/// Returns the page to evict if a step of the instance at this place lacks a frame: that of the instance that pays; if
+/// nobody pays, a sharer of a frame that the step writes, so that the write needs no copy; if there is none, one of its
+/// own; or none. Looks at each instance once, and allocates nothing.
 pub fn page_to_take(memory: &Memory, place: usize, need: Need) -> Option<PageOf>
     requires { WaitsForBytes memory.now place need }
     ensures { MatchOption result (NoneMustLeave memory.now place need)

@@ -1,22 +1,23 @@
 // Tickets that come back.
 
 ghost use Rattle.std.specs.Prelude.{◌≡◌, [], OnOk, get_or, is_ok};
-ghost use Rattle.wh_host_model.specs.Space.Tickets.{CommitsEvict, CommitsFetch, IsEvicting};
+ghost use Rattle.wh_space_model.specs.Tickets.{CommitsEvict, CommitsFetch, IsEvicting};
 ghost use Rattle.wh_space.specs.Transits.{IsFetching};
 
 use crate::tickets::{Buf, EvictTicket, FetchTicket};
-use wh_host_model::{EvictEnd, FetchEnd, SwapError};
 use wh_space::Memory;
+use wh_space_model::{EvictEnd, FetchEnd, SwapError};
 
-/// The ticket of a page that was leaving comes back, with what the device answered to its write, and the buffer with it. Where
-/// that was Ok the memory was told what the slot holds (`Memory::written`). The answer is
+/// Ends an eviction: takes back its ticket, with what the device answered to the write, and gives back the buffer. If
+/// the answer was `Ok`, the memory has been told what the slot holds (`Memory::written`). Returns
 ///
-/// - `Void` where the page was written meanwhile or its instance released,
-/// - `Failed` where the device failed,
-/// - `Evicted`, and the page is in its slot, where its frame has the bytes that were written, by full comparison,
-/// - `Void` else.
+/// - `Void` if the page was written meanwhile or its instance released,
+/// - `Failed` if the device failed,
+/// - `Evicted`, and the page is in its slot, if its frame has the bytes that were written, by full comparison,
+/// - `Void` otherwise.
 ///
-/// Where it isn't `Evicted` a page that is still there is as before, and the slot is vacant. No byte of any page changes.
+/// Unless it returns `Evicted`, a page that is still there is as before, and the slot is vacant. No byte of any page
+/// changes.
 pub fn evict_commit(
     memory: &mut Memory,
     ticket: EvictTicket,
@@ -33,14 +34,13 @@ pub fn evict_commit(
     (end, bytes)
 }
 
-/// The ticket of a page that was coming comes back, with what the device answered to its read, and the buffer with it. The
-/// answer is
+/// Ends a fetch: takes back its ticket, with what the device answered to the read, and gives back the buffer. Returns
 ///
-/// - `Void` where its instance was released,
-/// - `Fetched`, and the page stands alone on its frame, with the bytes in the buffer, where the device answered Ok,
-/// - `Failed` else, and it lies in its slot as before.
+/// - `Void` if its instance was released,
+/// - `Fetched`, and the page has a frame of its own, with the bytes in the buffer, if the device answered `Ok`,
+/// - `Failed` otherwise, and the page is in its slot as before.
 ///
-/// Where it isn't `Fetched` the frame is free.
+/// Unless it returns `Fetched`, the frame is free.
 pub fn fetch_commit(
     memory: &mut Memory,
     ticket: FetchTicket,

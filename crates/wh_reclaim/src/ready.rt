@@ -1,16 +1,16 @@
 // Making a step ready.
 
 ghost use Rattle.std.specs.Prelude.{◌≡◌, ◌+◌, ◌≤◌, ℕ, [], Some, Ok, IfOk, OnErr, OnOk, get_or, length};
-ghost use Rattle.wh_host_model.specs.Frames.{one_if, tally};
-ghost use Rattle.wh_host_model.specs.declared.states.Page.TheVariants.{Swapped};
-ghost use Rattle.wh_host_model.specs.Space.Claims.{CanLeave};
-ghost use Rattle.wh_host_model.specs.Space.Errands.{tickets};
-ghost use Rattle.wh_host_model.specs.Space.Laws.{IsProvided};
-ghost use Rattle.wh_host_model.specs.Space.Moves.{Evicts, Fetches};
-ghost use Rattle.wh_host_model.specs.Space.Parts.{kept, pinned_by};
-ghost use Rattle.wh_host_model.specs.Space.Provide.{FailsToProvide, FailsTruly, IsServing, LacksFree, OthersKeepMinimum, Provides, ProvidesTruly};
-ghost use Rattle.wh_host_model.specs.Space.States.{page_at};
-ghost use Rattle.wh_host_model.specs.Space.Tickets.{WaitsForBytes};
+ghost use Rattle.wh_space_model.specs.Frames.{one_if, tally};
+ghost use Rattle.wh_space_model.specs.declared.states.Page.TheVariants.{Swapped};
+ghost use Rattle.wh_space_model.specs.Claims.{CanLeave};
+ghost use Rattle.wh_space_model.specs.Errands.{tickets};
+ghost use Rattle.wh_space_model.specs.Laws.{IsProvided};
+ghost use Rattle.wh_space_model.specs.Moves.{Evicts, Fetches};
+ghost use Rattle.wh_space_model.specs.Parts.{kept, pinned_by};
+ghost use Rattle.wh_space_model.specs.Provide.{FailsToProvide, FailsTruly, IsServing, LacksFree, OthersKeepMinimum, Provides, ProvidesTruly};
+ghost use Rattle.wh_space_model.specs.States.{page_at};
+ghost use Rattle.wh_space_model.specs.Tickets.{WaitsForBytes};
 ghost use Rattle.wh_model.specs.declared.memory.Need.{Need as Bytes};
 ghost use Rattle.wh_reclaim.specs.Providing.{GoesOn, LosesSlot, Revokes, left_by};
 ghost use Rattle.wh_reclaim.specs.Whole.{IsAsWhole};
@@ -18,9 +18,9 @@ ghost use Rattle.wh_swap.specs.DeviceCalls.{ServesOn, call_faults};
 
 use crate::choice::{PageOf, page_to_take};
 use crate::tickets::Buf;
-use wh_host_model::SwapError;
 use wh_model::Need;
 use wh_space::Memory;
+use wh_space_model::SwapError;
 use wh_swap::SwapDev;
 
 /// What was made of one move.
@@ -210,10 +210,10 @@ fn provide_for<D: SwapDev>(
     }
 }
 
-/// Makes the step ready for which the instance at this place waits: its resident pages are pinned, its swapped ones come,
-/// the first one first, and frames are earmarked for its writes. Where no frame is free, or too few for the writes, the page
-/// leaves that has to. Nothing is done where the instance doesn't wait for a frame. The buffer is of use while the call
-/// lasts. How many pages left, each by one write of the device.
+/// Makes the step ready on which the instance at this place is blocked: pins its resident pages, fetches its swapped
+/// ones, the first one first, and earmarks frames for its writes. If no frame is free, or too few for the writes,
+/// evicts the page that `page_to_take` returns. Does nothing if the instance isn't blocked on a frame. The buffer is
+/// used while the call lasts. Returns how many pages were evicted, each by one write of the device.
 ///
 /// # Errors
 /// That of the device's call that failed. The moves so far stay, and nothing is pinned or earmarked.

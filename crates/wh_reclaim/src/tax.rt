@@ -4,12 +4,12 @@
 //! `w = A * (den - num) + (P - A) * den`, and its fraction is `S * (den - num) / w`. The instance with the least fraction pays.
 
 ghost use Rattle.std.specs.Prelude.{◌≡◌, ◌↔◌, ◌≤◌};
-ghost use Rattle.wh_host_model.specs.Tax.{weight, RhoLess, RhoEqual};
+ghost use Rattle.wh_space_model.specs.Tax.{weight, RhoLess, RhoEqual};
 
 use std::cmp::Ordering;
-use wh_host_model::{Claim, Tax};
+use wh_space_model::{Claim, Tax};
 
-/// What the claim's frames weigh: `den - num` for each active one, and `den` for each other one.
+/// Returns the weight of the claim's frames: `den - num` for each active one, and `den` for each other one.
 pub fn weight(tax: Tax, claim: &Claim) -> u64
     ensures exact { result ≡ weight tax claim.now }
     ensures within { result ≤ 65536000 }
@@ -18,7 +18,7 @@ pub fn weight(tax: Tax, claim: &Claim) -> u64
     u64::from(claim.active) * u64::from(tax.den - tax.num) + u64::from(idle) * u64::from(tax.den)
 }
 
-/// How the fraction of the first claim stands to that of the second. It is exact: no division is made.
+/// Compares the fractions (shares by weight) of two claims. The comparison is exact: nothing is divided.
 pub fn cmp_rho(tax: Tax, first: &Claim, second: &Claim) -> Ordering
     ensures less { (result ≡ Ordering.Less) ↔ RhoLess tax first.now second.now }
     ensures equal { (result ≡ Ordering.Equal) ↔ RhoEqual tax first.now second.now }

@@ -27,14 +27,14 @@ impl Model for EvictTicket {
 }
 
 impl EvictTicket {
-    /// The slot that is to be written.
+    /// Returns the slot that is to be written.
     pub fn slot(&self) -> u32
         ensures { result ≡ self.now.slot }
     {
         self.slot
     }
 
-    /// The 4096 bytes that are to be written to it.
+    /// Returns the 4096 bytes that are to be written to it.
     pub fn bytes(&self) -> &[u8; 4096]
         ensures { result.now ≡ self.now.bytes }
     {
@@ -60,14 +60,14 @@ impl Model for FetchTicket {
 }
 
 impl FetchTicket {
-    /// The slot that is to be read.
+    /// Returns the slot that is to be read.
     pub fn slot(&self) -> u32
         ensures { result ≡ self.now.slot }
     {
         self.slot
     }
 
-    /// The buffer into which it is to be read.
+    /// Returns the buffer of 4096 bytes into which it is to be read.
     pub fn bytes_mut(&mut self) -> &mut [u8; 4096]
         ensures* writes { sem 𝓛 (LendsBuffer self.entry result) }
         ensures value { result.now ≡ self.old.bytes }

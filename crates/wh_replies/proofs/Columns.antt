@@ -3,7 +3,7 @@ use Rattle.std.proofs.Common.{◌≡◌, ◌==◌, false, ℕ, zero, suc, ◌-�
 use lib.Utf8.{encode as encode_utf8}
 use Rattle.std.specs.List.{repeat}
 use Rattle.std.specs.Fmt.{decimal, padded_integral, styled_decimal, format_spec, char_count}
-use Rattle.wh_script_model.specs.Texts.{column}
+use Rattle.wh_script_model.specs.{column}
 
 pads : (k : ℕ) → repeat {A = ℕ} k (32 ∷ []) ≡ replicate k 32
 pads zero = refl
@@ -16,7 +16,7 @@ lined p q digits e =
     let none : p - p ≡ 0 = omega arith in
     rw none (rw (append-nil digits, append-nil (repeat {A = ℕ} p (32 ∷ [])), append-nil (repeat {A = ℕ} p (32 ∷ [])), append-nil (repeat {A = ℕ} p (32 ∷ [])), pads p, e))
 
--- so many places, and spaces before a number that needs fewer
+-- n places, and spaces before a number that needs fewer
 pub column_of : (width n : ℕ) → (width == 0) ≡ false
     → styled_decimal (format_spec 32 3 0 width (2 ^ 64 - 1)) n ≡ column width n
 unfolding padded_integral char_count encode_utf8

@@ -1,7 +1,7 @@
 -- Bytes in hexadecimal, as the kit's crate writes them.
 use Rattle.std.proofs.Common.{◌≡◌, ℕ, zero, suc, ◌<◌, ◌/◌, ◌%◌, List, [], ◌∷◌, get_or, refl, ◌∙◌, Result, Ok, Err, IfOk, arith}
 use Rattle.hex.specs.Hex.{lower_digits, encode_with, encode_lower}
-use Rattle.wh_script_model.specs.Texts.{low_digit, hex_text}
+use Rattle.wh_script_model.specs.{low_digit, hex_text}
 
 digit : (n : ℕ) → n < 16 → get_or lower_digits n 0 ≡ low_digit n
 digit zero h = refl

@@ -3,12 +3,12 @@ use Rattle.std.proofs.Common.{◌≡◌, ℕ, suc, ◌-◌, ◌<◌, ◌^◌, lt
 use Rattle.std.proofs.lemmas.Bool.{cases_lt}
 use Rattle.std.proofs.lemmas.Int.{ints}
 use Rattle.wh_model.proofs.Numbers.{signed-low, signed-high}
-use Rattle.wh_model.specs.Execution.Numbers.{bits, signed}
+use Rattle.wh_model.specs.Execution.{bits, signed}
 use Rattle.wh_model.specs.declared.ValType.{ValType}
 use Rattle.wh_model.specs.declared.ValType.TheVariants.{I32, I64}
 use mir.Val.{sel}
 
--- a machine word of so many bits, read as signed
+-- a machine word of n bits, read as signed
 read_signed : (width i : ℕ) → i < 2 ^ width
     → sel (ltb i (2 ^ (width - 1))) (pos i) (negsuc (2 ^ width - suc i)) ≡ signed width i
 read_signed width i fits = ⊎_elim

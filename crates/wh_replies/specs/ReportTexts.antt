@@ -1,6 +1,6 @@
 -- The text of a report, by its numbers.
 use Rattle.std.specs.Prelude.{ℕ, List, flat_map, ◌++◌}
-use Rattle.wh_host_model.specs.declared.Tax.{Tax}
+use Rattle.wh_space_model.specs.declared.Tax.{Tax}
 use Rattle.wh_script_model.specs.Texts.{Row, frames_text, row_text, shared_text, slots_text}
 use Rattle.wh_host.specs.Reporting.{ReportRow, ReportState}
 

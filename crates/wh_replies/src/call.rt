@@ -43,19 +43,19 @@ pub enum Status {
     },
     /// It has trapped.
     Trap {
-        /// The number behind the T.
+        /// The number after the T.
         trap: u8,
         /// The charges.
         charges: u64,
     },
-    /// It stands for fuel.
+    /// It is blocked on fuel.
     Fuel {
         /// The charges.
         charges: u64,
     },
-    /// It stands for a fault of the swap device.
+    /// It is blocked on a fault of the swap device.
     Frame {
-        /// The number behind the S.
+        /// The number after the S.
         fault: u8,
         /// The charges.
         charges: u64,
@@ -76,7 +76,7 @@ pub enum Status {
     Dead,
     /// It wasn't taken.
     Refused {
-        /// The number behind the H.
+        /// The number after the H.
         fault: u8,
     },
 }

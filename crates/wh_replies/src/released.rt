@@ -5,10 +5,10 @@ ghost use Rattle.wh_script_model.specs.Texts.{output_text, hex_text, reply_text,
 
 use std::alloc::{AllocError, Global};
 
-/// Puts `release INST ok HEX` behind a text: the output in hexadecimal, lower case, or `-` where it is empty.
+/// Appends `release INST ok HEX` to a text: the output in hexadecimal, lower case, or `-` where it is empty.
 ///
 /// # Errors
-/// A growth of memory was refused; a beginning of the reply may stand behind the text.
+/// A growth of memory was refused; a beginning of the reply may have been appended.
 pub fn write_released(
     alloc: Global,
     text: &mut String,

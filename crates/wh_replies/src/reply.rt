@@ -38,21 +38,21 @@ impl fmt::Display for FaultPlace {
 pub enum ModuleRefusal {
     /// The decoder's fault.
     Broken {
-        /// The number behind the D.
+        /// The number after the D.
         kind: u8,
         /// Where it lies in the bytes.
         offset: usize,
     },
     /// The validator's fault.
     Invalid {
-        /// The number behind the V.
+        /// The number after the V.
         kind: u8,
         /// Where it lies.
         place: FaultPlace,
     },
     /// The linker's fault.
     Unlinked {
-        /// The number behind the L.
+        /// The number after the L.
         kind: u8,
         /// The place of the import.
         import: usize,
@@ -85,7 +85,7 @@ impl fmt::Display for ModuleRefusal {
 pub enum Reply<'a> {
     /// A line that can't be obeyed.
     Error {
-        /// The number behind the C.
+        /// The number after the C.
         cause: u8,
         /// The number of the line, from 1.
         line: u64,
@@ -113,7 +113,7 @@ pub enum Reply<'a> {
     AdmitRefused {
         /// The name.
         inst: &'a str,
-        /// The number behind the A.
+        /// The number after the A.
         fault: u8,
     },
     /// A `refuel` was obeyed.
@@ -125,7 +125,7 @@ pub enum Reply<'a> {
     RefuelRefused {
         /// The name of the instance.
         inst: &'a str,
-        /// The number behind the H.
+        /// The number after the H.
         fault: u8,
     },
     /// A `cancel` was obeyed.
@@ -137,7 +137,7 @@ pub enum Reply<'a> {
     CancelRefused {
         /// The name of the instance.
         inst: &'a str,
-        /// The number behind the H.
+        /// The number after the H.
         fault: u8,
     },
     /// A `retry` was obeyed.
@@ -149,7 +149,7 @@ pub enum Reply<'a> {
     RetryRefused {
         /// The name of the instance.
         inst: &'a str,
-        /// The number behind the H.
+        /// The number after the H.
         fault: u8,
     },
     /// A `scan` was done.
@@ -158,7 +158,7 @@ pub enum Reply<'a> {
     ReleaseRefused {
         /// The name of the instance.
         inst: &'a str,
-        /// The number behind the H.
+        /// The number after the H.
         fault: u8,
     },
     /// How far a call is.
@@ -191,10 +191,10 @@ impl fmt::Display for Reply<'_> {
     }
 }
 
-/// Puts the text of a reply behind a text.
+/// Appends the text of a reply to a text.
 ///
 /// # Errors
-/// A growth of memory was refused; a beginning of the reply may stand behind the text.
+/// A growth of memory was refused; a beginning of the reply may have been appended.
 pub fn write_reply(text: &mut String, reply: Reply<'_>) -> Result<(), AllocError>
     ensures { OnOk result
         (string_bytes text.new ≡ string_bytes text.old ++ reply_text (reply_of reply.entry)) }

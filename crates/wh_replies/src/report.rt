@@ -8,9 +8,9 @@ ghost use Rattle.wh_replies.specs.ReportTexts.{row_of, rows_text, head_text, rep
 use std::alloc::AllocError;
 use std::fmt;
 use wh_host::{InstanceReport, Report};
-use wh_host_model::Tax;
+use wh_space_model::Tax;
 
-// Puts `# frames N used U free F` behind a text.
+// Appends `# frames N used U free F` to a text.
 fn write_frames(text: &mut String, frames: u32, used: u32) -> Result<(), AllocError>
     requires { used ≤ frames }
     ensures { OnOk result
@@ -20,7 +20,7 @@ fn write_frames(text: &mut String, frames: u32, used: u32) -> Result<(), AllocEr
     writeln!(text, "# frames {frames} used {used} free {free}")
 }
 
-// Puts `# slots N used U free F` behind a text.
+// Appends `# slots N used U free F` to a text.
 fn write_slots(text: &mut String, slots: u32, used: u32) -> Result<(), AllocError>
     requires { used ≤ slots }
     ensures { OnOk result
@@ -30,7 +30,7 @@ fn write_slots(text: &mut String, slots: u32, used: u32) -> Result<(), AllocErro
     writeln!(text, "# slots {slots} used {used} free {free}")
 }
 
-// Puts `# shared frames K sharers J` behind a text.
+// Appends `# shared frames K sharers J` to a text.
 fn write_shared(text: &mut String, frames: u32, sharers: u64) -> Result<(), AllocError>
     ensures { OnOk result
         (string_bytes text.new ≡ string_bytes text.old ++ shared_text frames sharers) }
@@ -73,7 +73,7 @@ impl fmt::Display for Rho {
     }
 }
 
-// Puts spaces up to the width, and then the number, behind a text.
+// Appends spaces up to the width, and then the number, to a text.
 fn write_column(text: &mut String, width: usize, n: u64) -> Result<(), AllocError>
     requires above { 1 ≤ width }
     requires within { width ≤ 8 }
@@ -82,8 +82,8 @@ fn write_column(text: &mut String, width: usize, n: u64) -> Result<(), AllocErro
     write!(text, "{n:>width$}")
 }
 
-// Puts the line of an instance behind a text: `#`, its number, shares, least and greatest number of frames, charged
-// and active frames, swapped pages, right-aligned, and the fraction of its shares to what its frames weigh.
+// Appends the line of an instance to a text: `#`, its number, shares, least and greatest number of frames, charged and
+// active frames, swapped pages, right-aligned, and the fraction of its shares to what its frames weigh.
 fn write_row(text: &mut String, tax: Tax, instance: InstanceReport) -> Result<(), AllocError>
     ensures { OnOk result
         (string_bytes text.new ≡ string_bytes text.old ++ row_text (row_of tax (view_row instance))) }
@@ -100,7 +100,7 @@ fn write_row(text: &mut String, tax: Tax, instance: InstanceReport) -> Result<()
     writeln!(text, " {rho}")
 }
 
-// Puts the lines of these instances behind a text.
+// Appends the lines of these instances to a text.
 fn write_rows(text: &mut String, tax: Tax, instances: &[InstanceReport]) -> Result<(), AllocError>
     ensures { OnOk result
         (string_bytes text.new ≡ string_bytes text.old ++ rows_text tax (map view_row instances.now)) }
@@ -111,7 +111,7 @@ fn write_rows(text: &mut String, tax: Tax, instances: &[InstanceReport]) -> Resu
     Ok(())
 }
 
-// Puts the first three lines behind a text.
+// Appends the first three lines to a text.
 fn write_head(text: &mut String, report: &Report) -> Result<(), AllocError>
     ensures { OnOk result
         (string_bytes text.new ≡ string_bytes text.old ++ head_text (view_report report.now)) }
@@ -121,11 +121,11 @@ fn write_head(text: &mut String, report: &Report) -> Result<(), AllocError>
     write_shared(text, report.shared_frames, report.sharers)
 }
 
-/// Puts a report behind a text: three lines on frames, slots and shared frames, and one for each instance, whose last
+/// Appends a report to a text: three lines on frames, slots and shared frames, and one for each instance, whose last
 /// column is what its shares are to the weight of its frames.
 ///
 /// # Errors
-/// A growth of memory was refused; a beginning of the report may stand behind the text.
+/// A growth of memory was refused; a beginning of the report may have been appended.
 pub fn write_report(text: &mut String, report: &Report) -> Result<(), AllocError>
     ensures { OnOk result
         (string_bytes text.new ≡ string_bytes text.old ++ report_text (view_report report.now)) }

@@ -5,8 +5,8 @@ ghost use Rattle.wh_model.specs.Execution.Numbers.{bits, signed};
 
 use wh_model::ValType;
 
-/// The signed number that a value of this type stands for, by its word: an i32 is a word below 2^32. `None` where the word is
-/// none of this type.
+/// Returns the signed number that a word represents as a value of this type: an i32 is a word below 2^32. Returns
+/// `None` if the word is none of this type.
 #[tactic(auto, using(crate::proofs::Signed::signs))]
 pub fn signed_value(of: ValType, word: u64) -> Option<i64>
     ensures { word < 2 ^ bits of → result ≡ Some (signed (bits of) word) }

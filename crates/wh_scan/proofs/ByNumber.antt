@@ -2,15 +2,11 @@
 use Rattle.std.proofs.Common.{◌≡◌, ◌+◌, ◌<◌, ◌≤◌, ◌++◌, ◌⊎◌, ◌∙◌, ℕ, inl, inr, List, [], ◌∷◌, Option, Some, None, get_or, length, slice_get, zero, suc, refl, sym, ap, subst, arith, length-append}
 use Rattle.std.specs.Prelude.{◌↔◌}
 use Rattle.std.proofs.lemmas.Bool.{cases_lt}
-use Rattle.wh_host_model.specs.declared.plain.InstId.{InstId}
-use Rattle.wh_host_model.specs.declared.states.Page.{Page}
-use Rattle.wh_host_model.specs.Space.Charges.{occupant_number}
-use Rattle.wh_host_model.specs.Space.Parts.{Occupant, Space, occupant_at, of_occupant}
-use Rattle.wh_host_model.specs.Space.Scanning.{Scans}
-use Rattle.wh_host_model.specs.Space.Sound.{HasTable, IsSound}
-use Rattle.wh_host_model.specs.Space.States.{page_at, resident}
-use Rattle.wh_host_model.proofs.Space.Putting.{get_or_is, here_or, is_page}
-use Rattle.wh_host_model.proofs.Space.Rooms.{get_there}
+use Rattle.wh_space_model.specs.declared.plain.InstId.{InstId}
+use Rattle.wh_space_model.specs.declared.states.Page.{Page}
+use Rattle.wh_space_model.specs.{occupant_number, Occupant, Space, occupant_at, of_occupant, Scans, HasTable, IsSound, page_at, resident}
+use Rattle.wh_space_model.proofs.Putting.{get_or_is, here_or, is_page}
+use Rattle.wh_space_model.proofs.Rooms.{get_there}
 use Rattle.wh_tables.specs.Line.{IsAbove}
 use Rattle.wh_space.specs.Numbered.{ComesAfter, IsNextInstance}
 use Rattle.wh_space.proofs.Owning.{page_there}
@@ -120,7 +116,6 @@ pub pages_next : (s : Space) (after : Option ℕ) (pages : List (ℕ × ℕ)) (n
 pages_next s after pages next sound first is =
     let row = length (get_or s.tables next.place []) in
     let its : List (ℕ × ℕ) = pages_before next.place row in
-    let number = is.number in
     record {
       each = λ i p. (
         λ has. elim (in_left pages its (i, p) has.0 has.1) [
@@ -128,16 +123,12 @@ pages_next s after pages next sound first is =
           | inr there ↦
               (let mine = in_before next.place row there.0 (i, p) there.2 in
               let place : i ≡ next.place = mine.0 in
-              let page : p ≡ there.0 = mine.1 in
-              let least : there.0 < row = mine.2 in
               rw place (omega arith, omega arith))
         ],
         λ within. elim (up_or_above after (occupant_number s i)) [
           | inl up ↦ (let old = (first.each i p).1 (within.0, up) in has_left pages its i p old.0 old.1)
           | inr above ↦
               (let some : 1 ≤ length (get_or s.tables i []) = (let w : p < length (get_or s.tables i []) = within.0 in omega arith) in
-              let least = is.lowest i (some, above) in
-              let most : occupant_number s i ≤ next.number = within.1 in
               let same : next.place ≡ i = own_number s next.place i sound is.later.0 some (omega arith) in
               let has = has_before next.place p row (rw same within.0) in
               let its_page : slice_get its has.0 ≡ Some (i, p) = has.1 ∙ ap (λ (z : ℕ). Some (z, p)) same in
@@ -160,8 +151,6 @@ pages_next s after pages next sound first is =
       order j k x y less (inr (m, e, a)) (inr (n, f, b)) =
           let one = in_before next.place (length (get_or s.tables next.place [])) m x a in
           let other = in_before next.place (length (get_or s.tables next.place [])) n y b in
-          let p : x.1 ≡ m = one.1 in
-          let q : y.1 ≡ n = other.1 in
           inr (one.0 ∙ sym other.0, omega arith)
 
 -- and so all of them
@@ -226,7 +215,7 @@ pass_over hashes s after offered s2 sound pass none =
 pub pass_done : (hashes : List ℕ → ℕ) (s : Space) (after : Option ℕ) (offered : ℕ) (s2 : Space) → IsSound s → IsPassUpTo hashes s after offered s2 → ((i : ℕ) → ¬ ComesAfter s2 after i) → ScansAll hashes s s2
 pass_done hashes s after offered s2 sound pass none = (pass.pages, pass_over hashes s after offered s2 sound pass none, pass.scans)
 
--- so many
+-- n
 pub pass_many : (hashes : List ℕ → ℕ) (s : Space) (after : Option ℕ) (offered : ℕ) (s2 : Space) → IsSound s → IsPassUpTo hashes s after offered s2 → ((i : ℕ) → ¬ ComesAfter s2 after i) → HasSoManyPages s offered
 pass_many hashes s after offered s2 sound pass none = λ others all.
     ap (λ (xs : List (ℕ × ℕ)). length xs) (one_order s others pass.pages all (pass_over hashes s after offered s2 sound pass none)) ∙ pass.many

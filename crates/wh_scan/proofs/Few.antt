@@ -1,16 +1,12 @@
 -- How many pages there are: no more than frames and slots.
 use Rattle.std.proofs.Common.{◌≡◌, ◌≢◌, ◌+◌, ◌-◌, ◌^◌, ◌<◌, ◌≤◌, ◌∙◌, ℕ, inl, inr, List, [], ◌∷◌, Option, Some, None, get_or, length, slice_set, zero, suc, refl, sym, ap, subst, arith}
 use Rattle.std.proofs.lemmas.List.{length-set}
-use Rattle.wh_host_model.specs.declared.plain.InstId.{InstId}
-use Rattle.wh_host_model.specs.declared.states.Page.{Page}
-use Rattle.wh_host_model.specs.Frames.{tally}
-use Rattle.wh_host_model.specs.Space.Charges.{occupant_number}
-use Rattle.wh_host_model.specs.Space.Parts.{Occupant, Space, of_occupant}
-use Rattle.wh_host_model.specs.Space.Scanning.{Scans}
-use Rattle.wh_host_model.specs.Space.Sound.{HasTable, IsSound}
-use Rattle.wh_host_model.proofs.Space.Putting.{get_or_is, here_or, there_of}
-use Rattle.wh_host_model.proofs.Space.Rooms.{get_there}
-use Rattle.wh_host_model.proofs.Space.Sums.{beside, set_tally, tally_plus}
+use Rattle.wh_space_model.specs.declared.plain.InstId.{InstId}
+use Rattle.wh_space_model.specs.declared.states.Page.{Page}
+use Rattle.wh_space_model.specs.{tally, occupant_number, Occupant, Space, of_occupant, Scans, HasTable, IsSound}
+use Rattle.wh_space_model.proofs.Putting.{get_or_is, here_or, there_of}
+use Rattle.wh_space_model.proofs.Rooms.{get_there}
+use Rattle.wh_space_model.proofs.Sums.{beside, set_tally, tally_plus}
 use Rattle.wh_tables.specs.Line.{IsAbove}
 use Rattle.wh_space.specs.Merges.{HasFewPages}
 use Rattle.wh_space.specs.Numbered.{IsNextInstance}

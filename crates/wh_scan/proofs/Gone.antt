@@ -1,12 +1,9 @@
 -- An instance that is gone.
 use Rattle.std.proofs.Common.{◌≡◌, ℕ, None, Some, false, get_or, length, refl, arith}
-use Rattle.wh_host_model.specs.declared.states.Page.{Page}
-use Rattle.wh_host_model.specs.declared.states.Page.TheVariants.{Private, Shared}
-use Rattle.wh_host_model.specs.Space.Offers.{MayNotMerge}
-use Rattle.wh_host_model.specs.Space.Parts.{Space, found_at, has_number}
-use Rattle.wh_host_model.specs.Space.Sound.{IsSound}
-use Rattle.wh_host_model.specs.Space.States.{page_at}
-use Rattle.wh_host_model.proofs.Space.Putting.{is_page}
+use Rattle.wh_space_model.specs.declared.states.Page.{Page}
+use Rattle.wh_space_model.specs.declared.states.Page.TheVariants.{Private, Shared}
+use Rattle.wh_space_model.specs.{MayNotMerge, Space, found_at, has_number, IsSound, page_at}
+use Rattle.wh_space_model.proofs.Putting.{is_page}
 
 -- it has no page
 pub gone : (s : Space) (place number p : ℕ) → IsSound s → has_number (get_or s.occupants place None) number ≡ false → MayNotMerge s (found_at s place number) p

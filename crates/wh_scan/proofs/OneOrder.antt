@@ -1,7 +1,6 @@
 -- There is one order of all pages: two lists of them are the same.
 use Rattle.std.proofs.Common.{◌≡◌, ◌<◌, ℕ, inl, inr, List, [], ◌∷◌, Some, slice_get, zero, suc, refl, sym, ap, subst, arith}
-use Rattle.wh_host_model.specs.Space.Charges.{occupant_number}
-use Rattle.wh_host_model.specs.Space.Parts.{Space}
+use Rattle.wh_space_model.specs.{occupant_number, Space}
 use Rattle.wh_scan.specs.Pass.{AreAllPages, ComesFirst}
 
 abbrev Has : List (ℕ × ℕ) → ℕ × ℕ → Type 0

@@ -2,21 +2,28 @@
 use Rattle.std.proofs.Common.{◌≡◌, ◌+◌, ◌≤◌, ◌++◌, ℕ, inl, inr, List, [], ◌∷◌, Option, Some, None, get_or, length, zero, suc, refl, sym, ◌∙◌, ap, subst, arith}
 use Rattle.std.proofs.lemmas.List.{length-map}
 use Rattle.std.proofs.lemmas.Bool.{cases_lt}
-use Rattle.wh_host_model.specs.declared.states.Offer.{Offer}
-use Rattle.wh_host_model.specs.declared.states.Offer.TheVariants.{Skipped, Zeroed, Hinted, Stale, Merged, FalseMatch}
-use Rattle.wh_host_model.specs.declared.states.Page.{Page}
-use Rattle.wh_host_model.specs.Space.Offers.{Offers, OffersAlone, OffersUnlisted}
-use Rattle.wh_host_model.specs.Space.Parts.{Occupant, Space, backing}
-use Rattle.wh_host_model.specs.Space.Scanning.{IsHashOf, Scans}
-use Rattle.wh_host_model.specs.Space.Sound.{HasTable, IsSound}
-use Rattle.wh_host_model.specs.Space.States.{Backing, contents, page_bytes}
-use Rattle.wh_host_model.proofs.Space.Chained.{scans_soundly}
-use Rattle.wh_host_model.proofs.Space.Rooms.{get_there}
-use Rattle.wh_host_model.proofs.Space.Rows.{past_there}
+use Rattle.wh_space_model.specs.declared.states.Offer.{Offer}
+use Rattle.wh_space_model.specs.declared.states.Offer.TheVariants.{Skipped, Zeroed, Hinted, Stale, Merged, FalseMatch}
+use Rattle.wh_space_model.specs.declared.states.Page.{Page}
+use Rattle.wh_space_model.specs.Offers.{Offers}
+use Rattle.wh_space_model.specs.{OffersAlone, OffersUnlisted, Occupant, Space, backing, IsHashOf, Scans, HasTable, IsSound, Backing, contents, page_bytes}
+use Rattle.wh_space_model.proofs.Chained.{scans_soundly}
+use Rattle.wh_space_model.proofs.Rooms.{get_there}
+use Rattle.wh_space_model.proofs.Rows.{past_there}
 use Rattle.wh_space.specs.Merges.{HasFewPages}
 use Rattle.wh_scan.specs.Pass.{pages_before}
 
 -- ---- one after the other
+
+pub few_rows : (s : Space) (i : ℕ) → IsSound s → length (get_or s.tables i []) ≤ 65536
+few_rows s i sound =
+    elim (cases_lt i (length s.occupants)) [
+      | inl within ↦ (let t = get_there s.occupants i within in by t.0 (sound.occupants.have i t.0 t.1))
+      | inr past ↦ (let l = sound.occupants.tables in let none = past_there s.tables i (omega arith) in rw none (omega arith))
+    ] where
+      by : (t : Option Occupant) → HasTable t (get_or s.tables i []) → length (get_or s.tables i []) ≤ 65536
+      by None has = rw has (omega arith)
+      by (Some t) has = let a = has.2 in let b = has.4 in omega arith
 
 pub scans_on : (hashes : List ℕ → ℕ) (s : Space) (xs ys : List (ℕ × ℕ)) (mid s2 : Space) → Scans hashes s xs mid
     → Scans hashes mid ys s2 → Scans hashes s (xs ++ ys) s2
@@ -103,16 +110,6 @@ scans_occupants hashes s [] s2 is = ap (λ (z : Space). z.occupants) is
 scans_occupants hashes s (x ∷ xs) s2 (hash, answer, mid, is, offers, rest) = scans_occupants hashes mid xs s2 rest ∙ offers_occupants hashes s x.0 x.1 hash answer mid offers
 
 -- ---- a table has few pages
-
-pub few_rows : (s : Space) (i : ℕ) → IsSound s → length (get_or s.tables i []) ≤ 65536
-few_rows s i sound =
-    elim (cases_lt i (length s.occupants)) [
-      | inl within ↦ (let t = get_there s.occupants i within in by t.0 (sound.occupants.have i t.0 t.1))
-      | inr past ↦ (let l = sound.occupants.tables in let none = past_there s.tables i (omega arith) in rw none (omega arith))
-    ] where
-      by : (t : Option Occupant) → HasTable t (get_or s.tables i []) → length (get_or s.tables i []) ≤ 65536
-      by None has = rw has (omega arith)
-      by (Some t) has = let a = has.2 in let b = has.4 in omega arith
 
 -- ---- the next one
 

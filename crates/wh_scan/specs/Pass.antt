@@ -1,9 +1,9 @@
 -- A pass over all pages.
 use Rattle.std.specs.Prelude.{ℕ, ◌≡◌, ◌<◌, ◌⊎◌, ◌↔◌, ◌++◌, List, [], ◌∷◌, Some, length, get_or, slice_get, zero, suc}
-use Rattle.wh_host_model.specs.Space.Charges.{occupant_number}
-use Rattle.wh_host_model.specs.Space.Errands.{tickets}
-use Rattle.wh_host_model.specs.Space.Parts.{Space, kept, pinned_by}
-use Rattle.wh_host_model.specs.Space.Scanning.{IsContent, IsFullPass, MadeUnder, Scans}
+use Rattle.wh_space_model.specs.Charges.{occupant_number}
+use Rattle.wh_space_model.specs.Errands.{tickets}
+use Rattle.wh_space_model.specs.Parts.{Space, kept, pinned_by}
+use Rattle.wh_space_model.specs.Scanning.{IsContent, IsFullPass, MadeUnder, Scans}
 
 -- the first n pages of the instance at a place, each by place and page
 abbrev pub pages_before : ℕ → ℕ → List (ℕ × ℕ)
@@ -20,7 +20,7 @@ pub record AreAllPages (s : Space) (pages : List (ℕ × ℕ)) : Type 0 where
   pub each : (i p : ℕ) → ((k : ℕ) × (slice_get pages k ≡ Some (i, p))) ↔ (p < length (get_or s.tables i []))
   pub in_order : (j k : ℕ) (x y : ℕ × ℕ) → j < k → slice_get pages j ≡ Some x → slice_get pages k ≡ Some y → ComesFirst s x y
 
--- there are so many of them
+-- there are n of them
 abbrev pub HasSoManyPages : Space → ℕ → Type 0
 HasSoManyPages s n = (pages : List (ℕ × ℕ)) → AreAllPages s pages → length pages ≡ n
 

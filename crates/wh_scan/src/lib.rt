@@ -1,4 +1,4 @@
-//! The sharing scan: pages with equal bytes come to lie on one frame.
+//! The sharing scan: pages with equal bytes come to share one frame.
 #![tactic(auto)]
 
 mod offers;

@@ -1,16 +1,16 @@
 // Offers of pages.
 
 ghost use Rattle.std.specs.Prelude.{◌≢◌, ℕ, List, IfSome, IfNone, Some};
-ghost use Rattle.wh_host_model.specs.Frames.{IsTaken};
-ghost use Rattle.wh_host_model.specs.Pages.{zero_page};
-ghost use Rattle.wh_host_model.specs.Space.Offers.{FindsHint, FindsShared, IsOffered, MayBeListed, Offers, OffersAlone, OffersOf, OffersUnlisted};
-ghost use Rattle.wh_host_model.specs.Space.Parts.{frame_bytes};
+ghost use Rattle.wh_space_model.specs.Frames.{IsTaken};
+ghost use Rattle.wh_space_model.specs.Pages.{zero_page};
+ghost use Rattle.wh_space_model.specs.Offers.{FindsHint, FindsShared, IsOffered, MayBeListed, Offers, OffersAlone, OffersOf, OffersUnlisted};
+ghost use Rattle.wh_space_model.specs.Parts.{frame_bytes};
 ghost use Rattle.wh_space.specs.Merges.{HasFewPages};
 
 use wh_content::ContentEntry;
-use wh_host_model::Offer;
 use wh_kernels::{PageHash, is_zero, pages_equal};
 use wh_space::{Memory, UnlistedFrame};
+use wh_space_model::Offer;
 
 // A page on its frame.
 #[derive(Clone, Copy)]
@@ -28,7 +28,7 @@ struct UnlistedSpot {
     on: UnlistedFrame,
 }
 
-// The frame on which a page stands alone, where it may be merged.
+// The frame of its own of a page that may be merged.
 fn offered_frame(memory: &Memory, place: u32, page: u32) -> Option<u32>
     ensures some { IfSome result (λ frame. IsOffered memory.now place page frame) }
     ensures taken { IfSome result (λ frame. IsTaken memory.now.pool frame) }
@@ -219,7 +219,7 @@ fn offer_unlisted<H: PageHash>(
     }
 }
 
-/// Offers a page of whoever is at this place for sharing, under any hash at all, and says what came of it. In this order:
+/// Offers a page of whoever is at this place for sharing, under any hash at all; returns the outcome. In this order:
 ///
 /// - `Skipped`: the page isn't alone on a frame, or may not be merged.
 /// - `Zeroed`: its bytes are all zero. It has no frame any more.

@@ -1,16 +1,16 @@
 // A pass over all pages.
 
 ghost use Rattle.std.specs.Prelude.{◌≡◌, ◌+◌, ℕ, List, [], length, get_or};
-ghost use Rattle.wh_host_model.specs.Space.Offers.{Offers};
-ghost use Rattle.wh_host_model.specs.Space.Scanning.{IsDistinct, IsHashOf, Scans};
+ghost use Rattle.wh_space_model.specs.Offers.{Offers};
+ghost use Rattle.wh_space_model.specs.Scanning.{IsDistinct, IsHashOf, Scans};
 ghost use Rattle.wh_scan.specs.Pass.{HasSoManyPages, MayPass, PassesOverAll, ScansAll, pages_before};
 ghost use Rattle.wh_space.specs.Merges.{HasFewPages};
 
 use crate::offers::offer_at;
 use crate::sample::take;
-use wh_host_model::Offer;
 use wh_kernels::PageHash;
 use wh_space::Memory;
+use wh_space_model::Offer;
 
 // The hash of a page's bytes, or 0 where it has none to offer.
 fn hash_at<H: PageHash>(memory: &Memory, hasher: &H, place: u32, page: u32) -> u64

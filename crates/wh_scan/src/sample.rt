@@ -1,7 +1,7 @@
 // The bytes of a page, to be hashed while the memory goes on.
 
 ghost use Rattle.std.specs.Prelude.{◌≡◌, ℕ, IfSome, IfNone};
-ghost use Rattle.wh_host_model.specs.Space.Parts.{frame_bytes};
+ghost use Rattle.wh_space_model.specs.Parts.{frame_bytes};
 ghost use Rattle.wh_scan.specs.Sampling.{HasNoSample, IsSampledOn};
 
 use wh_space::Memory;
@@ -13,8 +13,8 @@ pub struct Sample {
     pub bytes: [u8; 4096],
 }
 
-/// The bytes of a page of the instance at this place; none where it is neither alone on a frame nor on one that is shared and
-/// has no entry, or leaves it, or there is no such page.
+/// Copies the bytes of a page of the instance at this place. Returns `None` unless the page has a frame of its own, or
+/// shares one that has no entry, and isn't leaving it.
 pub fn take(memory: &Memory, place: u32, page: u32) -> Option<Sample>
     ensures some { IfSome result (λ sample. (g : ℕ)
         × IsSampledOn memory.now place page g

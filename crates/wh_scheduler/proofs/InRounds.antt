@@ -2,7 +2,7 @@
 use Rattle.std.proofs.Common.{◌≡◌, ◌≢◌, ◌∙◌, inl, inr, ◌+◌, ◌-◌, ◌<◌, ◌++◌, ℕ, zero, suc, List, [], ◌∷◌, Some, length, slice_get, slice_set, refl, sym, ap, subst, arith}
 use Rattle.std.proofs.lemmas.Bool.{cases_eq}
 use Rattle.std.proofs.lemmas.List.Sums.{sum_by-cons}
-use Rattle.wh_host_model.proofs.Space.Putting.{set_other, set_same}
+use Rattle.wh_space_model.proofs.Putting.{set_other, set_same}
 use Rattle.wh_host.specs.declared.rounds.Runner.{Runner}
 use Rattle.wh_host.specs.Rounds.{AllAreFree, IsFree}
 use Rattle.wh_threads.specs.Working.{ReceivedTurnsState, turns_due}
@@ -26,12 +26,11 @@ spent_turns (y ∷ ys) (o ∷ os) (x ∷ xs) same same2 s =
     let first = s.run zero y o refl refl in
     let is : x ≡ (let r : ReceivedTurnsState = record o { count = o.count - turns_by y.answer } in r) = cc first.1 in
     let count = ap (λ (z : ReceivedTurnsState). z.count) is in
-    let enough = first.0 in
     let more = spent_turns ys os xs (omega (arith, same)) (omega (arith, same2)) (record { run = λ k z p. s.run (suc k) z p; rest = λ k least. s.rest (suc k) (omega (arith, least)) }) in
     let after : turns_due (x ∷ xs) ≡ x.count + turns_due xs = sum_by-cons (λ (z : ReceivedTurnsState). z.count) x xs in
     let before : turns_due (o ∷ os) ≡ o.count + turns_due os = sum_by-cons (λ (z : ReceivedTurnsState). z.count) o os in
     let round : turns_of_round (y ∷ ys) ≡ turns_by y.answer + turns_of_round ys = sum_by-cons (λ (z : Runner). turns_by z.answer) y ys in
-    omega (arith, count, enough, more, after, before, round)
+    omega (arith, count, first.0, more, after, before, round)
 
 -- one of them is put in its place; what holds of it there, and held of all others, holds of each
 pub each_next : (P : ℕ → Runner → Type 0) (ys : List Runner) (i k : ℕ) (y z : Runner) → i < length ys → slice_get (slice_set ys i y) k ≡ Some z → P i y

@@ -1,5 +1,6 @@
 mod InRounds
 pub mod OwnTurns
 mod InHand
+mod Paged
 mod RunQueues
 mod Scans

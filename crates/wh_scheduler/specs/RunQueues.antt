@@ -1,6 +1,6 @@
 -- Which instances have turns.
 use Rattle.std.specs.Prelude.{◌≡◌, ◌≢◌, ◌<◌, ◌≤◌, ◌⊎◌, ℕ, Bool, List, length, slice_get, slice_set, Option, Some, true, false}
-use Rattle.wh_host_model.specs.declared.plain.InstId.{InstId}
+use Rattle.wh_space_model.specs.declared.plain.InstId.{InstId}
 use Rattle.wh_host.specs.Hosting.{HostState}
 use Rattle.wh_host.specs.Paging.{IsAwaiting, IsGoing, Tells}
 use Rattle.wh_cell.specs.declared.moving.Moved.{Moved}

@@ -1,15 +1,31 @@
-//! Turns that the owner of a host runs itself, where no thread works: on the host in hand, under no lock and through no channel.
+//! What the owner of a host does itself, where no thread works: turns, offers and passes, under no lock and through no
+//! channel.
 
-ghost use Rattle.std.specs.Prelude.{◌≡◌, ◌-◌, ◌+◌, ◌^◌, ◌<◌, ◌≤◌, ◌⊎◌, false, true};
-ghost use Rattle.wh_host.specs.Paging.{IsAwaiting, IsGoing, Tells};
+ghost use Rattle.std.specs.Prelude.{◌≡◌, ◌-◌, ◌+◌, ◌^◌, ◌<◌, ◌≤◌, ◌⊎◌, IfNone, IfSome, Ok, OnOk, false, true};
+ghost use Rattle.wh_model.specs.declared.memory.Need.{Need};
+ghost use Rattle.wh_host_model.specs.Host.Happens.{AwaitsFrame};
+ghost use Rattle.wh_host_model.specs.Host.Worlds.{World};
+ghost use Rattle.wh_space_model.specs.Offers.{OffersOf};
+ghost use Rattle.wh_host.specs.Backing.{KeepsBacking};
+ghost use Rattle.wh_host.specs.Hosting.{IsHost};
+ghost use Rattle.wh_host.specs.Paging.{IsAwaiting, IsGoing, MovesAnyhow, MovesOnly, MovesWith, Tells, WaitsFor, provide_fault};
+ghost use Rattle.wh_host.specs.Sharing.{CanOffer};
+ghost use Rattle.wh_swap.specs.DeviceCalls.{ServesOn, call_faults};
+ghost use Rattle.wh_cell.specs.Calling.{IsMadeReady};
+ghost use Rattle.wh_cell.specs.Counted.{countable, evictions_of, offers_of};
+ghost use Rattle.wh_cell.specs.Going.{TurnsIfGoing};
+ghost use Rattle.wh_cell.specs.Knowing.{known_of};
+ghost use Rattle.wh_cell.specs.Scanned.{IsScanned};
 ghost use Rattle.wh_scheduler.specs.declared.here.Outlook.TheVariants.{Rests as rests, Waits};
 ghost use Rattle.wh_scheduler.specs.declared.here.HereEnd.TheVariants.{Frame, Most, Rest};
-ghost use Rattle.wh_scheduler.specs.InHand.{EachIs, Rests, RestsOrWaits, RunsHere, own_of};
+ghost use Rattle.wh_scheduler.specs.InHand.{EachIs, Rests, RestsOrWaits, RunsHere, WorksHere};
 
 use std::sync::ledger::Ledger;
-use wh_cell::{CellAgreements, Locked};
+use wh_cell::{Backing, CellAgreements, Locked};
 use wh_host::Host;
-use wh_host_model::InstId;
+use wh_host_model::TurnEnd;
+use wh_kernels::PageHash;
+use wh_space_model::{InstId, Offer, SwapError};
 use wh_swap::SwapDev;
 use wh_threads::Shares;
 
@@ -35,7 +51,7 @@ pub struct TurnsHere {
 
 // How an instance stands before it gets a turn.
 #[derive(Clone, Copy, PartialEq, Eq)]
-enum Outlook {
+pub enum Outlook {
     // A call of it can go on at once.
     Goes,
     // It waits for a frame.
@@ -44,7 +60,8 @@ enum Outlook {
     Rests,
 }
 
-fn outlook_of(host: &Host, id: InstId) -> Outlook
+/// Returns whether this instance can make progress, and whether it lacks a frame for it.
+pub fn outlook_of(host: &Host, id: InstId) -> Outlook
     ensures waits { result ≡ Waits → Tells host.now true (λ w. IsAwaiting w id) }
     ensures rests { result ≡ rests → Tells host.now false (λ w. IsGoing w id) }
 {
@@ -57,7 +74,116 @@ fn outlook_of(host: &Host, id: InstId) -> Outlook
     Outlook::Goes
 }
 
-// One look at each instance.
+/// Runs a turn of an instance, counted as the owner's.
+pub fn turn_in_hand<D: SwapDev, T: Ledger, C: Ledger, O: Ledger, E: Ledger, B: CellAgreements>(
+    locked: &mut Locked<D, T, C, O, E, B>,
+    shares: &mut Shares<T, C, O, E>,
+    id: InstId,
+    quantum: u32,
+) -> TurnEnd
+    requires room { shares.old.owner.turns < 2 ^ 64 - 1 }
+    ensures turns { (w : World) → IsHost locked.old.host w
+        → (w2 : World) × TurnsIfGoing w id quantum result w2 × IsHost locked.new.host w2 }
+    ensures runs { RunsHere locked.old.books shares.old.owner 1 locked.new.books
+        shares.new.owner }
+    ensures only { shares.new ≡ record shares.old { owner = shares.new.owner } }
+    ensures known { locked.new.known ≡ locked.old.known }
+{
+    locked.own_turn(shares, id, quantum)
+}
+
+/// Offers a page for merging, counted as the owner's, unless the owner can't count one more.
+pub fn offer_in_hand<
+    D: SwapDev,
+    T: Ledger,
+    C: Ledger,
+    O: Ledger,
+    E: Ledger,
+    B: CellAgreements,
+    H: PageHash,
+>(
+    locked: &mut Locked<D, T, C, O, E, B>,
+    shares: &mut Shares<T, C, O, E>,
+    hasher: &H,
+    id: InstId,
+    page: u32,
+    hash: u64,
+) -> Option<Offer>
+    ensures moves { MovesOnly locked.old.host locked.new.host }
+    ensures some { IfSome result (λ answer. OffersOf (H.hashes hasher.now) locked.old.host.space
+        id.place id.number page hash answer locked.new.host.space) }
+    ensures works { IfSome result (λ _. WorksHere locked.old.books shares.old.owner 0 1
+        locked.new.books shares.new.owner) }
+    ensures none { IfNone result (((¬ CanOffer locked.old.host.space id.place)
+        ⊎ (shares.old.owner.offers ≡ 2 ^ 64 - 1)) × (locked.new.host ≡ locked.old.host)
+        × (locked.new.books ≡ locked.old.books) × (shares.new ≡ shares.old)) }
+    ensures only { shares.new ≡ record shares.old { owner = shares.new.owner } }
+    ensures backing { KeepsBacking locked.old.host.space locked.new.host.space }
+    ensures known { locked.new.known ≡ locked.old.known }
+{
+    if shares.owner().offers == u64::MAX {
+        return None;
+    }
+    locked.own_offer(hasher, id, page, hash, shares)
+}
+
+/// Offers all pages for merging, counted as the owner's.
+pub fn scan_in_hand<
+    D: SwapDev,
+    T: Ledger,
+    C: Ledger,
+    O: Ledger,
+    E: Ledger,
+    B: CellAgreements,
+    H: PageHash,
+>(locked: &mut Locked<D, T, C, O, E, B>, shares: &mut Shares<T, C, O, E>, hasher: &H) -> Option<u64>
+    ensures moves { MovesOnly locked.old.host locked.new.host }
+    ensures scans { IsScanned (H.hashes hasher.now) locked.old.host result locked.new.host }
+    ensures books { locked.new.books ≡ record locked.old.books {
+      offers = locked.old.books.offers + countable shares.old.owner.offers (offers_of result);
+    } }
+    ensures own { shares.new.owner ≡ record shares.old.owner {
+      offers = shares.old.owner.offers + countable shares.old.owner.offers (offers_of result);
+    } }
+    ensures only { shares.new ≡ record shares.old { owner = shares.new.owner } }
+    ensures backing { KeepsBacking locked.old.host.space locked.new.host.space }
+    ensures known { locked.new.known ≡ locked.old.known }
+{
+    locked.own_scan(hasher, shares)
+}
+
+/// Makes the next step of an instance ready, with evictions counted as the owner's.
+pub fn provide_in_hand<D: SwapDev, T: Ledger, C: Ledger, O: Ledger, E: Ledger, B: CellAgreements>(
+    locked: &mut Locked<D, T, C, O, E, B>,
+    backing: &mut Backing<D, B>,
+    shares: &mut Shares<T, C, O, E>,
+    id: InstId,
+) -> Result<u64, SwapError>
+    ensures serves { ServesOn D.keeps D.honest D.faults backing.old.device (call_faults result)
+        backing.new.device }
+    ensures moves { D.honest backing.new.device
+        → MovesWith locked.old.host id AwaitsFrame (provide_fault result) locked.new.host }
+    ensures anyhow { MovesAnyhow locked.old.host id AwaitsFrame (provide_fault result)
+        locked.new.host }
+    ensures ready { OnOk result (IsMadeReady id locked.old.host locked.new.host) }
+    ensures idle { ((need : Need) → ¬ WaitsFor locked.old.host id need)
+        → (locked.new.host ≡ locked.old.host) × (backing.new.device ≡ backing.old.device)
+        × (result ≡ Ok 0) }
+    ensures books { locked.new.books ≡ record locked.old.books {
+      evictions = locked.old.books.evictions
+          + countable shares.old.owner.evictions (evictions_of result);
+    } }
+    ensures own { shares.new.owner ≡ record shares.old.owner {
+      evictions = shares.old.owner.evictions
+          + countable shares.old.owner.evictions (evictions_of result);
+    } }
+    ensures only { shares.new ≡ record shares.old { owner = shares.new.owner } }
+    ensures knows { locked.new.known ≡ known_of backing.new }
+{
+    locked.own_provide(backing, id, shares)
+}
+
+// The outcome of one pass over the instances.
 #[derive(Clone, Copy)]
 struct Pass {
     // How many of them had a turn.
@@ -66,8 +192,8 @@ struct Pass {
     waits: bool,
 }
 
-// Gives each of these instances a turn, one after the other, whose call can go on and doesn't wait for a frame; while fewer than so
-// many turns were run.
+// Runs a turn of each of these instances, one after the other, whose call can make progress and doesn't wait for a
+// frame; while fewer than `most` turns were run.
 fn turn_once_each<D: SwapDev, T: Ledger, C: Ledger, O: Ledger, E: Ledger, B: CellAgreements>(
     locked: &mut Locked<D, T, C, O, E, B>,
     shares: &mut Shares<T, C, O, E>,
@@ -78,8 +204,8 @@ fn turn_once_each<D: SwapDev, T: Ledger, C: Ledger, O: Ledger, E: Ledger, B: Cel
     requires some { 0 < most }
     requires room { shares.old.owner.turns + most < 2 ^ 64 }
     ensures few { result.turns ≤ most }
-    ensures runs { RunsHere locked.old.books (own_of shares.old) result.turns locked.new.books
-        (own_of shares.new) }
+    ensures runs { RunsHere locked.old.books shares.old.owner result.turns locked.new.books
+        shares.new.owner }
     ensures only { shares.new ≡ record shares.old { owner = shares.new.owner } }
     ensures known { locked.new.known ≡ locked.old.known }
     ensures waits { result.turns ≡ 0 → EachIs RestsOrWaits locked.new.host ids.now }
@@ -105,8 +231,8 @@ fn turn_once_each<D: SwapDev, T: Ledger, C: Ledger, O: Ledger, E: Ledger, B: Cel
     Pass { turns, waits }
 }
 
-// Gives these instances turns of so many charges, again and again in this order, until no call can go on without a frame or so many
-// were run.
+/// Runs turns of at most `quantum` charges of these instances in order, again and again, until none of their calls can
+/// make progress without a frame, or `most` turns were run, or the owner's count is 2^64 - 1.
 pub fn turns_here<D: SwapDev, T: Ledger, C: Ledger, O: Ledger, E: Ledger, B: CellAgreements>(
     locked: &mut Locked<D, T, C, O, E, B>,
     shares: &mut Shares<T, C, O, E>,
@@ -115,8 +241,8 @@ pub fn turns_here<D: SwapDev, T: Ledger, C: Ledger, O: Ledger, E: Ledger, B: Cel
     quantum: u32,
 ) -> TurnsHere
     ensures few { result.turns ≤ most }
-    ensures runs { RunsHere locked.old.books (own_of shares.old) result.turns locked.new.books
-        (own_of shares.new) }
+    ensures runs { RunsHere locked.old.books shares.old.owner result.turns locked.new.books
+        shares.new.owner }
     ensures only { shares.new ≡ record shares.old { owner = shares.new.owner } }
     ensures known { locked.new.known ≡ locked.old.known }
     ensures rest { result.end ≡ Rest → EachIs Rests locked.new.host ids.now }

@@ -1,5 +1,6 @@
 //! What the threads of a run share, who dispatches turns, and who makes steps ready that wait for frames.
 
+use crate::frame_waits::FrameWaits;
 use crate::round_room::{MOST_AT_ONCE, RoundRoom};
 use crate::run_queue::{Choice, RunQueue, Series, Waiter};
 use crate::spin_backoff::SpinBackoff;
@@ -11,7 +12,8 @@ use std::sync::ledger::Ledger;
 use std::sync::{Arc, Condvar, Mutex, Wait};
 use std::time::Duration;
 use wh_cell::{CellAgreements, HostCell, Moved};
-use wh_host_model::{InstId, TurnEnd};
+use wh_host_model::TurnEnd;
+use wh_space_model::InstId;
 use wh_swap::SwapDev;
 use wh_threads::{Help, HelpOutcome, Helper};
 use wh_workers::{Next, Supply};
@@ -19,22 +21,23 @@ use wh_workers::{Next, Supply};
 // For how many turns that are dispatched the scanner offers a page.
 pub(crate) const TURNS_FOR_AN_OFFER: u64 = 64;
 
-// So often a worker that has no series in hand looks whether the scanner, which waits for the lock, has it now.
+// How often a worker that has no series looks whether the scanner, which waits for the lock, has it now.
 const LOOKS_WHILE_SCANNER_WAITS: u32 = 2000;
 
-// So long who dispatches turns sleeps at most, in seconds, though nobody rings.
+// How long who dispatches turns sleeps at most, in seconds, though it isn't notified.
 const LONGEST_SLEEP_SECONDS: u64 = 1;
 
-/// Shared by the threads of a run: whose turns are dispatched, and a bell for each who may have to wait for something. Whoever
-/// waits counts how often its bell rang, looks, and sleeps unless it rang again meanwhile.
+/// Shared by the threads of a run: whose turns are dispatched, and a condition variable for each who may have to wait
+/// for something. Whoever waits counts how often it was notified, looks, and sleeps unless it was notified again
+/// meanwhile.
 pub struct Schedule {
     /// Whose turns are dispatched, and whose step is ready.
     pub run_queue: Mutex<RunQueue>,
-    /// Rings where a turn completed or a step was made ready: for the dispatcher.
+    /// Notified when a turn completed or a step was made ready: for the dispatcher.
     pub turn_completed: Condvar,
-    /// Rings where a step may wait for a frame: for the reclaimer.
+    /// Notified when a step may wait for a frame: for the reclaimer.
     pub frame_wanted: Condvar,
-    /// Rings where a page is owed for dispatched turns: for the scanner.
+    /// Notified when a page is owed for dispatched turns: for the scanner.
     pub offer_owed: Condvar,
     /// Which worker receives turns.
     pub turn_lock: TurnLock,
@@ -71,7 +74,7 @@ impl Schedule {
     /// Returns a schedule of `run_queue` for `workers`.
     ///
     /// # Errors
-    /// Where room was refused.
+    /// `AllocError` if an allocation fails.
     pub fn new(alloc: Global, run_queue: RunQueue, workers: usize) -> Result<Schedule, AllocError> {
         Ok(Schedule {
             run_queue: Mutex::new(run_queue),
@@ -207,6 +210,8 @@ pub struct TurnSupply<D: SwapDev, T: Ledger, C: Ledger, O: Ledger, E: Ledger, B:
     pub dispatched: usize,
     /// How long it spins for a completed turn before it sleeps.
     pub spin_backoff: SpinBackoff,
+    /// How often each call waits for a frame.
+    pub frame_waits: FrameWaits,
 }
 
 impl<D: SwapDev + Drop, T: Ledger, C: Ledger, O: Ledger, E: Ledger, B: CellAgreements> Drop
@@ -218,6 +223,7 @@ impl<D: SwapDev + Drop, T: Ledger, C: Ledger, O: Ledger, E: Ledger, B: CellAgree
             queued: _,
             dispatched: _,
             spin_backoff: _,
+            frame_waits: _,
         } = self;
     }
 }
@@ -240,7 +246,7 @@ impl<D: SwapDev + Drop, T: Ledger, C: Ledger, O: Ledger, E: Ledger, B: CellAgree
         Some(series)
     }
 
-    // Takes the series that are due. Whether the host has to be looked at beside.
+    // Takes the series that are due. Whether the host has to be looked at, too.
     fn take_queued<R: Wait>(&mut self, rt: &R) -> bool {
         self.queued.clear();
         self.dispatched = 0;
@@ -268,7 +274,7 @@ impl<D: SwapDev + Drop, T: Ledger, C: Ledger, O: Ledger, E: Ledger, B: CellAgree
         unreachable!()
     }
 
-    // So many turns more are dispatched now. The scanner is told where a page is owed for them.
+    // Counts `more` turns as dispatched. Tells the scanner if a page is owed for them.
     fn count_turns<R: Wait>(&self, rt: &R, more: u64) {
         let mut run_queue = self.schedule.run_queue.lock(rt);
         let before = run_queue.turns;
@@ -278,7 +284,7 @@ impl<D: SwapDev + Drop, T: Ledger, C: Ledger, O: Ledger, E: Ledger, B: CellAgree
         }
     }
 
-    // Takes whatever series there are now. What comes behind them, as far as the host was looked at: else `Wait`.
+    // Takes whatever series there are now. What comes after them, as far as the host was looked at: else `Wait`.
     fn refill<R: Wait>(&mut self, rt: &R) -> Choice {
         let needs_rescan = self.take_queued(rt);
         let then = if needs_rescan {
@@ -290,7 +296,18 @@ impl<D: SwapDev + Drop, T: Ledger, C: Ledger, O: Ledger, E: Ledger, B: CellAgree
         then
     }
 
-    // Waits until the bell rings again: it rang so often when it was last looked at.
+    // Whether nothing goes on, while some call waits for a frame, and that was so too often, after few turns each time.
+    // No further step is made ready then.
+    fn waits_too_often<R: Wait>(&mut self, rt: &R) -> bool {
+        let mut run_queue = self.schedule.run_queue.lock(rt);
+        if !run_queue.is_idle() || !self.frame_waits.note(run_queue.turns) {
+            return false;
+        }
+        run_queue.close();
+        true
+    }
+
+    // Waits until it is notified again, having been notified `rings` times when it was last looked at.
     fn wait<R: Wait>(&self, rt: &R, rings: u64) {
         let bell = &self.schedule.turn_completed;
         for _ in 0..self.spin_backoff.looks() {
@@ -317,6 +334,9 @@ impl<D: SwapDev + Drop, T: Ledger, C: Ledger, O: Ledger, E: Ledger, B: CellAgree
             match self.refill(rt) {
                 Choice::Rest => return Next::End,
                 Choice::Frame => {
+                    if self.waits_too_often(rt) {
+                        return Next::End;
+                    }
                     if !has_reclaimer {
                         return Next::Reclaimer;
                     }

@@ -1,10 +1,14 @@
-//! A host in the hand of its owner, whose calls are run by threads: who has the next turn, whose page is offered, and whose
-//! step is made ready.
+//! A host that its owner has alone, and whose calls threads run: who has the next turn, whose page is offered, and
+//! whose step is made ready.
 #![tactic(auto)]
 
+mod at_once;
+mod draining;
+mod frame_waits;
 mod here;
 mod jobs;
 mod owned;
+mod paging;
 mod round_room;
 mod run_queue;
 mod scan_job;
@@ -14,6 +18,9 @@ mod spin_backoff;
 mod turn_job;
 mod turn_lock;
 
+pub use at_once::AtOnce;
+pub use draining::WorkHere;
+pub use frame_waits::FrameWaits;
 pub use here::{HereEnd, TurnsHere};
 pub use jobs::{ReclaimJob, Schedule, TurnSupply};
 pub use owned::OwnedHost;

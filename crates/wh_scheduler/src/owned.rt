@@ -1,28 +1,39 @@
-//! A host in the hand of its owner: what is asked of it between two runs of its calls, and the runs.
+//! A host that its owner has alone: what is asked of it between two runs of its calls, and the runs.
 
-ghost use Rattle.std.specs.Prelude.{◌≡◌, ◌+◌, ◌-◌, ◌/◌, ◌^◌, ◌≤◌, ◌<◌, ◌⊎◌, Some, IfOk, IfSome, OnErr, OnOk};
+ghost use Rattle.std.specs.Prelude.{◌≡◌, ◌+◌, ◌-◌, ◌/◌, ◌^◌, ◌≤◌, ◌<◌, ◌⊎◌, Ok, Some, IfNone, IfOk, IfSome, OnErr, OnOk};
 ghost use Rattle.crossbeam_channel.specs.Claims.{view};
-ghost use Rattle.wh_host_model.specs.Space.Stores.{Epochs};
+ghost use Rattle.wh_model.specs.declared.memory.Need.{Need};
+ghost use Rattle.wh_host_model.specs.Host.Happens.{AwaitsFrame};
+ghost use Rattle.wh_host_model.specs.Host.Worlds.{World};
+ghost use Rattle.wh_space_model.specs.Offers.{OffersOf};
+ghost use Rattle.wh_space_model.specs.Stores.{Epochs};
 ghost use Rattle.wh_reclaim.specs.Together.{AreTogether};
 ghost use Rattle.wh_host.specs.Backing.{KeepsBacking};
-ghost use Rattle.wh_host.specs.Paging.{MovesOnly};
+ghost use Rattle.wh_host.specs.Hosting.{IsHost};
+ghost use Rattle.wh_host.specs.Paging.{MovesAnyhow, MovesOnly, MovesWith, WaitsFor, provide_fault};
 ghost use Rattle.wh_host.specs.Rolls.{IsRollOf};
+ghost use Rattle.wh_host.specs.Sharing.{CanOffer};
 ghost use Rattle.wh_host.specs.Showing.{ShowsInstance, RepresentsReached};
+ghost use Rattle.wh_swap.specs.DeviceCalls.{ServesOn, call_faults};
 ghost use Rattle.wh_transcript.specs.Transcripts.{IsReplayable};
 ghost use Rattle.wh_threads.specs.Counting.{turns_of};
 ghost use Rattle.wh_threads.specs.Handover.{SameMessages};
 ghost use Rattle.wh_workers.specs.Serving.{AreRun, AreTurns};
-ghost use Rattle.wh_cell.specs.Counted.{countable, offers_of};
+ghost use Rattle.wh_cell.specs.Calling.{IsMadeReady};
+ghost use Rattle.wh_cell.specs.Counted.{countable, evictions_of, offers_of};
+ghost use Rattle.wh_cell.specs.Going.{TurnsIfGoing};
 ghost use Rattle.wh_cell.specs.Knowing.{known_of};
 ghost use Rattle.wh_cell.specs.Ledgers.{HasLedgers};
 ghost use Rattle.wh_cell.specs.LeftByOwner.{HasNoCharge, left_as};
 ghost use Rattle.wh_cell.specs.Locking.{now_of};
 ghost use Rattle.wh_cell.specs.Owning.{ComesOn};
 ghost use Rattle.wh_cell.specs.Scanned.{IsScanned};
-ghost use Rattle.wh_scheduler.specs.InHand.{AreSums, EachIs, IsSoundInHand, Rests, RestsOrWaits, RunsHere, left_of, own_of};
+ghost use Rattle.wh_scheduler.specs.InHand.{AreSums, EachIs, IsSoundInHand, Rests, RestsOrWaits, RunsHere, WorksHere, by_scanners, left_of};
 ghost use Rattle.wh_scheduler.specs.declared.here.HereEnd.TheVariants.{Frame, Most, Rest};
 
-use crate::here::{TurnsHere, turns_here};
+use crate::here::{
+    TurnsHere, offer_in_hand, provide_in_hand, scan_in_hand, turn_in_hand, turns_here,
+};
 use crate::scanning::scan_there;
 use crate::serving::{RunConfig, run_calls};
 use std::alloc::{AllocError, Global};
@@ -32,10 +43,11 @@ use std::sync::ledger::Ledger;
 use std::thread::Threads;
 use wh_cell::{Backing, CellAgreements, CellParts, HostCell, Locked, Owner, Parts};
 use wh_host::{BeginEpoch, Host, HostError, Request, Roll, Transcript};
-use wh_host_model::InstId;
+use wh_host_model::TurnEnd;
 use wh_kernels::PageHash;
+use wh_space_model::{InstId, Offer, SwapError};
 use wh_swap::SwapDev;
-use wh_threads::{Books, Shares};
+use wh_threads::{Books, OwnCount, Shares};
 use wh_workers::{ServeError, Served};
 
 /// Owns a host with its device, its books and all shares of them. Contracts see the host, the device and the books.
@@ -85,10 +97,10 @@ impl<D: SwapDev + Drop, T: Ledger, C: Ledger, O: Ledger, E: Ledger, B: CellAgree
     E,
     B,
 > {
-    /// Owns `host`, none of whose calls took a charge yet. All memory for the counts is taken here.
+    /// Creates an owned host of `host`, none of whose calls took a charge yet. Allocates all that the counts need.
     ///
     /// # Errors
-    /// Where room was refused.
+    /// `AllocError` if an allocation fails.
     pub fn new(
         alloc: Global,
         host: Host,
@@ -143,8 +155,9 @@ impl<D: SwapDev, T: Ledger, C: Ledger, O: Ledger, E: Ledger, B: CellAgreements> 
     E,
     B,
 > {
-    /// What always holds: events lead to the host, and reads of a swap device that gave other bytes, if there were any; no
-    /// ticket is out, device and slots agree, and the charges in the books fit the journals.
+    /// States what always holds: the host was reached by events, and by reads of a swap device that gave other bytes,
+    /// if there were any; no ticket is out, device and slots agree, and the charges in the books fit the journals. Does
+    /// nothing when run.
     #[inline(always)]
     pub fn invariant(&self)
         ensures { IsSoundInHand D.held D.honest self.now }
@@ -154,7 +167,7 @@ impl<D: SwapDev, T: Ledger, C: Ledger, O: Ledger, E: Ledger, B: CellAgreements> 
         backing.invariant();
     }
 
-    // What lies in the owner's hand.
+    // What the owner has.
     #[inline(always)]
     fn both(&self) -> (&Locked<D, T, C, O, E, B>, &Backing<D, B>)
         ensures now { left_of self.now ≡ now_of result.0.now }
@@ -186,10 +199,17 @@ impl<D: SwapDev, T: Ledger, C: Ledger, O: Ledger, E: Ledger, B: CellAgreements> 
             × (result.0.now.offers ≡ self.now.books.offers)
             × (result.0.now.evictions ≡ self.now.books.evictions) }
         ensures sums { AreSums self.now.books result.1.now }
-        ensures own { own_of result.1.now ≡ self.now.own }
+        ensures own { result.1.now.owner ≡ self.now.own }
     {
         let (locked, _) = self.both();
         (locked.books(), &self.shares)
+    }
+
+    // What the owner itself has counted.
+    pub(crate) fn own_count(&self) -> OwnCount
+        ensures { result ≡ self.now.own }
+    {
+        self.shares.owner()
     }
 
     /// Returns the host's modules, and each live instance with its calls.
@@ -245,8 +265,9 @@ impl<D: SwapDev, T: Ledger, C: Ledger, O: Ledger, E: Ledger, B: CellAgreements> 
         let _ = self.ask(BeginEpoch);
     }
 
-    /// Runs at most `most` turns of the calls of `ids`, in that order again and again, each of at most `quantum` charges, and in the
-    /// calling thread: on the host in hand, under no lock and through no channel. No page is offered for them, and none is moved.
+    /// Runs at most `most` turns of the calls of `ids`, in that order again and again, each of at most `quantum`
+    /// charges, and in the calling thread: under no lock and through no channel. No page is offered for them, and none
+    /// is moved.
     ///
     /// Returns how many were run, and why there were no more. The owner's own count has them, and so do the books; no worker's count
     /// changes.
@@ -268,6 +289,121 @@ impl<D: SwapDev, T: Ledger, C: Ledger, O: Ledger, E: Ledger, B: CellAgreements> 
         locked.sync_owner(&mut self.owner);
         ran
     }
+
+    /// Runs a turn of at most `quantum` charges of an instance in the calling thread, under no lock. If its call can't
+    /// make progress, it is `Idle`. The owner's own count has the turn, and so do the books; no thread's count changes.
+    pub fn turn_here(&mut self, id: InstId, quantum: u32) -> TurnEnd
+        requires room { self.old.own.turns < 2 ^ 64 - 1 }
+        ensures came { ComesOn D.keeps D.honest D.faults (left_of self.old) (left_of self.new) }
+        ensures turns { (w : World) → IsHost self.old.host w
+            → (w2 : World) × TurnsIfGoing w id quantum result w2 × IsHost self.new.host w2 }
+        ensures runs { RunsHere self.old.books self.old.own 1 self.new.books self.new.own }
+        ensures device { self.new.device ≡ self.old.device }
+    {
+        let Some(locked) = &mut self.locked else {
+            unreachable!();
+        };
+        let end = turn_in_hand(locked, &mut self.shares, id, quantum);
+        locked.sync_owner(&mut self.owner);
+        end
+    }
+
+    /// Offers a page of an instance for sharing, under any hash at all, in the calling thread, under no lock. Returns
+    /// the outcome. The owner's own count has the offer, and so do the books; no thread's count changes, and no byte of
+    /// any page.
+    ///
+    /// `None`, and nothing has changed, where frames and slots are 2^32 together or more, the place isn't below 2^32, or the owner can
+    /// count no further offer in 64 bits.
+    pub fn offer_here<H: PageHash>(
+        &mut self,
+        hasher: &H,
+        id: InstId,
+        page: u32,
+        hash: u64,
+    ) -> Option<Offer>
+        ensures came { ComesOn D.keeps D.honest D.faults (left_of self.old) (left_of self.new) }
+        ensures moves { MovesOnly self.old.host self.new.host }
+        ensures some { IfSome result (λ answer. OffersOf (H.hashes hasher.now) self.old.host.space
+            id.place id.number page hash answer self.new.host.space) }
+        ensures works { IfSome result (λ _.
+            WorksHere self.old.books self.old.own 0 1 self.new.books self.new.own) }
+        ensures none { IfNone result (((¬ CanOffer self.old.host.space id.place)
+            ⊎ (self.old.own.offers ≡ 2 ^ 64 - 1)) × (self.new.host ≡ self.old.host)
+            × (self.new.books ≡ self.old.books) × (self.new.own ≡ self.old.own)) }
+        ensures backing { KeepsBacking self.old.host.space self.new.host.space }
+        ensures device { self.new.device ≡ self.old.device }
+    {
+        let Some(locked) = &mut self.locked else {
+            unreachable!();
+        };
+        let offered = offer_in_hand(locked, &mut self.shares, hasher, id, page, hash);
+        locked.sync_owner(&mut self.owner);
+        offered
+    }
+
+    /// Offers all pages of all instances for sharing, as `scan` does, in the calling thread, under no lock. Returns how
+    /// many pages were offered. The owner's own count has these, and so do the books, as far as the owner can count
+    /// them in 64 bits; no thread's count changes.
+    ///
+    /// `None`, and nothing has changed, where frames and slots are 2^32 together or more.
+    pub fn scan_here<H: PageHash>(&mut self, hasher: &H) -> Option<u64>
+        ensures came { ComesOn D.keeps D.honest D.faults (left_of self.old) (left_of self.new) }
+        ensures moves { MovesOnly self.old.host self.new.host }
+        ensures scans { IsScanned (H.hashes hasher.now) self.old.host result self.new.host }
+        ensures books { self.new.books ≡ record self.old.books {
+          offers = self.old.books.offers + countable self.old.own.offers (offers_of result);
+        } }
+        ensures own { self.new.own ≡ record self.old.own {
+          offers = self.old.own.offers + countable self.old.own.offers (offers_of result);
+        } }
+        ensures backing { KeepsBacking self.old.host.space self.new.host.space }
+        ensures device { self.new.device ≡ self.old.device }
+    {
+        let Some(locked) = &mut self.locked else {
+            unreachable!();
+        };
+        let offered = scan_in_hand(locked, &mut self.shares, hasher);
+        locked.sync_owner(&mut self.owner);
+        offered
+    }
+
+    /// Makes the next step of an instance ready, if its present call is blocked on a frame, in the calling thread, with
+    /// calls of the swap device. Else does nothing. Returns how many pages were evicted. The owner's own count has
+    /// these, and so do the books, as far as the owner can count them in 64 bits; no thread's count changes.
+    ///
+    /// # Errors
+    /// That of the device's call that failed, which is kept with the present call. Nothing is counted then.
+    pub fn provide_here(&mut self, id: InstId) -> Result<u64, SwapError>
+        ensures came { ComesOn D.keeps D.honest D.faults (left_of self.old) (left_of self.new) }
+        ensures serves { (before : _) → self.old.device ≡ Some before → IfSome self.new.device
+            (λ after. ServesOn D.keeps D.honest D.faults before (call_faults result) after) }
+        ensures moves { IfSome self.new.device (λ after. D.honest after
+            → MovesWith self.old.host id AwaitsFrame (provide_fault result) self.new.host) }
+        ensures anyhow { MovesAnyhow self.old.host id AwaitsFrame (provide_fault result)
+            self.new.host }
+        ensures ready { OnOk result (IsMadeReady id self.old.host self.new.host) }
+        ensures idle { ((need : Need) → ¬ WaitsFor self.old.host id need)
+            → (self.new.host ≡ self.old.host) × (self.new.device ≡ self.old.device)
+            × (result ≡ Ok 0) }
+        ensures books { self.new.books ≡ record self.old.books {
+          evictions = self.old.books.evictions
+              + countable self.old.own.evictions (evictions_of result);
+        } }
+        ensures own { self.new.own ≡ record self.old.own {
+          evictions = self.old.own.evictions
+              + countable self.old.own.evictions (evictions_of result);
+        } }
+    {
+        let Some(locked) = &mut self.locked else {
+            unreachable!();
+        };
+        let Some(backing) = &mut self.backing else {
+            unreachable!();
+        };
+        let provided = provide_in_hand(locked, backing, &mut self.shares, id);
+        locked.sync_owner(&mut self.owner);
+        provided
+    }
 }
 
 impl<
@@ -278,16 +414,16 @@ impl<
     E: Ledger + Send + 'static,
     B: CellAgreements + Send + 'static,
 > OwnedHost<D, T, C, O, E, B> {
-    /// Offers all pages of all instances for sharing, in the order of the instances' numbers, and those of each in order, each
-    /// under the hash of its bytes as they are. Then as many frames are in use as there are distinct contents that aren't all
-    /// zero, if the hash tells contents apart and was the hash before. No byte of any page changes. A scanner does it, in a
-    /// thread that this call starts and joins.
+    /// Offers all pages of all instances for sharing, in the order of the instances' numbers, and those of each in
+    /// order, each under the hash of its bytes as they are. Then as many frames are in use as there are distinct
+    /// contents that aren't all zero, if the hash tells contents apart and was the hash before. No byte of any page
+    /// changes. A scanner does it, in a thread that this call starts and joins.
     ///
-    /// Returns how many pages were offered: by so many the book of offers has grown, as far as they can be counted in 64 bits;
-    /// or `None`, and nothing has changed, where frames and slots are 2^32 together or more.
+    /// Returns how many pages were offered: the book of offers has grown by that number, as far as they can be counted
+    /// in 64 bits; or `None`, and nothing has changed, if frames and slots are 2^32 together or more.
     ///
     /// # Errors
-    /// `Memory` where room was refused, and `NoThread` where the scanner couldn't be started. Nothing was done then.
+    /// `Memory` if an allocation fails, and `NoThread` if the scanner can't be started. Nothing was done then.
     pub fn scan<H: PageHash + Drop + Send + 'static, R: Threads + Wait + Copy + Send + 'static>(
         &mut self,
         rt: &R,
@@ -298,7 +434,8 @@ impl<
         ensures scans { IfOk result (λ offered.
             IsScanned (H.hashes hasher) self.old.host offered self.new.host) }
         ensures books { IfOk result (λ offered. self.new.books ≡ record self.old.books {
-          offers = self.old.books.offers + countable self.old.books.offers (offers_of offered);
+          offers = self.old.books.offers
+              + countable (by_scanners self.old.books self.old.own) (offers_of offered);
         }) }
         ensures err { OnErr result (self.new ≡ self.old) }
         ensures backing { KeepsBacking self.old.host.space self.new.host.space }
@@ -315,9 +452,9 @@ impl<
         answer
     }
 
-    /// Runs the calls of `ids` until none can go on, as `run_calls` does, on a cell that the host lies in meanwhile: workers do, in
-    /// threads of their own, and the owner's own count doesn't change. Whatever it answers, the host came by work from the one
-    /// before.
+    /// Runs the calls of `ids` until none can make progress, as `run_calls` does, on a cell that holds the host
+    /// meanwhile: workers do, in threads of their own, and the owner's own count doesn't change. Whatever it returns,
+    /// the host came by work from the one before.
     ///
     /// # Errors
     /// Those of `run_calls`.
@@ -371,7 +508,7 @@ impl<
     }
 }
 
-// Runs the calls on a cell that these parts lie in meanwhile, and gives them back.
+// Runs the calls on a cell that holds these parts meanwhile, and gives them back.
 fn run_between<
     D: SwapDev + Drop + Send + 'static,
     T: Ledger + Send + 'static,

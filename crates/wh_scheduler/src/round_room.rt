@@ -10,27 +10,28 @@ use std::marker::Model;
 use std::sync::atomic::{AtomicU64, Ordering};
 use std::sync::ledger::Ledger;
 use wh_cell::{CellAgreements, Locked};
-use wh_host::{Burst, Fork, Runner};
-use wh_host_model::{InstId, TurnEnd};
+use wh_host::{Burst, RoundRunner, Runner};
+use wh_host_model::TurnEnd;
+use wh_space_model::InstId;
 use wh_swap::SwapDev;
 use wh_threads::{ReceivedTurns, Worker};
 
-// So many instances are in a round at most.
+// How many instances are in a round at most.
 pub(crate) const MOST_AT_ONCE: usize = 32;
 
-// So many pages an instance writes in a round at most: behind as many its part of the round ends.
+// How many pages an instance writes in a round at most: after as many its part of the round ends.
 const WRITTEN_PAGES: u16 = 64;
 
 // Of how many pages a memory has at most whose instance is in a round: 64 MB. A runner has a mark of four bytes for each.
 const PAGES: usize = 16384;
 
-// So many turns of each instance a round has at least, where its series have as many.
+// How many turns of each instance a round has at least after its first one, if its series have as many.
 const FEWEST_FURTHER: u32 = 63;
 
-// So many rounds in a row may end for want of room for what an instance writes before it is in none for a while.
+// How many rounds in a row may end for want of room for what an instance writes before it is in none for a while.
 const MOST_SHORT_ROUNDS: u32 = 2;
 
-// So many of its series are in no round then.
+// How many of its series are in no round then.
 const SERIES_ALONE: u32 = 16;
 
 // How many instances are remembered of which rounds ended so: the last one of those whose places are equal modulo this.
@@ -54,7 +55,7 @@ struct RoundsOf {
     id: InstId,
     // How many in a row ended for want of room for what it writes.
     short: u32,
-    // So many series more of it are in no round.
+    // How many further series of it are in no round.
     alone: u32,
 }
 
@@ -63,7 +64,7 @@ struct RoundsOf {
 pub struct Aim<'a> {
     /// How many charges each turn has.
     pub quantum: u32,
-    /// How many turns of each instance come behind its first one.
+    /// How many turns of each instance come after its first one.
     pub further: u32,
     /// How many want the host's lock: the round ends once there is somebody.
     pub wanted: &'a AtomicU64,
@@ -74,7 +75,8 @@ pub struct Aim<'a> {
 pub struct RoundRoom {
     alloc: Global,
     runners: Vec<Runner>,
-    // How many turns of an instance come in a round behind its first one at most: fewer where one had to stop in the last round.
+    // How many turns of an instance come in a round after its first one at most: fewer where one had to stop in the
+    // last round.
     longest: u32,
     // How rounds ended, by the instances' places modulo `PLACES`.
     rounds: [RoundsOf; PLACES],
@@ -93,10 +95,11 @@ impl Model for RoundRoom {
 }
 
 impl RoundRoom {
-    /// Makes room for rounds of at most `most` instances; the runners themselves are made when a round first has so many.
+    /// Reserves room for rounds of at most `most` instances; the runners themselves are created when a round first has
+    /// that many.
     ///
     /// # Errors
-    /// Where room was refused.
+    /// `AllocError` if an allocation fails.
     pub fn new(alloc: Global, most: usize) -> Result<RoundRoom, AllocError> {
         let runners = Vec::with_capacity(alloc, most)?;
         Ok(RoundRoom {
@@ -107,7 +110,8 @@ impl RoundRoom {
         })
     }
 
-    // Makes runners until there are so many. Whether there are; else room was refused, or there is none for so many.
+    // Creates runners until there are `many`; tells whether there are. Else an allocation failed, or there is no room for
+    // that many.
     fn fit(&mut self, many: usize) -> bool
         ensures { result ≡ true → many ≤ length self.new }
     {
@@ -146,7 +150,8 @@ fn had_all(runners: &[Runner], turns: u64) -> bool {
     true
 }
 
-// Gives each runner to the instance of one of these series. Whether each series has turns of so many charges, and so many of them.
+// Gives each runner to the instance of one of these series. Tells whether each series has turns of as many charges as
+// the aim says, and as many turns.
 fn give_all(runners: &mut [Runner], orders: &[ReceivedTurns], aim: Aim) -> bool
     requires free { AllAreFree runners.old }
     requires many { length runners.old ≡ length orders.now }
@@ -196,7 +201,7 @@ impl RoundRoom {
         }
     }
 
-    // Notes of each instance of a round of so many turns whether that ended for want of room for what it writes.
+    // Notes of each instance of a round of `turns` turns whether that ended for want of room for what it writes.
     fn note_all(&mut self, orders: &[ReceivedTurns], turns: u64)
         ensures { self.new ≡ self.old }
     {
@@ -209,10 +214,18 @@ impl RoundRoom {
         }
     }
 
-    /// Runs turns of all these series at once, under the lock, where there are runners for so many, and each series has turns of as
-    /// many charges as the aim says, and as many of them. Returns whether it ran some: `false` where there is no room, or none of
-    /// their calls computes.
-    pub fn run<D: SwapDev, T: Ledger, C: Ledger, O: Ledger, E: Ledger, B: CellAgreements, F: Fork>(
+    /// Runs turns of all these series at once, under the lock, if there are runners for them all, and each series has
+    /// turns of as many charges as the aim says, and as many of them. Returns whether it ran some: `false` if there is
+    /// no room, or none of their calls computes.
+    pub fn run<
+        D: SwapDev,
+        T: Ledger,
+        C: Ledger,
+        O: Ledger,
+        E: Ledger,
+        B: CellAgreements,
+        F: RoundRunner,
+    >(
         &mut self,
         fork: &F,
         locked: &mut Locked<D, T, C, O, E, B>,

@@ -1,7 +1,7 @@
 //! Which instances have turns: who can go on and has none out.
 
 ghost use Rattle.std.specs.Prelude.{◌≡◌, ◌≢◌, ◌<◌, ◌≤◌, ◌⊎◌, ◌++◌, ◌∷◌, [], false, true, Some, None, IfOk, IfNone, IfSome, length, map, vec_len};
-ghost use Rattle.wh_host_model.specs.declared.plain.InstId.{InstId};
+ghost use Rattle.wh_space_model.specs.declared.plain.InstId.{InstId};
 ghost use Rattle.wh_host.specs.Paging.{IsAwaiting, IsGoing, Tells};
 ghost use Rattle.wh_scheduler.specs.RunQueues.{ChoosesTurn, CompletesTurn, HasNoEntry, HasTurnOut, IsQueueEntryOf, OutOrDoneBetween, RestBetween, RestsAll, WantsFrame, idle_entry, ends_service};
 ghost use Rattle.wh_cell.specs.declared.moving.Moved.TheVariants.{Ready};
@@ -12,7 +12,7 @@ use std::alloc::{AllocError, Global};
 use std::mem;
 use wh_cell::Moved;
 use wh_host::Host;
-use wh_host_model::InstId;
+use wh_space_model::InstId;
 
 /// An instance whose calls are run.
 #[derive(Clone, Copy, Debug, PartialEq, Eq)]
@@ -58,7 +58,7 @@ pub enum Prospect {
     Never,
 }
 
-// So often the page that is to leave may be written meanwhile before a step is made ready at once, under both locks.
+// How often the page that is to leave may be written meanwhile before a step is made ready at once, under both locks.
 const MOST_VOIDS: u32 = 8;
 
 /// An instance whose step is made ready.
@@ -92,11 +92,15 @@ pub struct RunQueue {
     served: Option<InstId>,
     // How often in a row a page that was to leave for it was written meanwhile.
     voids: u32,
-    // Behind which entry the next one is looked for whose step is made ready.
+    // Whether a page is being moved for it.
+    is_moving: bool,
+    // Whether no further step is made ready.
+    is_closed: bool,
+    // After which entry the next one is looked for whose step is made ready.
     from: usize,
-    // Behind which entry the next turn is looked for.
+    // After which entry the next turn is looked for.
     next: usize,
-    // Behind which entry the one is looked for whose turn comes back.
+    // After which entry the one is looked for whose turn comes back.
     back: usize,
 }
 
@@ -111,6 +115,8 @@ impl Drop for RunQueue {
             dispatched: _,
             served: _,
             voids: _,
+            is_moving: _,
+            is_closed: _,
             from: _,
             next: _,
             back: _,
@@ -158,7 +164,7 @@ impl RunQueue {
     /// Returns a run queue of `ids`, of which none has a turn.
     ///
     /// # Errors
-    /// Where room was refused.
+    /// `AllocError` if an allocation fails.
     pub fn new(alloc: Global, ids: &[InstId]) -> Result<RunQueue, AllocError>
         ensures { IfOk result (λ r. r.entries.items ≡ map idle_entry ids.now) }
     {
@@ -179,15 +185,17 @@ impl RunQueue {
             dispatched: 0,
             served: None,
             voids: 0,
+            is_moving: false,
+            is_closed: false,
             from: 0,
             next: 0,
             back: 0,
         })
     }
 
-    /// Chooses the next instance, behind the one chosen last, that can go on and has no turn, and dispatches its turn. It waits
-    /// for a frame only where its step is ready. Returns `Rest` where no instance can go on and no turn is dispatched; else
-    /// `Wait`.
+    /// Chooses the next instance, after the one chosen last, that can make progress and has no turn, and dispatches its
+    /// turn: one that waits for a frame only if its step is ready. If there is none, returns `Frame` if one waits for a
+    /// frame, whose step isn't ready; else `Wait` if a turn is dispatched, and `Rest` if no instance can make progress.
     pub fn choose(&mut self, host: &Host) -> Choice
         ensures turn { ChoosesTurn host.now self.old.entries.items result self.new.entries.items }
         ensures wait { result ≡ Wait → HasTurnOut self.old.entries.items
@@ -253,8 +261,20 @@ impl RunQueue {
         }
     }
 
-    /// Completes the turns of an instance whose call goes on, and queues its next series. Returns whether at least half of those
-    /// instances that have their turn out are queued.
+    /// Tells whether nothing is under way: no turn is out, no step is ready, and none is being made ready.
+    pub fn is_idle(&self) -> bool {
+        self.dispatched == 0 && self.ready.is_none() && !self.is_moving
+    }
+
+    /// Closes the queue: no further step is made ready.
+    pub fn close(&mut self)
+        ensures { (self.new.entries ≡ self.old.entries) × (self.new.ready ≡ self.old.ready) }
+    {
+        self.is_closed = true;
+    }
+
+    /// Completes the turns of an instance whose call can make progress, and queues its next series. Returns whether at
+    /// least half of those instances that have their turn out are queued.
     ///
     /// # Errors
     /// Where there was no room: nothing has changed. There is room for all instances.
@@ -278,7 +298,7 @@ impl RunQueue {
         mem::swap(&mut self.queued, list);
     }
 
-    // An entry of this instance, looked for behind the one whose turn came back last.
+    // An entry of this instance, looked for after the one whose turn came back last.
     fn entry_of(&self, id: InstId) -> Option<usize>
         ensures some { IfSome result (IsQueueEntryOf id self.now.entries.items) }
         ensures none { IfNone result
@@ -310,20 +330,22 @@ impl RunQueue {
         }
     }
 
-    /// Returns whose step is to be made ready: the one for which a page was moved last, while it still waits for a frame; else
-    /// the next one behind it that waits and has no turn. None, while a step is ready that waits for its turn.
+    /// Returns whose step is to be made ready: the one for which a page was moved last, while it still waits for a
+    /// frame; else the next one after it that waits and has no turn. Returns `None` while a step is ready that waits
+    /// for its turn, and once the queue is closed.
     pub fn next_waiter(&mut self, host: &Host) -> Option<Waiter>
         ensures some { IfSome result (λ waiter. (self.old.ready ≡ None)
             × Tells host.now true (λ w. IsAwaiting w waiter.id)) }
         ensures same { (self.new.entries ≡ self.old.entries) × (self.new.ready ≡ self.old.ready) }
     {
-        if self.ready.is_some() {
+        if self.is_closed || self.ready.is_some() {
             return None;
         }
         if !self.still_waits(host) {
             self.begin_with_next(host);
         }
         let id = self.served?;
+        self.is_moving = true;
         Some(Waiter {
             id,
             at_once: self.voids >= MOST_VOIDS,
@@ -368,6 +390,7 @@ impl RunQueue {
         ensures left { moved ≢ Ready → self.new.ready ≡ self.old.ready }
         ensures entries { self.new.entries ≡ self.old.entries }
     {
+        self.is_moving = false;
         match moved {
             Moved::PageMoved => {
                 self.voids = 0;

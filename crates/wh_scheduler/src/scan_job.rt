@@ -1,4 +1,4 @@
-//! What the scanner does beside the turns.
+//! What the scanner does while turns run.
 
 ghost use Rattle.std.specs.Prelude.{◌≡◌, ◌<◌, ◌^◌};
 
@@ -9,12 +9,12 @@ use std::sync::ledger::Ledger;
 use std::sync::{Arc, Condvar, Mutex, MutexGuard, Wait};
 use wh_cell::{CellAgreements, HostCell, Locked};
 use wh_host::Sample;
-use wh_host_model::InstId;
 use wh_kernels::PageHash;
+use wh_space_model::InstId;
 use wh_swap::SwapDev;
 use wh_threads::{Help, HelpOutcome, Helper};
 
-// So many pages are looked at, and offered, under one hold of the lock at most.
+// How many pages are looked at, and offered, under one hold of the lock at most.
 const MOST_LOOKS: u64 = 64;
 
 /// A page as it was looked at.
@@ -24,7 +24,7 @@ pub struct Look {
     id: InstId,
     // Which.
     page: u32,
-    // What it had; none where it wasn't alone on a frame.
+    // Its bytes; none where it had no frame of its own, and shared none without an entry.
     sample: Option<Sample>,
     // The hash of that; 0 where there is none, or it isn't known yet.
     hash: u64,
@@ -61,8 +61,8 @@ impl<D: SwapDev + Drop, T: Ledger, C: Ledger, O: Ledger, E: Ledger, B: CellAgree
     }
 }
 
-// The page of the round of this number, of an instance with so many pages of 65536 bytes: 0 where it has none.
-fn page_in_round(round: u64, size: u32) -> u32 {
+// The page of the round of this number, of an instance of `size` pages of 65536 bytes: 0 if it has none.
+pub(crate) fn page_in_round(round: u64, size: u32) -> u32 {
     let pages = u64::from(size) * 16;
     if pages == 0 || pages > u64::from(u32::MAX) {
         return 0;
@@ -79,7 +79,8 @@ impl<
     B: CellAgreements,
     H: PageHash,
 > ScanJob<D, T, C, O, E, B, H> {
-    // So many pages are to be offered for the turns so far, since the scanner was given its counts, that weren't.
+    // How many pages are still to be offered, since the scanner was given its counts: one for each 64 turns dispatched
+    // so far, and one ahead.
     fn due<R: Wait>(&self, rt: &R, helper: &Helper<O>) -> u64 {
         let offered = helper.count().saturating_sub(helper.from());
         let owed = self.schedule.turns(rt) / TURNS_FOR_AN_OFFER;
@@ -94,7 +95,8 @@ impl<
         locked
     }
 
-    // Looks at the pages that are offered after so many, as they are now, and as many as there is room for.
+    // Looks at the pages that are offered after the first `count`, as they are now, and at as many as there is room
+    // for.
     fn look<R: Wait>(&self, rt: &R, count: u64, due: u64, looks: &mut Vec<Look>) {
         looks.clear();
         let many = self.ids.len() as u64;

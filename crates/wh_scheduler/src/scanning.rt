@@ -37,11 +37,11 @@ impl<D: SwapDev, T: Ledger, C: Ledger, O: Ledger, E: Ledger, B: CellAgreements, 
     }
 }
 
-// Offers all pages of a host in a scanner's thread, which this call starts and joins: how many, if it can be done; and the
-// host comes back.
-//
-// # Errors
-// Those of `serve_sweep`. Nothing was done then.
+/// Offers all pages of a host for merging in a scanner's thread, which this call starts and joins. Returns the number
+/// of pages offered, if a pass could be made, and the host.
+///
+/// # Errors
+/// Those of `serve_sweep`; nothing was done then.
 pub fn scan_there<
     D: SwapDev + Send + 'static,
     T: Ledger + Send + 'static,

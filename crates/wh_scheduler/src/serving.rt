@@ -6,6 +6,7 @@ ghost use Rattle.wh_threads.specs.Counting.{turns_of};
 ghost use Rattle.wh_threads.specs.Handover.{SameMessages};
 ghost use Rattle.wh_workers.specs.Serving.{AreRun, AreTurns};
 
+use crate::frame_waits::FrameWaits;
 use crate::jobs::{ReclaimJob, Schedule, TurnSupply};
 use crate::run_queue::RunQueue;
 use crate::scan_job::ScanJob;
@@ -17,11 +18,11 @@ use std::sync::ledger::Ledger;
 use std::sync::{Arc, Mutex, Wait};
 use std::thread::Threads;
 use wh_cell::{CellAgreements, HostCell};
-use wh_host_model::InstId;
 use wh_kernels::PageHash;
+use wh_space_model::InstId;
 use wh_swap::SwapDev;
 use wh_threads::Shares;
-use wh_workers::{Crew, Jobs, ServeError, Served, serve};
+use wh_workers::{Jobs, ServeError, Served, WorkerSetup, serve};
 
 /// How calls are run.
 #[derive(Clone, Copy, Debug)]
@@ -35,7 +36,7 @@ pub struct RunConfig<H> {
 }
 
 // What the threads of a run do, and who dispatches the turns.
-struct Staff<D: SwapDev, T: Ledger, C: Ledger, O: Ledger, E: Ledger, B: CellAgreements, H, X> {
+struct ServeParts<D: SwapDev, T: Ledger, C: Ledger, O: Ledger, E: Ledger, B: CellAgreements, H, X> {
     jobs: Jobs<
         TurnJob<D, T, C, O, E, B, X>,
         ScanJob<D, T, C, O, E, B, H>,
@@ -60,7 +61,7 @@ fn staff_of<
     cell: &HostCell<D, T, C, O, E, B>,
     ids: &[InstId],
     run_config: RunConfig<H>,
-) -> Result<Staff<D, T, C, O, E, B, H, X>, AllocError> {
+) -> Result<ServeParts<D, T, C, O, E, B, H, X>, AllocError> {
     let run_queue = RunQueue::new(alloc, ids)?;
     let Ok(schedule) = Arc::new(alloc, Schedule::new(alloc, run_queue, run_config.workers)?) else {
         return Err(AllocError);
@@ -97,27 +98,28 @@ fn staff_of<
         queued: Vec::with_capacity(alloc, ids.len())?,
         dispatched: 0,
         spin_backoff: SpinBackoff::new(),
+        frame_waits: FrameWaits::new(),
     };
     let jobs = Jobs {
         turns,
         scans,
         reclaims,
     };
-    Ok(Staff { jobs, supply })
+    Ok(ServeParts { jobs, supply })
 }
 
-/// Runs the calls of `ids` until none can go on. The calling thread dispatches the turns, and runs none: `run_config.workers` do,
-/// each in a thread of its own, and those of several instances that compute for long at once, by as many threads; beside them a
-/// scanner offers pages, and a reclaimer makes steps ready that wait for frames.
+/// Runs the calls of `ids` until none can make progress. The calling thread dispatches the turns, and runs none:
+/// `run_config.workers` threads do, and those of several instances that compute for long at once, by as many threads;
+/// meanwhile a scanner offers pages, and a reclaimer makes steps ready that wait for frames.
 ///
-/// Returns what was dispatched and run, however it ended. Where it ended well each dispatched turn was received once, the
-/// workers' counts have grown by so many, and for each 64 turns a page was offered. No count gets smaller.
+/// Returns what was dispatched and run, however it ended. If it ended well, each dispatched turn was received once, the
+/// workers' counts have grown by as many, and for each 64 turns a page was offered. No count gets smaller.
 ///
 /// # Errors
-/// `Memory` where room was refused: no turn was run then. `Served::end` says so where there was no room for the crew, and that or
-/// `NoThread` where not all workers could be started, and no turn was run; or pages couldn't be offered that are owed. It is
-/// `NoThread` too where a step waited for a frame and the reclaimer couldn't be started: no further turn was dispatched then, and calls may be left
-/// that can go on.
+/// `Memory` if an allocation fails: no turn was run then. `Served::end` says so if there was no room for the crew, and
+/// that or `NoThread` if not all workers could be started, and no turn was run; or if pages couldn't be offered that
+/// are owed. It is `NoThread` too if a step waited for a frame and the reclaimer couldn't be started: no further turn
+/// was dispatched then, and calls may be left that can make progress.
 pub fn run_calls<
     D: SwapDev + Drop + Send + 'static,
     T: Ledger + Send + 'static,
@@ -153,8 +155,8 @@ pub fn run_calls<
     let Ok(staff) = staff_of(rt, alloc, cell, ids, run_config) else {
         return Err(ServeError::Memory);
     };
-    let Staff { jobs, mut supply } = staff;
-    let crew = Crew {
+    let ServeParts { jobs, mut supply } = staff;
+    let crew = WorkerSetup {
         workers: run_config.workers,
         quantum: run_config.quantum,
     };

@@ -2,29 +2,29 @@
 
 use std::sync::atomic::{AtomicU64, Ordering};
 
-// So often it looks: some tens of microseconds, in which a turn of a thousand charges ends. To sleep and to be woken may take
-// as long.
+// How often it looks: for some tens of microseconds, in which a turn of a thousand charges ends. To sleep and to be
+// woken may take as long.
 const LOOKS: u32 = 20_000;
 
-// So often it looks where it did in vain too often.
+// How often it looks if it did without success too often.
 const FEW_LOOKS: u32 = 50;
 
-// So many times in a row it may look in vain before it looks less.
+// How many times in a row it may look without success before it looks less.
 const MOST_IN_VAIN: u64 = 3;
 
-// Where it looks less, of so many times it looks long once.
+// Where it looks less, it looks long once in this many times.
 const TIMES: u64 = 8;
 
-/// Decides how long a thread spins before it sleeps. Where it does in vain again and again, as where all processors have other
-/// things to do, or turns are long, it mostly sleeps at once.
+/// Decides how long a thread spins before it sleeps. If spinning fails again and again, as where all processors have
+/// other things to do, or turns are long, it mostly sleeps at once.
 #[derive(Drop)]
 pub struct SpinBackoff {
-    // How many times in a row it looked in vain, modulo 2^64.
+    // How many times in a row it spun without success, modulo 2^64.
     vain: AtomicU64,
 }
 
 impl SpinBackoff {
-    /// Returns that of a thread which hasn't spun.
+    /// Returns the backoff of a thread that hasn't spun.
     pub fn new() -> SpinBackoff {
         SpinBackoff {
             vain: AtomicU64::new(0),
@@ -46,7 +46,7 @@ impl SpinBackoff {
         self.vain.store(0, Ordering::SeqCst);
     }
 
-    /// Notes it didn't.
+    /// Notes that spinning didn't help.
     pub fn in_vain(&self) {
         let _ = self.vain.fetch_add(1, Ordering::SeqCst);
     }

@@ -4,6 +4,7 @@ ghost use Rattle.std.specs.Prelude.{◌≡◌, ◌+◌, ◌^◌, ◌<◌, ◌≤
 ghost use Rattle.std.specs.Thread.{IsSync};
 ghost use Rattle.wh_threads.specs.Working.{turns_due};
 
+use crate::at_once::AtOnce;
 use crate::jobs::{Schedule, TURNS_FOR_AN_OFFER};
 use crate::round_room::{Aim, MOST_AT_ONCE};
 use crate::run_queue::Series;
@@ -15,29 +16,29 @@ use std::sync::{Arc, Wait};
 use std::thread::Threads;
 use wh_cell::{CellAgreements, HostCell};
 use wh_host_model::TurnEnd;
-use wh_rounds::AtOnce;
 use wh_swap::SwapDev;
 use wh_threads::{ReceivedTurns, Turns, Worker};
 
 // For how many turns a worker receives turns while another one waits to do so.
 const MOST_TURNS_HELD: u64 = 1024;
 
-// So many turns a series has at most.
+// How many turns a series has at most.
 const MOST_TURNS_IN_A_SERIES: u32 = 4096;
 
 // A series of which fewer turns are left is in no round.
 const FEWEST_TURNS: u32 = 4;
 
-// Nor is one that is shorter by so many times than the longest.
+// Nor is one that is shorter than the longest by this factor.
 const TIMES_SHORTER: u32 = 8;
 
 // A round of fewer charges for each of its threads would take longer to begin than it saves.
 const FEWEST_CHARGES: u64 = 100_000;
 
-// So often a worker in the midst of a series, which has released the host's lock, looks whether who wants it has it now.
+// How often a worker in the midst of a series, which has released the host's lock, looks whether who wants it has it
+// now.
 const LOOKS_WHILE_WANTED: u32 = 16;
 
-// So many rounds series are in at most, before they are run one after the other.
+// How many rounds series are in at most, before they are run one after the other.
 const MOST_ROUNDS: u32 = 1024;
 
 // How a series ended.
@@ -59,7 +60,7 @@ fn has_done(end: TurnEnd) -> bool {
 struct Group {
     // Where no more turns of one are left, its last ones are run by themselves.
     few: u32,
-    // So many turns the next series of each has at most.
+    // How many turns the next series of each has at most.
     next: u32,
 }
 
@@ -86,8 +87,9 @@ fn group_of(orders: &[ReceivedTurns]) -> Group {
     Group { few, next }
 }
 
-// How many turns the next series of an instance has, of which the last one had so many and ended so: twice as many where its call
-// goes on and none was in vain. So a call is never followed by more turns in vain than it had turns.
+// How many turns the next series of an instance has, after one of `count` turns that ended so: twice as many if its
+// call can make progress and each turn did. So a call is never followed by more turns without progress than it had
+// turns.
 fn next_count(count: u32, end: SeriesEnd, group: Group) -> u32 {
     if end.last == TurnEnd::Again && end.is_of_use {
         return count.saturating_mul(2).min(group.next);
@@ -95,8 +97,8 @@ fn next_count(count: u32, end: SeriesEnd, group: Group) -> u32 {
     1
 }
 
-// For how long a round of these series by so many threads goes at most: each has a turn left behind it. None where one of them has few
-// left.
+// How long a round of these series by `threads` threads runs at most: each series has a turn left after it. None if
+// there are fewer than two, one of them has few turns left, or the round would be too short to pay.
 fn aim_of<'a>(orders: &[ReceivedTurns], threads: usize, wanted: &'a AtomicU64) -> Option<Aim<'a>>
     ensures { IfSome result (λ aim. aim.further + 1 < 2 ^ 32) }
 {

@@ -7,10 +7,11 @@ use std::sync::atomic::{AtomicU64, Ordering};
 use std::sync::{Condvar, Wait};
 use std::time::Duration;
 
-// So long a worker that waits sleeps at most, in seconds, though nobody rings.
+// How long a worker that waits sleeps at most, in seconds, though it isn't notified.
 const LONGEST_SLEEP_SECONDS: u64 = 1;
 
-// So often who has received a series looks whether others are still to be dispatched: who dispatches them may have to be woken.
+// How often a worker that has received a series looks whether others are still to be dispatched: who dispatches them
+// may have to be woken.
 const LOOKS_FOR_ALL: u32 = 10_000;
 
 /// Held by the worker that receives turns and runs them. Workers hold it one after another, in the order in which they asked.
@@ -37,7 +38,7 @@ impl TurnLock {
     /// Returns one for `workers`, free.
     ///
     /// # Errors
-    /// Where room was refused.
+    /// `AllocError` if an allocation fails.
     pub fn new(alloc: Global, workers: usize) -> Result<TurnLock, AllocError> {
         let mut bells = Vec::with_capacity(alloc, workers)?;
         for _ in 0..workers {
@@ -54,7 +55,7 @@ impl TurnLock {
         })
     }
 
-    // The bell of whoever has this number. None where there are no workers.
+    // The condition variable of the thread of this number. None if there are no workers.
     fn bell(&self, number: u64) -> Option<&Condvar> {
         let many = self.bells.len() as u64;
         if many == 0 {

@@ -1,20 +1,16 @@
 -- What lines get.
 use Rattle.std.proofs.lemmas.Option.{same_Some}
 use Rattle.std.proofs.Common.{◌≡◌, ◌∙◌, ℕ, ℤ, ◌<◌, ◌⊎◌, inl, inr, true, false, List, [], ◌∷◌, ◌++◌, length, Result, Ok, Err, OnOk, OnErr, is_err, refl, sym, ap, subst, append-nil, append_assoc, true≢false, slice_index, ◌≢◌, arith}
-use Rattle.wh_script_model.specs.Lines.{is_skipped, longest_line}
+use Rattle.wh_script_model.specs.{is_skipped, longest_line, Command, keep, load, admit, invoke, drain, refuel, cancel, retry, scan, report, release, AsksCommand, verb, Reply, error, LacksInstance, ReceivesCall, Files, IsRead, no_such_instance, AnswersLine, skipped, invoked, obeyed, too_long, no_command, line_out_of_memory, replies_text, DrainsAmid, DrainsAmidFaults}
 use Rattle.wh_script_model.specs.Settings.{Settings}
-use Rattle.wh_script_model.specs.Commands.{Command, keep, load, admit, invoke, drain, refuel, cancel, retry, scan, report, release, AsksCommand, verb}
-use Rattle.wh_script_model.specs.Texts.{Reply, error}
-use Rattle.wh_script_model.specs.ScriptState.{ScriptState, LacksInstance}
-use Rattle.wh_script_model.specs.Receiving.{ReceivesCall}
-use Rattle.wh_script_model.specs.Answers.{Files, IsRead, no_such_instance, replies_text}
-use Rattle.wh_script_model.specs.Failing.{DrainsAmid, AnswersLineAmid, skipped, invoked, obeyed, too_long, no_command, line_out_of_memory}
+use Rattle.wh_script_model.specs.ScriptState.{ScriptState}
 use Rattle.wh_commands.specs.declared.error.ParseError.{ParseError}
 use Rattle.wh_commands.specs.declared.error.ParseError.TheVariants.{Syntax, Memory}
 use Rattle.wh_commands.specs.declared.command.Command.{Command as Code}
 use Rattle.wh_script.specs.Causes.{cause_number, line_error}
 use Rattle.wh_commands.specs.ParsedCommands.{FindsAsked}
 use Rattle.wh_script_laws.specs.Printed.{AllArePrinted, IsWellMade}
+use Rattle.wh_script_laws.proofs.Faultless.{call_none, obeyed_none}
 use Rattle.wh_script_laws.proofs.PrintedObeyed.{call_well, obeys_well}
 use Rattle.wh_engine.specs.Obeying.{TakesInvoke, IsNamed}
 use Rattle.wh_engine.specs.Printing.{AddsLines}
@@ -60,31 +56,34 @@ only_replies : (settings : Settings) (number : ℕ) (line : List ℕ) (m : Scrip
     → AddsLines replies text text2 → (more : List ℕ) × IsLineText settings number line m replies more × (text2 ≡ text ++ more)
 only_replies settings number line m replies text text2 wants adds = (replies_text replies, prints_replies wants, adds)
 
+met_then : {faults : List ℕ} {m m2 : ScriptState} {lines : List Reply} → DrainsAmid faults m lines m2 → m2.faults_met ≡ faults ++ m.faults_met
+met_then drains = ap (λ (k : ScriptState). k.faults_met) drains.after
+
 pub is_skipped_line : {D : Type 0} (files : Files) (number : ℕ) (line : List ℕ) (e : ScriptHostState D) (text : List ℕ) → is_skipped line ≡ true → Answers files number line e text e text []
 is_skipped_line files number line e text is settings m s =
     let t = only_replies settings number line m [] text text (λ asks. absurd (true≢false (sym is ∙ asks.is_read.0))) (adds_none text) in
-    ([], m, t.0, skipped is refl, t.1, t.2, s)
+    ([], m, t.0, skipped is, refl, t.1, t.2, s)
 
 pub is_too_long : {D : Type 0} (files : Files) (number : ℕ) (line text text2 : List ℕ) (e e2 : ScriptHostState D) (faults : List ℕ) → is_skipped line ≡ false → longest_line < length line
     → Complains (error 1 number) e text e2 text2 faults → Answers files number line e text e2 text2 faults
 is_too_long files number line text text2 e e2 faults read long complains settings m s =
     let c = complains settings m s in
     let t = only_replies settings number line c.1 (c.0 ++ error 1 number ∷ []) text text2 (λ asks. absurd (omega (arith, long, asks.is_read.1))) c.3 in
-    (c.0 ++ error 1 number ∷ [], c.1, t.0, too_long read long c.2, t.1, t.2, c.4)
+    (c.0 ++ error 1 number ∷ [], c.1, t.0, too_long read long (faults, c.2), met_then c.2, t.1, t.2, c.4)
 
 pub is_no_command : {D : Type 0} (files : Files) (number : ℕ) (line text text2 : List ℕ) (e e2 : ScriptHostState D) (faults : List ℕ) → IsRead line → ((command : Command) → ¬ (AsksCommand line command))
     → Complains (error 1 number) e text e2 text2 faults → Answers files number line e text e2 text2 faults
 is_no_command files number line text text2 e e2 faults read none complains settings m s =
     let c = complains settings m s in
     let t = only_replies settings number line c.1 (c.0 ++ error 1 number ∷ []) text text2 (λ asks. absurd (none report asks.asks)) c.3 in
-    (c.0 ++ error 1 number ∷ [], c.1, t.0, no_command read none c.2, t.1, t.2, c.4)
+    (c.0 ++ error 1 number ∷ [], c.1, t.0, no_command read none (faults, c.2), met_then c.2, t.1, t.2, c.4)
 
 pub wants_memory : {D : Type 0} (files : Files) (number : ℕ) (line text text2 : List ℕ) (e e2 : ScriptHostState D) (faults : List ℕ) → IsRead line
     → Complains (error 5 number) e text e2 text2 faults → Answers files number line e text e2 text2 faults
 wants_memory files number line text text2 e e2 faults read complains settings m s =
     let c = complains settings m s in
     let t = only_replies settings number line c.1 (c.0 ++ error 5 number ∷ []) text text2 (λ asks. (c.0, refl)) c.3 in
-    (c.0 ++ error 5 number ∷ [], c.1, t.0, line_out_of_memory refl read c.2, t.1, t.2, c.4)
+    (c.0 ++ error 5 number ∷ [], c.1, t.0, line_out_of_memory refl read (faults, c.2), met_then c.2, t.1, t.2, c.4)
 
 -- a line whose command isn't found
 pub isnt_found : {D : Type 0} (files : Files) (number : ℕ) (line text text2 : List ℕ) (e e2 : ScriptHostState D) (faults : List ℕ) (r : Result Code ParseError) (cause : ParseError) → r ≡ Err cause
@@ -112,7 +111,8 @@ is_received files number i inst export fuel args e e2 text named takes line read
       [],
       took.2,
       t.0,
-      invoked i read asks has.1 received refl,
+      invoked i read asks has.1 received,
+      (call_none true m took.2 i has.0 export fuel args has.1.0 received).0,
       t.1,
       t.2,
       (took.4, call_well true m took.2 i has.0 export fuel args has.1.0 received s.1),
@@ -127,7 +127,8 @@ has_no_guest files number inst export fuel args e e2 text text2 faults none comp
       c.0 ++ error 2 number ∷ [],
       c.1,
       t.0,
-      obeyed {command = invoke inst export fuel args} read asks c.2 (no_such_instance refl (no_guest_then faults m c.1 c.0 inst c.2 (none settings m s.0))),
+      obeyed {command = invoke inst export fuel args} read asks (faults, c.2) (no_such_instance refl (no_guest_then faults m c.1 c.0 inst c.2 (none settings m s.0))),
+      met_then c.2,
       t.1,
       t.2,
       c.4,
@@ -140,9 +141,9 @@ invoke_wants files number command e e1 e2 text text2 faults stays complains line
     wants_memory files number line text text2 e1 e2 faults read complains settings m (stays settings m s.0, s.1)
 
 gets_line : (settings : Settings) (files : Files) (m m1 m2 : ScriptState) (number : ℕ) (command : Command) (line : List ℕ) (lines replies : List Reply) (faults : List ℕ) → IsRead line → AsksCommand line command
-    → DrainsAmid faults m lines m1 → GetsReplies settings files m1 number command replies m2 → AnswersLineAmid true settings files faults m number line (lines ++ replies) m2
-gets_line settings files m m1 m2 number command line lines replies faults read asks drains (is_obeyed o) = obeyed read asks drains o
-gets_line settings files m m1 _ number command line lines _ faults read asks drains is_wanting = line_out_of_memory refl read drains
+    → DrainsAmid faults m lines m1 → GetsReplies settings files m1 number command replies m2 → AnswersLine DrainsAmidFaults true settings files m number line (lines ++ replies) m2 × (m2.faults_met ≡ faults ++ m.faults_met)
+gets_line settings files m m1 m2 number command line lines replies faults read asks drains (is_obeyed o) = (obeyed read asks (faults, drains) o, (obeyed_none true settings files m1 m2 number command replies o).0 ∙ met_then drains)
+gets_line settings files m m1 _ number command line lines _ faults read asks drains is_wanting = (line_out_of_memory refl read (faults, drains), met_then drains)
 
 gets_well : (settings : Settings) (files : Files) (m1 m2 : ScriptState) (number : ℕ) (command : Command) (replies : List Reply) → GetsReplies settings files m1 number command replies m2
     → IsWellMade m1 → AllArePrinted m1 → IsWellMade m2
@@ -169,11 +170,13 @@ pub drained_obeyed : {D : Type 0} (files : Files) (number : ℕ) (command : Comm
 drained_obeyed files number command e e1 e2 text mid text2 faults drained obeys line read asks settings m s =
     let d = drained settings m s in
     let o = obeys settings d.1 d.4.0 in
+    let got = gets_line settings files m d.1 o.1 number command line d.0 o.0 faults read asks d.2 o.2 in
     let t = says_both settings number command line o.1 d.0 o.0 text mid text2 read asks (drained_in_memory faults m d.1 d.0 number d.2) d.3 o.3 in (
       d.0 ++ o.0,
       o.1,
       t.0,
-      gets_line settings files m d.1 o.1 number command line d.0 o.0 faults read asks d.2 o.2,
+      got.0,
+      got.1,
       t.1,
       t.2,
       (o.4, gets_well settings files d.1 o.1 number command o.0 o.2 d.4.1 d.5),

@@ -1,7 +1,7 @@
 -- Which command of the definitions a command of the code is.
 use Rattle.std.proofs.Common.{◌≡◌, ◌∙◌, ℕ, ℤ, List, Bor, refl, sym, ap}
 use Rattle.std.specs.Global.{Vec}
-use Rattle.wh_script_model.specs.Commands.{Command, keep, load, admit, invoke, drain, refuel, cancel, retry, scan, report, release}
+use Rattle.wh_script_model.specs.{Command, keep, load, admit, invoke, drain, refuel, cancel, retry, scan, report, release}
 use Rattle.wh_commands.specs.declared.command.Command.{Command as Code}
 use Rattle.wh_commands.specs.declared.command.Command.TheVariants.{Module, Load, Admit, Invoke, Drain, Refuel, Cancel, Retry, Scan, Report, Release}
 use Rattle.wh_params.specs.View.{view_params}

@@ -3,7 +3,7 @@ use Rattle.std.proofs.Common.{◌≡◌, ◌⊎◌, inl, inr, Bool, true, List, 
 use Rattle.wh_engine.specs.declared.fault.RunFault.{RunFault}
 use Rattle.wh_engine.specs.declared.fault.RunFault.TheVariants as run
 use Rattle.wh_script.specs.declared.fault.ScriptFault.{ScriptFault}
-use Rattle.wh_script.specs.declared.fault.ScriptFault.TheVariants.{Script, Output, Memory, Threads, Transcript}
+use Rattle.wh_script.specs.declared.fault.ScriptFault.TheVariants.{Script, Output, Memory, Transcript}
 use Rattle.wh_script.specs.Blame.{BlamesFailed}
 use Rattle.wh_script.specs.Causes.{script_fault}
 use Rattle.wh_script.specs.Runs.{Sent}
@@ -11,14 +11,12 @@ use Rattle.wh_script.specs.Runs.{Sent}
 -- nobody is where calls don't run to their ends
 pub run_fault_blames : (reader writer : Bool) (fault : RunFault) → BlamesFailed reader writer (Err (script_fault fault))
 run_fault_blames reader writer run.Memory = tt
-run_fault_blames reader writer run.Threads = tt
 run_fault_blames reader writer run.Transcript = tt
 
 pub read_blames : (reader writer : Bool) (fault : ScriptFault) → (fault ≡ Script) ⊎ (fault ≡ Memory) → (fault ≡ Script → reader ≡ true)
     → BlamesFailed reader writer (Err fault)
 read_blames reader writer Script which blames = blames refl
 read_blames reader writer Memory which blames = tt
-read_blames reader writer Threads which blames = tt
 read_blames reader writer Transcript which blames = tt
 read_blames reader writer Output (inl is) blames = absurd (cc is)
 read_blames reader writer Output (inr is) blames = absurd (cc is)
@@ -29,5 +27,4 @@ sent_blames reader writer old new (Ok done) text sent blames = tt
 sent_blames reader writer old new (Err Output) text sent blames = blames
 sent_blames reader writer old new (Err Script) text sent blames = elim sent [ ]
 sent_blames reader writer old new (Err Memory) text sent blames = elim sent [ ]
-sent_blames reader writer old new (Err Threads) text sent blames = elim sent [ ]
 sent_blames reader writer old new (Err Transcript) text sent blames = elim sent [ ]

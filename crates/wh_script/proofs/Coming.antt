@@ -5,11 +5,11 @@ use Rattle.std.specs.List.{AllByRecursion}
 use Rattle.std.proofs.lemmas.List.{take-append-le, take_all, drop-drop, drop-take, length-take, length-drop}
 use Rattle.std.proofs.lemmas.Grind.{common_steps}
 use Rattle.std.proofs.lemmas.List.Elements.{recursion_from_All, All-append}
-use Rattle.wh_script_model.specs.Lines.{lines_of, onto_first}
+use Rattle.wh_script_model.specs.{lines_of, onto_first}
 use Rattle.wh_script.specs.declared.lines.Line.{Line}
 use Rattle.wh_script.specs.declared.lines.Line.TheVariants.{Kept, TooLong, Skipped, End}
 use Rattle.wh_script.specs.declared.fault.ScriptFault.{ScriptFault}
-use Rattle.wh_script.specs.declared.fault.ScriptFault.TheVariants.{Script, Output, Memory, Threads, Transcript}
+use Rattle.wh_script.specs.declared.fault.ScriptFault.TheVariants.{Script, Output, Memory, Transcript}
 use Rattle.wh_script.specs.Coming.{FailsAt, Holds, TakesLines, IsKind, ReadsLine}
 
 pub keeps_consumes : (a b c : Option (List ℕ)) (xs : List ℕ) → Keeps a b → Consumes b c xs → Consumes a c xs
@@ -171,5 +171,4 @@ fails_at a b c (Ok kind) begun free p q = tt
 fails_at a b c (Err Script) begun free p q = (begun, free, consumes_on a b c begun p q)
 fails_at a b c (Err Output) begun free p q = tt
 fails_at a b c (Err Memory) begun free p q = tt
-fails_at a b c (Err Threads) begun free p q = tt
 fails_at a b c (Err Transcript) begun free p q = tt

@@ -1,9 +1,9 @@
 -- What is known of a device, and how its calls failed, over several stretches of a script.
 use Rattle.std.proofs.Common.{arith, ◌≡◌, ◌+◌, List, [], ◌∷◌, ◌++◌, length, Option, Some, None, refl, sym, ap, ◌∙◌, append_assoc, length-append, ℕ, map, subst}
-use Rattle.wh_host_model.specs.declared.plain.SwapError.{SwapError}
+use Rattle.wh_space_model.specs.declared.plain.SwapError.{SwapError}
 use Rattle.wh_engine.specs.Draining.{DeviceHoldsAmid, DeviceStaysTrue, HasAdded, DeviceMayFail}
 use Rattle.std.proofs.lemmas.List.{map-append}
-use Rattle.wh_host_model.specs.SwapFaults.{swap_number}
+use Rattle.wh_space_model.specs.{swap_number}
 
 -- ---- faults
 

@@ -1,8 +1,7 @@
 -- Drains, and what stands behind them.
 use Rattle.std.proofs.Common.{◌≡◌, ◌∙◌, ℕ, List, [], ◌∷◌, ◌++◌, refl, sym}
-use Rattle.wh_script_model.specs.Texts.{Reply, reply_text}
-use Rattle.wh_script_model.specs.ScriptState.{ScriptState, LacksInstance}
-use Rattle.wh_script_model.specs.Failing.{DrainsAmid}
+use Rattle.wh_script_model.specs.{Reply, reply_text, LacksInstance, DrainsAmid}
+use Rattle.wh_script_model.specs.ScriptState.{ScriptState}
 use Rattle.wh_script_laws.proofs.Printed.{runs_well, says_well, all_said, drained_guest}
 use Rattle.wh_engine.specs.Draining.{RunsEach}
 use Rattle.wh_engine.specs.Printing.{PrintsAll}
@@ -13,14 +12,14 @@ use Rattle.wh_script.proofs.Speaking.{adds_one, adds_more}
 pub has_drained : {D : Type 0} (e e2 e3 : ScriptHostState D) (text text2 : List ℕ) (faults : List ℕ) → RunsEach e e2 faults → PrintsAll e2 text e3 text2 → HasDrained e text e3 text2 faults
 has_drained e e2 e3 text text2 faults runs says settings m s =
     let ran = runs settings m s.0 in
-    let m1 : ScriptState = record m { instances = ran.0 } in
+    let m1 : ScriptState = record m { instances = ran.0; faults_met = faults ++ m.faults_met } in
     let well = runs_well faults m ran.0 s.1 ran.1 in
     let printed = says settings m1 ran.2 well in
     let starts = printed.0 in
     let calls = printed.1 in
     let instances = printed.2 in
     let invoked = printed.3 in
-    let m2 : ScriptState = record m { instances = instances; invoked = invoked } in
+    let m2 : ScriptState = record m1 { instances = instances; invoked = invoked } in
     let drains : DrainsAmid faults m (starts ++ calls) m2 =
     record {
       run = ran.0;

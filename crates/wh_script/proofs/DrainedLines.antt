@@ -1,10 +1,8 @@
 -- The lines of a drain say of calls how they are, and nothing else.
-use Rattle.std.proofs.Common.{◌≡◌, ℕ, ◌+◌, List, [], ◌∷◌, ◌++◌, Option, subst, sym, ◌∙◌}
+use Rattle.std.proofs.Common.{ℕ, ◌+◌, List, [], ◌∷◌, ◌++◌, Option, subst, sym, ◌∙◌}
 use Rattle.std.specs.List.{AllByRecursion}
-use Rattle.wh_script_model.specs.Texts.{Reply, Caller, CallStatus, call_is, error}
-use Rattle.wh_script_model.specs.ScriptState.{NamedInstance, Invoked, ScriptState}
-use Rattle.wh_script_model.specs.Drains.{PrintsLine, as_before, anew, PrintsStart, has_none, has_one, PrintsCall, is_refused, is_taken, PrintStarts, PrintCalls}
-use Rattle.wh_script_model.specs.Failing.{DrainsAmid}
+use Rattle.wh_script_model.specs.{Reply, Caller, CallStatus, call_is, error, NamedInstance, Invoked, PrintsLine, as_before, anew, PrintsStart, has_none, has_one, PrintsCall, is_refused, is_taken, PrintStarts, PrintCalls, DrainsAmid}
+use Rattle.wh_script_model.specs.ScriptState.{ScriptState}
 use Rattle.wh_script.specs.Speaking.{EndsOutOfMemory}
 
 -- it says of a call how it is

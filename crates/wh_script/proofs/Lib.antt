@@ -11,6 +11,5 @@ pub mod Within
 pub mod Answered
 pub mod OfHost
 pub mod Obeyed
-pub mod Stopped
 pub mod Runs
 pub mod FaultlessRuns

@@ -1,13 +1,10 @@
 -- What commands get behind a drain.
 use Rattle.std.proofs.Common.{◌≡◌, ◌∙◌, ℕ, true, List, [], ◌∷◌, ◌++◌, slice_get, Option, Some, None, MatchOption, OnOk, Result, Ok, Err, refl, sym, ap, subst}
 use Rattle.std.proofs.lemmas.Option.{same_Some}
-use Rattle.wh_host_model.specs.Owners.{Params}
+use Rattle.wh_host_model.specs.{Params}
 use Rattle.wh_script_model.specs.Settings.{Settings}
-use Rattle.wh_script_model.specs.Commands.{Command, load, admit, drain, scan, report}
-use Rattle.wh_script_model.specs.Texts.{Reply, error, scan_ok, reply_text}
-use Rattle.wh_script_model.specs.ScriptState.{NamedModule, ScriptState, HasModule, NoModule, LacksInstance}
-use Rattle.wh_script_model.specs.Receiving.{ReceivesInstance}
-use Rattle.wh_script_model.specs.Answers.{Files, NamesModule, BringsBytes, IsForInstance, IsObeyed, module_name_is_taken, no_file, module_comes, no_such_module, instance_name_is_taken, instance_comes, no_such_instance, is_drained, is_scanned, is_reported}
+use Rattle.wh_script_model.specs.{Command, load, admit, drain, scan, report, Reply, error, scan_ok, reply_text, NamedModule, HasModule, NoModule, LacksInstance, ReceivesInstance, Files, NamesModule, BringsBytes, IsForInstance, IsObeyed, module_name_is_taken, no_file, module_comes, no_such_module, instance_name_is_taken, instance_comes, no_such_instance, is_drained, is_scanned, is_reported}
+use Rattle.wh_script_model.specs.ScriptState.{ScriptState}
 use Rattle.wh_host.specs.Reporting.{ReportState, ReportsHost}
 use Rattle.wh_replies.specs.ReportTexts.{report_text}
 use Rattle.wh_engine.specs.Draining.{StaysSo}

@@ -1,9 +1,7 @@
 -- What commands and lines get of the host.
-use Rattle.std.proofs.Common.{◌≡◌, ◌≢◌, ◌∙◌, ◌⊎◌, inl, inr, ℕ, true, false, List, ◌∷◌, Result, Ok, Err, OnOk, refl, sym, ap, subst, slice_index, arith, true≢false}
-use Rattle.wh_script_model.specs.Lines.{is_skipped, longest_line}
+use Rattle.std.proofs.Common.{◌≡◌, ◌≢◌, ◌∙◌, ◌⊎◌, inl, ℕ, List, ◌∷◌, Result, Ok, Err, OnOk, refl, sym, ap, subst, slice_index, arith}
 use Rattle.wh_script_model.specs.Commands as asked_of
-use Rattle.wh_script_model.specs.Commands.{AsksCommand, verb, keep, load, admit, invoke, drain, refuel, cancel, retry, scan, report, release}
-use Rattle.wh_script_model.specs.Texts.{error}
+use Rattle.wh_script_model.specs.{AsksCommand, verb, keep, load, admit, invoke, drain, refuel, cancel, retry, scan, report, release, error}
 use Rattle.wh_commands.specs.declared.command.Command.{Command}
 use Rattle.wh_commands.specs.declared.command.Command.TheVariants.{Module, Load, Admit, Invoke, Drain, Refuel, Cancel, Retry, Scan, Report, Release}
 use Rattle.wh_commands.specs.declared.error.ParseError.{ParseError}

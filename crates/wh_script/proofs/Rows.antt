@@ -1,10 +1,10 @@
 -- The rows of a report are those of the script's instances.
 use Rattle.std.proofs.Common.{◌≡◌, ◌∙◌, ℕ, ◌+◌, ◌-◌, List, [], ◌∷◌, ◌++◌, length, Option, Some, None, refl, sym, ap, subst}
 use Rattle.std.specs.List.{AllZip}
-use Rattle.wh_host_model.specs.Host.Worlds.{Tenant, World}
-use Rattle.wh_script_model.specs.Texts.{Row, frames_text, row_text, shared_text, slots_text}
+use Rattle.wh_host_model.specs.Host.{Tenant, World}
+use Rattle.wh_script_model.specs.{Row, frames_text, row_text, shared_text, slots_text, NamedInstance}
 use Rattle.wh_script_model.specs.Settings.{Settings}
-use Rattle.wh_script_model.specs.ScriptState.{NamedInstance, ScriptState}
+use Rattle.wh_script_model.specs.ScriptState.{ScriptState}
 use Rattle.wh_host.specs.Reporting.{ReportState, ReportsHost, all_sharers, report_of, row_in, rows_in, shared_frames}
 use Rattle.wh_replies.specs.ReportTexts.{report_text, row_of, rows_text}
 use Rattle.wh_script_laws.specs.Following.{AreSame, IsFollowed, is_there, is_gone, Knows, StandsSame}

@@ -1,81 +1,71 @@
 -- A run line by line: what was read and written so far, and how it ends.
 use Rattle.std.proofs.Common.{◌≡◌, ◌≢◌, ℕ, ◌+◌, ◌⊎◌, inl, inr, true, List, [], ◌∷◌, ◌++◌, length, All, Option, Some, None, Result, Ok, Err, refl, sym, ap, subst, subst₂, ◌∙◌, append-nil, append_assoc, arith, length-append}
 use Rattle.std.specs.Io.KnownBytes.{Appends, Consumes, IsAtEnd, prepend_known}
-use Rattle.wh_script_model.specs.Lines.{lines_of}
+use Rattle.wh_script_model.specs.{lines_of, Reply, empty_script, DrainRule, Files, AnswersLine, AnswersLines, DrainsAmidFaults}
 use Rattle.wh_script_model.specs.Settings.{Settings}
-use Rattle.wh_script_model.specs.Texts.{Reply}
-use Rattle.wh_script_model.specs.ScriptState.{ScriptState, empty_script}
-use Rattle.wh_script_model.specs.Answers.{Files}
-use Rattle.wh_script_model.specs.Failing.{AnswersLineAmid, AnswersLinesAmid}
+use Rattle.wh_script_model.specs.ScriptState.{ScriptState}
 use Rattle.wh_engine.specs.declared.fault.RunFault.{RunFault}
 use Rattle.wh_engine.specs.declared.fault.RunFault.TheVariants as run
 use Rattle.wh_script.specs.declared.fault.ScriptFault.{ScriptFault}
-use Rattle.wh_script.specs.declared.fault.ScriptFault.TheVariants.{Script, Output, Memory, Threads, Transcript}
+use Rattle.wh_script.specs.declared.fault.ScriptFault.TheVariants.{Script, Output, Memory, Transcript}
 use Rattle.wh_script.specs.Causes.{script_fault}
-use Rattle.wh_engine.specs.Draining.{StopsOnlyOpen, StopsOpenOr, WasOpen}
+use Rattle.wh_engine.specs.Draining.{StopsOnlyOpen, WasOpen}
 use Rattle.wh_engine.specs.RepresentedScript.{ScriptHostState, RepresentsScript}
 use Rattle.wh_script_laws.proofs.PrintedObeyed.{nothing_well}
 use Rattle.wh_script.specs.declared.lines.Line.{Line}
 use Rattle.wh_script.specs.declared.lines.Line.TheVariants.{Kept, TooLong, Skipped, End}
 use Rattle.wh_script.specs.Coming.{TakesLines, IsKind, ReadsLine, FailsAt}
-use Rattle.wh_script.specs.Speaking.{AsksScan, IsLineText}
+use Rattle.wh_script.specs.Speaking.{IsLineText}
 use Rattle.wh_script.specs.Answering.{ServesScript, HasDrained, Answers}
-use Rattle.wh_script.specs.Runs.{AreLines, AreFirstLines, GaveLines, AppendsFront, Sent}
-use Rattle.wh_script.specs.FailingRuns.{LinesSayAmid, IsPartialAmid, IsWholeAmid, StopsAtCallsAmid, StopsAtScanAmid, StopsBetweenAmid, ScriptRunsAmid}
+use Rattle.wh_script.specs.Runs.{AreLines, AreFirstLines, GaveLines, AppendsFront, Sent, LinesSay, IsPartial, IsWhole, StopsAtCalls, StopsBetween}
+use Rattle.wh_script.specs.FailingRuns.{ScriptRunsAmid}
 use Rattle.wh_script.proofs.Coming.{takes_more}
 use Rattle.wh_script.proofs.Written.{appends_nothing, appends_more}
 
 -- lines were taken up to this number, and what answers them was written, while calls of the device had these faults
 abbrev pub SoFar : {D : Type 0} → Settings → Files → Option (List ℕ) → Option (List ℕ) → Option (List ℕ) → Option (List ℕ) → ℕ → ScriptHostState D → (met : List ℕ) → Type 0
 SoFar settings files script coming before after number e met = (lines : List (List ℕ)) × (replies : List Reply) × (m : ScriptState) × (text : List ℕ)
-    × TakesLines script coming lines × (length lines + 1 ≡ number) × LinesSayAmid settings files met empty_script 1 lines replies text m × Appends before after text
-    × ServesScript settings e m
+    × TakesLines script coming lines × (length lines + 1 ≡ number) × LinesSay DrainsAmidFaults settings files empty_script 1 lines replies text m × Appends before after text
+    × ServesScript settings e m × (met ≡ m.faults_met)
 
 -- one more line gets its replies, and the text goes on
-says_more : (settings : Settings) (files : Files) (met fresh : List ℕ) (before mid after : ScriptState) (number : ℕ) (lines : List (List ℕ)) (line text now : List ℕ) (replies reply : List Reply)
-    → LinesSayAmid settings files met before number lines replies text mid → AnswersLineAmid true settings files fresh mid (number + length lines) line reply after
-    → IsLineText settings (number + length lines) line after reply now → LinesSayAmid settings files (fresh ++ met) before number (lines ++ line ∷ []) (replies ++ reply) (text ++ now) after
-says_more settings files met fresh before mid after number [] line text now replies reply p r says_it =
-    let n : number + 0 ≡ number = omega arith in
-    let here : AnswersLineAmid true settings files fresh before number line reply after = subst₂ (λ m k. AnswersLineAmid true settings files fresh m k line reply after) p.3 n r in (
-      fresh,
-      [],
+says_more : (Drain : DrainRule) (settings : Settings) (files : Files) (before mid after : ScriptState) (number : ℕ) (lines : List (List ℕ)) (line text now : List ℕ) (replies reply : List Reply)
+    → LinesSay Drain settings files before number lines replies text mid → AnswersLine Drain true settings files mid (number + length lines) line reply after
+    → IsLineText settings (number + length lines) line after reply now → LinesSay Drain settings files before number (lines ++ line ∷ []) (replies ++ reply) (text ++ now) after
+says_more Drain settings files before mid after number [] line text now replies reply p r says_it =
+    let n : number + 0 ≡ number = omega arith in (
       reply,
       [],
       now,
       [],
       after,
-      ap (λ xs. fresh ++ xs) p.0 ∙ append-nil fresh,
-      ap (λ xs. xs ++ reply) p.1 ∙ sym (append-nil reply),
-      ap (λ xs. xs ++ now) p.2 ∙ sym (append-nil now),
-      here,
+      ap (λ xs. xs ++ reply) p.0 ∙ sym (append-nil reply),
+      ap (λ xs. xs ++ now) p.1 ∙ sym (append-nil now),
+      subst₂ (λ m k. AnswersLine Drain true settings files m k line reply after) p.2 n r,
       subst (λ k. IsLineText settings k line after reply now) n says_it,
-      (refl, refl, refl, refl),
+      (refl, refl, refl),
     )
-says_more settings files met fresh before mid after number (l ∷ lines) line text now replies reply p r says_it =
+says_more Drain settings files before mid after number (l ∷ lines) line text now replies reply p r says_it =
     let n : number + length (l ∷ lines) ≡ number + 1 + length lines = omega arith in (
       p.0,
-      fresh ++ p.1,
+      p.1 ++ reply,
       p.2,
-      p.3 ++ reply,
+      p.3 ++ now,
       p.4,
-      p.5 ++ now,
-      p.6,
-      ap (λ xs. fresh ++ xs) p.7 ∙ sym (append_assoc fresh p.1 p.0),
-      ap (λ xs. xs ++ reply) p.8 ∙ append_assoc p.2 p.3 reply,
-      ap (λ xs. xs ++ now) p.9 ∙ append_assoc p.4 p.5 now,
-      p.10,
-      p.11,
-      says_more settings files p.1 fresh p.6 mid after (number + 1) lines line p.5 now p.3 reply p.12 (subst (λ k. AnswersLineAmid true settings files fresh mid k line reply after) n r)
+      ap (λ xs. xs ++ reply) p.5 ∙ append_assoc p.0 p.1 reply,
+      ap (λ xs. xs ++ now) p.6 ∙ append_assoc p.2 p.3 now,
+      p.7,
+      p.8,
+      says_more Drain settings files p.4 mid after (number + 1) lines line p.3 now p.1 reply p.9 (subst (λ k. AnswersLine Drain true settings files mid k line reply after) n r)
           (subst (λ k. IsLineText settings k line after reply now) n says_it),
     )
 
 -- so lines that say replies get them
-are_answered : (settings : Settings) (files : Files) (met : List ℕ) (before after : ScriptState) (number : ℕ) (lines : List (List ℕ)) (replies : List Reply) (text : List ℕ)
-    → LinesSayAmid settings files met before number lines replies text after → AnswersLinesAmid true settings files met before number lines replies after
-are_answered settings files met before after number [] replies text p = (p.0, p.1, p.3)
-are_answered settings files met before after number (l ∷ lines) replies text p =
-    (p.0, p.1, p.2, p.3, p.6, p.7, p.8, p.10, are_answered settings files p.1 p.6 after (number + 1) lines p.3 p.5 p.12)
+pub are_answered : (Drain : DrainRule) (settings : Settings) (files : Files) (before after : ScriptState) (number : ℕ) (lines : List (List ℕ)) (replies : List Reply) (text : List ℕ)
+    → LinesSay Drain settings files before number lines replies text after → AnswersLines Drain true settings files before number lines replies after
+are_answered Drain settings files before after number [] replies text p = (p.0, p.2)
+are_answered Drain settings files before after number (l ∷ lines) replies text p =
+    (p.0, p.1, p.4, p.5, p.7, are_answered Drain settings files p.4 after (number + 1) lines p.1 p.3 p.9)
 
 first_lines : (a b : Option (List ℕ)) (lines : List (List ℕ)) → TakesLines a b lines → AreFirstLines a lines
 first_lines None b lines p = tt
@@ -105,63 +95,35 @@ line_of End a b held more reads = absurd (more refl)
 
 pub starts : {D : Type 0} (settings : Settings) (files : Files) (a w : Option (List ℕ)) (left : List ℕ) (e : ScriptHostState D) → left ≡ [] → RepresentsScript settings e empty_script
     → SoFar settings files a (prepend_known left a) w w 1 e []
-starts settings files None w left e none stands = ([], [], empty_script, [], tt, refl, (refl, refl, refl, refl), appends_nothing w, (stands, nothing_well))
+starts settings files None w left e none stands = ([], [], empty_script, [], tt, refl, (refl, refl, refl), appends_nothing w, (stands, nothing_well), refl)
 starts settings files (Some xs) w left e none stands =
-    ([], [], empty_script, [], rw none ([], refl, refl), refl, (refl, refl, refl, refl), appends_nothing w, (stands, nothing_well))
+    ([], [], empty_script, [], rw none ([], refl, refl), refl, (refl, refl, refl), appends_nothing w, (stands, nothing_well), refl)
 
 nothing_first : (a : Option (List ℕ)) → AreFirstLines a []
 nothing_first None = tt
 nothing_first (Some xs) = (lines_of xs, refl)
 
 pub begins_nothing : (settings : Settings) (files : Files) (a left w : Option (List ℕ)) → ScriptRunsAmid settings files [] a left w w (Err Memory)
-begins_nothing settings files a left w = ([], [], nothing_first a, record { replies = []; made = empty_script; earlier = []; since = []; faults_are = refl; answers = (refl, refl, refl); says = (refl, refl, refl, refl) }, appends_nothing w)
+begins_nothing settings files a left w = ([], [], nothing_first a, record { replies = []; made = empty_script; since = []; answers = (refl, refl); says = (refl, refl, refl); met = refl }, appends_nothing w)
 
 module _ {D : Type 0} (settings : Settings) (files : Files) (a b before mid : Option (List ℕ)) (number : ℕ) (e : ScriptHostState D) (met since : List ℕ) (so_far : SoFar settings files a b before mid number e met) where
-  partial : IsPartialAmid settings files (since ++ met) so_far.0 so_far.3
-  partial = record {
-    replies = so_far.1;
-    made = so_far.2;
-    earlier = met;
-    since = since;
-    faults_are = refl;
-    answers = are_answered settings files met empty_script so_far.2 1 so_far.0 so_far.1 so_far.3 so_far.6;
-    says = so_far.6;
-  }
+  answered : AnswersLines DrainsAmidFaults true settings files empty_script 1 so_far.0 so_far.1 so_far.2
+  answered = are_answered DrainsAmidFaults settings files empty_script so_far.2 1 so_far.0 so_far.1 so_far.3 so_far.6
 
-  stops_here : StopsBetweenAmid settings files (since ++ met) a before mid
+  partial : IsPartial DrainsAmidFaults settings files (since ++ met) so_far.0 so_far.3
+  partial = record { replies = so_far.1; made = so_far.2; since = since; answers = answered; says = so_far.6; met = ap (λ xs. since ++ xs) so_far.9 }
+
+  stops_here : StopsBetween DrainsAmidFaults settings files (since ++ met) a before mid
   stops_here = (so_far.0, so_far.3, first_lines a b so_far.0 so_far.4, partial, so_far.7)
 
-  -- where the next line asks for a scan
-  stops_scan : (line : List ℕ) → AreFirstLines a (so_far.0 ++ line ∷ []) → AsksScan line → StopsAtScanAmid settings files (since ++ met) a before mid
-  stops_scan line first asks = (so_far.0, line, so_far.3, first, asks, partial, so_far.7)
-
-  stops_open : WasOpen e → StopsAtCallsAmid settings files (since ++ met) a before mid
+  stops_open : WasOpen e → StopsAtCalls DrainsAmidFaults settings files (since ++ met) a before mid
   unfolding partial
   stops_open was =
       (so_far.0, so_far.3, first_lines a b so_far.0 so_far.4, record { partial = partial; may_go = was.1 settings so_far.2 so_far.8.0 }, so_far.7)
 
   pub stops : (left : Option (List ℕ)) (fault : RunFault) → StopsOnlyOpen e fault → ScriptRunsAmid settings files (since ++ met) a left before mid (Err (script_fault fault))
   stops left run.Memory only = stops_here
-  stops left run.Threads only = inl (stops_open only)
   stops left run.Transcript only = stops_open only
-
-  open_or_scan : (line : List ℕ) → AreFirstLines a (so_far.0 ++ line ∷ []) → WasOpen e ⊎ AsksScan line
-      → StopsAtCallsAmid settings files (since ++ met) a before mid ⊎ StopsAtScanAmid settings files (since ++ met) a before mid
-  open_or_scan line first (inl open_call) = inl (stops_open open_call)
-  open_or_scan line first (inr asks) = inr (stops_scan line first asks)
-
-  stops_or : (left : Option (List ℕ)) (line : List ℕ) → AreFirstLines a (so_far.0 ++ line ∷ []) → (fault : RunFault) → StopsOpenOr (AsksScan line) e fault
-      → ScriptRunsAmid settings files (since ++ met) a left before mid (Err (script_fault fault))
-  stops_or left line first run.Memory only = stops_here
-  stops_or left line first run.Threads only = open_or_scan line first only
-  stops_or left line first run.Transcript only = stops_open only
-
-  -- at a line
-  pub stops_at_line : (c : Option (List ℕ)) (kind : Line) (held : List ℕ) → kind ≢ End → ReadsLine b c kind held → (left : Option (List ℕ)) (fault : RunFault)
-      → ((line : List ℕ) → IsKind kind held line → StopsOpenOr (AsksScan line) e fault) → ScriptRunsAmid settings files (since ++ met) a left before mid (Err (script_fault fault))
-  stops_at_line c kind held more reads left fault only =
-      let next = line_of kind b c held more reads in
-      stops_or left next.0 (first_lines a c (so_far.0 ++ next.0 ∷ []) (takes_more a b c so_far.0 (next.0 ∷ []) so_far.4 next.1)) fault (only next.0 next.2)
 
   pub read_fails : (left : Option (List ℕ)) (fault : ScriptFault) → (fault ≡ Script) ⊎ (fault ≡ Memory) → FailsAt b left (Err fault) → ScriptRunsAmid settings files (since ++ met) a left before mid (Err fault)
   read_fails left Script which at = (so_far.0, so_far.3, gave_lines a b left so_far.0 at.0 so_far.4 at.1 at.2, partial, so_far.7)
@@ -171,11 +133,6 @@ module _ {D : Type 0} (settings : Settings) (files : Files) (a b before mid : Op
       neither : (Output ≡ Script) ⊎ (Output ≡ Memory) → ScriptRunsAmid settings files (since ++ met) a left before mid (Err Output)
       neither (inl h) = absurd (cc h)
       neither (inr h) = absurd (cc h)
-  read_fails left Threads which at = absurd (neither which)
-    where
-      neither : (Threads ≡ Script) ⊎ (Threads ≡ Memory) → ⊥
-      neither (inl h) = absurd (cc h)
-      neither (inr h) = absurd (cc h)
   read_fails left Transcript which at = absurd (neither which)
     where
       neither : (Transcript ≡ Script) ⊎ (Transcript ≡ Memory) → ⊥
@@ -183,23 +140,16 @@ module _ {D : Type 0} (settings : Settings) (files : Files) (a b before mid : Op
       neither (inr h) = absurd (cc h)
 
   module _ (e2 : ScriptHostState D) (text : List ℕ) (after left : Option (List ℕ)) where
-    whole : HasDrained e [] e2 text since → IsWholeAmid settings files (since ++ met) so_far.0 (so_far.3 ++ text)
+    whole : HasDrained e [] e2 text since → IsWhole DrainsAmidFaults settings files (since ++ met) so_far.0 (so_far.3 ++ text)
     whole drained =
         let d = drained settings so_far.2 so_far.8 in
-        let answered = are_answered settings files met empty_script so_far.2 1 so_far.0 so_far.1 so_far.3 so_far.6 in
         record {
-          to_lines = so_far.1;
-          last = d.0;
+          replies = so_far.1 ++ d.0;
           front = so_far.3;
-          before = so_far.2;
-          after = d.1;
-          earlier = met;
-          at_last = since;
-          faults_are = refl;
-          answers = record { before = so_far.2; after = d.1; to_lines = so_far.1; last = d.0; earlier = met; at_last = since; answers = answered; drains = d.2; faults_are = refl; replies_are = refl };
+          answers = record { before = so_far.2; after = d.1; to_lines = so_far.1; last = d.0; answers = answered; drains = (since, d.2); replies_are = refl };
           says = so_far.6;
-          drains = d.2;
           is = ap (λ xs. so_far.3 ++ xs) d.3;
+          met = ap (λ xs. since ++ xs) so_far.9 ∙ sym (ap (λ (k : ScriptState). k.faults_met) d.2.after);
         }
 
     -- the drain at the end
@@ -209,7 +159,6 @@ module _ {D : Type 0} (settings : Settings) (files : Files) (a b before mid : Op
         (so_far.0, so_far.3 ++ text, first_lines a b so_far.0 so_far.4, inr (whole drained), front_of before mid after so_far.3 text so_far.7 sent)
     ends drained end (Err Script) sent = elim sent [ ]
     ends drained end (Err Memory) sent = elim sent [ ]
-    ends drained end (Err Threads) sent = elim sent [ ]
     ends drained end (Err Transcript) sent = elim sent [ ]
 
     module _ (c : Option (List ℕ)) (kind : Line) (held : List ℕ) (more : kind ≢ End) (reads : ReadsLine b c kind held)
@@ -220,17 +169,18 @@ module _ {D : Type 0} (settings : Settings) (files : Files) (a b before mid : Op
       takes_next : TakesLines a c (so_far.0 ++ next_line.0 ∷ [])
       takes_next = takes_more a b c so_far.0 (next_line.0 ∷ []) so_far.4 next_line.1
 
-      says_next : (replies : List Reply) × (m : ScriptState) × LinesSayAmid settings files (since ++ met) empty_script 1 (so_far.0 ++ next_line.0 ∷ []) replies (so_far.3 ++ text) m
-          × ServesScript settings e2 m
+      says_next : (replies : List Reply) × (m : ScriptState) × LinesSay DrainsAmidFaults settings files empty_script 1 (so_far.0 ++ next_line.0 ∷ []) replies (so_far.3 ++ text) m
+          × ServesScript settings e2 m × (since ++ met ≡ m.faults_met)
       says_next =
           let answer = answers next_line.0 next_line.2 settings so_far.2 so_far.8 in
           let n : number ≡ 1 + length so_far.0 = omega (arith, so_far.5) in (
             so_far.1 ++ answer.0,
             answer.1,
-            says_more settings files met since empty_script so_far.2 answer.1 1 so_far.0 next_line.0 so_far.3 text so_far.1 answer.0 so_far.6
-                (subst (λ k. AnswersLineAmid true settings files since so_far.2 k next_line.0 answer.0 answer.1) n answer.3)
-                (subst₂ (λ k xs. IsLineText settings k next_line.0 answer.1 answer.0 xs) n (sym answer.5) answer.4),
-            answer.6,
+            says_more DrainsAmidFaults settings files empty_script so_far.2 answer.1 1 so_far.0 next_line.0 so_far.3 text so_far.1 answer.0 so_far.6
+                (subst (λ k. AnswersLine DrainsAmidFaults true settings files so_far.2 k next_line.0 answer.0 answer.1) n answer.3)
+                (subst₂ (λ k xs. IsLineText settings k next_line.0 answer.1 answer.0 xs) n (sym answer.6) answer.5),
+            answer.7,
+            ap (λ xs. since ++ xs) so_far.9 ∙ sym answer.4,
           )
 
       pub goes_on : Appends mid after text → SoFar settings files a c before after (number + 1) e2 (since ++ met)
@@ -244,6 +194,7 @@ module _ {D : Type 0} (settings : Settings) (files : Files) (a b before mid : Op
         says_next.2,
         appends_more before mid after so_far.3 text so_far.7 sent,
         says_next.3,
+        says_next.4,
       )
 
       pub write_fails : (fault : ScriptFault) → Sent mid after (Err fault) text → ScriptRunsAmid settings files (since ++ met) a left before after (Err fault)
@@ -254,15 +205,13 @@ module _ {D : Type 0} (settings : Settings) (files : Files) (a b before mid : Op
         inl (record {
           replies = says_next.0;
           made = says_next.1;
-          earlier = since ++ met;
           since = [];
-          faults_are = refl;
-          answers = are_answered settings files (since ++ met) empty_script says_next.1 1 (so_far.0 ++ next_line.0 ∷ []) says_next.0 (so_far.3 ++ text) says_next.2;
+          answers = are_answered DrainsAmidFaults settings files empty_script says_next.1 1 (so_far.0 ++ next_line.0 ∷ []) says_next.0 (so_far.3 ++ text) says_next.2;
           says = says_next.2;
+          met = says_next.4;
         }),
         front_of before mid after so_far.3 text so_far.7 sent,
       )
       write_fails Script sent = elim sent [ ]
       write_fails Memory sent = elim sent [ ]
-      write_fails Threads sent = elim sent [ ]
       write_fails Transcript sent = elim sent [ ]

@@ -1,7 +1,6 @@
 -- Texts of replies, one behind the other.
 use Rattle.std.proofs.Common.{◌≡◌, ◌∙◌, ℕ, List, [], ◌∷◌, ◌++◌, refl, sym, ap, append-nil, append_assoc}
-use Rattle.wh_script_model.specs.Texts.{Reply, reply_text}
-use Rattle.wh_script_model.specs.Answers.{replies_text}
+use Rattle.wh_script_model.specs.{Reply, reply_text, replies_text}
 use Rattle.wh_engine.specs.Printing.{AddsLines}
 
 pub texts_on : (a b : List Reply) → replies_text (a ++ b) ≡ replies_text a ++ replies_text b

@@ -1,16 +1,16 @@
 -- What a line gets, and for which script the engine stands then.
-use Rattle.std.specs.Prelude.{◌≡◌, ℕ, ◌+◌, true, List, [], ◌∷◌, ◌++◌, Option, ⊤, ◌⊎◌}
+use Rattle.std.specs.Prelude.{◌≡◌, ℕ, true, List, [], ◌∷◌, ◌++◌, Option, ⊤}
 use Rattle.wh_script_model.specs.Settings.{Settings}
 use Rattle.wh_script_model.specs.Commands.{Command, invoke, report, AsksCommand}
 use Rattle.wh_script_model.specs.Texts.{Reply, error, reply_text}
 use Rattle.wh_script_model.specs.ScriptState.{ScriptState}
-use Rattle.wh_script_model.specs.Answers.{Files, IsObeyed, IsRead}
-use Rattle.wh_script_model.specs.Failing.{DrainsAmid, AnswersLineAmid}
+use Rattle.wh_script_model.specs.Answers.{Files, IsObeyed, IsRead, AnswersLine}
+use Rattle.wh_script_model.specs.Failing.{DrainsAmid, DrainsAmidFaults}
 use Rattle.wh_script_laws.specs.Printed.{AllArePrinted, IsWellMade}
 use Rattle.wh_host.specs.Reporting.{ReportState, ReportsHost}
 use Rattle.wh_replies.specs.ReportTexts.{report_text}
-use Rattle.wh_cell.specs.Counted.{countable, offers_of}
 use Rattle.wh_cell.specs.Scanned.{IsScanned}
+use Rattle.wh_engine.specs.Draining.{CountsPass}
 use Rattle.wh_engine.specs.RepresentedScript.{ScriptHostState, RepresentsScript}
 use Rattle.wh_engine.specs.Printing.{AddsLines}
 use Rattle.wh_script.specs.Reports.{IsReportOf}
@@ -22,15 +22,15 @@ ServesScript settings e m = RepresentsScript settings e m × IsWellMade m
 
 -- ---- drains
 
--- whatever script it serves: all calls have run while calls of the device had these faults, it was said of all how they
--- are, and their lines stand behind the text
+-- whatever script it serves: all calls have run while calls of the device had these faults, it was said of all how they are, and
+-- their lines stand after the text
 abbrev pub HasDrained : {D : Type 0} → ScriptHostState D → List ℕ → ScriptHostState D → List ℕ → (faults : List ℕ) → Type 0
 HasDrained e text e2 text2 faults =
     (settings : Settings) (m : ScriptState) → ServesScript settings e m
     → (lines : List Reply) × (m2 : ScriptState) × DrainsAmid faults m lines m2 × AddsLines lines text text2 × ServesScript settings e2 m2
     × AllArePrinted m2
 
--- and the reply behind them
+-- and the reply after them
 abbrev pub Complains : {D : Type 0} → Reply → ScriptHostState D → List ℕ → ScriptHostState D → List ℕ → (faults : List ℕ) → Type 0
 Complains reply e text e2 text2 faults =
     (settings : Settings) (m : ScriptState) → ServesScript settings e m
@@ -44,14 +44,14 @@ abbrev pub IsNoInvoke : Command → Type 0
 IsNoInvoke (invoke inst export fuel args) = ⊥
 IsNoInvoke other = ⊤
 
--- what a command gets behind a drain: it is obeyed; or memory runs out for it
+-- what a command gets after a drain: it is obeyed; or memory runs out for it
 pub data GetsReplies (settings : Settings) (files : Files) (m : ScriptState) (number : ℕ) (command : Command)
     : List Reply → ScriptState → Type 0 where
   is_obeyed : {replies : List Reply} {m2 : ScriptState} → IsObeyed true settings files m number command replies m2
       → GetsReplies settings files m number command replies m2
   is_wanting : GetsReplies settings files m number command (error 5 number ∷ []) m
 
--- behind the text stand these replies; and a report behind them where it was asked for and no memory ran out
+-- after the text stand these replies; and a report after them where it was asked for and no memory ran out
 pub data AddsReplies (settings : Settings) (number : ℕ) (command : Command) (m : ScriptState) (replies : List Reply)
     (text text2 : List ℕ) : Type 0 where
   adds_replies : AddsLines replies text text2 → (command ≡ report → replies ≡ error 5 number ∷ [])
@@ -59,7 +59,7 @@ pub data AddsReplies (settings : Settings) (number : ℕ) (command : Command) (m
   adds_report : {shown : List ℕ} → command ≡ report → replies ≡ [] → IsReportOf settings m shown → text2 ≡ text ++ shown
       → AddsReplies settings number command m replies text text2
 
--- the command of the line of this number, behind a drain
+-- the command of the line of this number, after a drain
 abbrev pub Obeys : {D : Type 0} → Files → ℕ → Command → ScriptHostState D → List ℕ → ScriptHostState D → List ℕ → Type 0
 Obeys files number command e text e2 text2 =
     (settings : Settings) (m : ScriptState) → RepresentsScript settings e m
@@ -68,19 +68,17 @@ Obeys files number command e text e2 text2 =
 
 -- ---- what the host does for them
 
--- all pages of the host were offered, each under this hash, and as many offers were counted
+-- All pages of the host were offered, each under this hash, and as many offers were counted: by a scanner, or, where threads were lacking,
+-- by the host's owner.
 abbrev pub HasOffered : {D : Type 0} → (hashes : List ℕ → ℕ) → ScriptHostState D → ScriptHostState D → Type 0
 HasOffered hashes e e2 =
-    (offered : Option ℕ) × IsScanned hashes e.host.host offered e2.host.host
-    × (e2.host.books ≡ record e.host.books {
-      offers = e.host.books.offers + countable e.host.books.offers (offers_of offered);
-    })
+    (offered : Option ℕ) × IsScanned hashes e.host.host offered e2.host.host × CountsPass e2.lacked_threads e.host offered e2.host
 
--- the report of the host stands behind the text: its heads, and a row for each of its instances, by number
+-- the report of the host stands after the text: its heads, and a row for each of its instances, by number
 abbrev pub AddsReport : {D : Type 0} → ScriptHostState D → List ℕ → List ℕ → Type 0
 AddsReport e text text2 = (shown : ReportState) × ReportsHost e.host.host shown × (text2 ≡ text ++ report_text shown)
 
--- the same behind a drain: of the host that it left, and behind its lines
+-- the same after a drain: of the host that it left, and after its lines
 abbrev pub HasOfferedThen : {D : Type 0} → (hashes : List ℕ → ℕ) → ScriptHostState D → Type 0
 HasOfferedThen {D} hashes e2 = (e : ScriptHostState D) × HasOffered hashes e e2
 
@@ -102,7 +100,8 @@ abbrev pub Answers : {D : Type 0} → Files → ℕ → List ℕ → ScriptHostS
     → Type 0
 Answers files number line e text e2 text2 faults =
     (settings : Settings) (m : ScriptState) → ServesScript settings e m
-    → (replies : List Reply) × (m2 : ScriptState) × (more : List ℕ) × AnswersLineAmid true settings files faults m number line replies m2
+    → (replies : List Reply) × (m2 : ScriptState) × (more : List ℕ)
+    × AnswersLine DrainsAmidFaults true settings files m number line replies m2 × (m2.faults_met ≡ faults ++ m.faults_met)
     × IsLineText settings number line m2 replies more × (text2 ≡ text ++ more) × ServesScript settings e2 m2
 
 -- a line of this number that asks for the command

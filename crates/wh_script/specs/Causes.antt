@@ -25,5 +25,4 @@ line_error parse.Memory = Memory
 -- calls that don't run to their ends
 abbrev pub script_fault : RunFault → ScriptFault
 script_fault run.Memory = script.Memory
-script_fault run.Threads = script.Threads
 script_fault run.Transcript = script.Transcript

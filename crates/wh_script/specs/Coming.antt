@@ -18,7 +18,7 @@ unread l = drop l.next (take l.end l.chunk.items)
 abbrev pub coming : Lines → Option (List ℕ) → Option (List ℕ)
 coming l known = prepend_known (unread l) known
 
--- the unread bytes lie in the chunk, and the chunk has room
+-- the unread bytes are in the chunk, and the chunk has room
 pub record IsInChunk (l : Lines) : Type 0 where
   pub next : l.next ≤ l.end
   pub end : l.end ≤ vec_len l.chunk

@@ -6,7 +6,7 @@ use Rattle.wh_script.specs.declared.fault.ScriptFault.{ScriptFault}
 use Rattle.wh_script.specs.declared.fault.ScriptFault.TheVariants.{Memory}
 use Rattle.wh_script.specs.declared.session.SessionConfig.{SessionConfig}
 
--- as these settings say, and by so many workers
+-- as these settings say, and by this number of workers
 pub record IsRunBy (settings : Settings) (workers : ℕ) (config : SessionConfig) : Type 0 where
   pub quantum : config.quantum ≡ settings.quantum
   pub hash : hashing_of config.hash ≡ settings.hash

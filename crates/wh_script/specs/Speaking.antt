@@ -22,8 +22,8 @@ pub record AsksScan (line : List ℕ) : Type 0 where
 abbrev pub EndsOutOfMemory : (number : ℕ) → List Reply → Type 0
 EndsOutOfMemory number replies = (before : List Reply) × (replies ≡ before ++ error 5 number ∷ [])
 
--- The text of a line is that of its replies, in order; and behind them stands a report of what the lines have made, where
--- this one asks for it and no memory ran out.
+-- The text of a line is that of its replies, in order; and after them stands a report of what the lines have made, where this one
+-- asks for it and no memory ran out.
 pub data IsLineText (settings : Settings) (number : ℕ) (line : List ℕ) (m : ScriptState) (replies : List Reply)
     : List ℕ → Type 0 where
   prints_replies : (AsksReport line → EndsOutOfMemory number replies)

@@ -4,7 +4,7 @@ ghost use Rattle.std.specs.Prelude.{◌≡◌, ◌⊎◌, ℕ, List, [], OnOk, I
 ghost use Rattle.wh_script_model.specs.Answers.{Files};
 ghost use Rattle.wh_script_model.specs.Commands as asked_of;
 ghost use Rattle.wh_commands.specs.ParsedCommands.{Says};
-ghost use Rattle.wh_engine.specs.Draining.{DeviceHoldsAmid, DeviceMayFail, DeviceStaysTrue, StopsOnlyOpen, StopsOpenOr};
+ghost use Rattle.wh_engine.specs.Draining.{DeviceHoldsAmid, DeviceMayFail, DeviceStaysTrue, StopsOnlyOpen};
 ghost use Rattle.wh_settings.specs.Hashing.{hashes_by};
 ghost use Rattle.wh_settings.specs.View.{hashing_of};
 ghost use Rattle.wh_script.specs.Answering.{AddsReportThen, Answers, AnswersCommand, HasOfferedThen, SaysMemoryRanOut};
@@ -34,8 +34,7 @@ impl<
     /// Replaces the text by the replies to a line.
     ///
     /// # Errors
-    /// `Memory` where room for it is refused; `Threads` and `Transcript` where calls don't run to their ends, and `Threads` also
-    /// where a scanner can't be started.
+    /// `Memory` where room for it is refused, and `Transcript` where calls don't run to their ends.
     pub fn answer<S: Source, X: Threads + Wait + Copy + Send + Sync + 'static>(
         &mut self,
         rt: X,
@@ -62,8 +61,7 @@ impl<
         ensures shows { OnOk result ((line : List ℕ) → IsKind kind held.now line → AsksReport line
             → SaysMemoryRanOut number (string_bytes self.new.text) ⊎ AddsReportThen
             self.new.script_host (string_bytes self.new.text)) }
-        ensures open { IfErr result (λ fault. (line : List ℕ) → IsKind kind held.now line
-            → StopsOpenOr (AsksScan line) self.old.script_host fault) }
+        ensures open { IfErr result (StopsOnlyOpen self.old.script_host) }
     {
         self.text.clear();
         match kind {
@@ -97,13 +95,12 @@ impl<
             (λ met. (asked : asked_of.Command) → Says command.entry asked → AnswersCommand
             (S.files source.now) number asked self.old.script_host (string_bytes self.old.text)
             self.new.script_host (string_bytes self.new.text) met)) }
-        // Behind the drain, as `obey` has it.
+        // After the drain, as `obey` has it.
         ensures scans { OnOk result (command.entry ≡ Command.Scan → HasOfferedThen
             (hashes_by (hashing_of self.old.config.hash)) self.new.script_host) }
         ensures shows { OnOk result (command.entry ≡ Command.Report → AddsReportThen
             self.new.script_host (string_bytes self.new.text)) }
-        ensures open { IfErr result (StopsOpenOr (command.entry ≡ Command.Scan)
-            self.old.script_host) }
+        ensures open { IfErr result (StopsOnlyOpen self.old.script_host) }
     {
         match command {
             Command::Invoke {

@@ -15,13 +15,10 @@ pub enum ScriptFault {
     /// A reply can't be written.
     #[error("output")]
     Output,
-    /// There is no memory for the host, for threads, for a reply or for a report; or lines can't be counted, there being 2^64 of
+    /// There is no memory for the host, for a drain, for a reply or for a report; or lines can't be counted, there being 2^64 of
     /// them.
     #[error("memory")]
     Memory,
-    /// A thread can't be started.
-    #[error("threads")]
-    Threads,
     /// A call can go on that should have run.
     #[error("transcript")]
     Transcript,
@@ -34,7 +31,6 @@ impl From<RunFault> for ScriptFault {
     fn from(stopped: RunFault) -> ScriptFault {
         match stopped {
             RunFault::Memory => ScriptFault::Memory,
-            RunFault::Threads => ScriptFault::Threads,
             RunFault::Transcript => ScriptFault::Transcript,
         }
     }

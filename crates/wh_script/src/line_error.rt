@@ -27,7 +27,7 @@ pub enum LineError {
 }
 
 impl LineError {
-    /// Returns the number by which replies name the cause, behind a C: 1 to 5.
+    /// Returns the number by which replies name the cause, after a C: 1 to 5.
     pub fn number(self) -> u8
         ensures { result ≡ cause_number self }
     {

@@ -6,7 +6,7 @@ ghost use Rattle.wh_script_model.specs.Commands as asked_of;
 ghost use Rattle.wh_script_model.specs.Texts.{release_ok, reply_text};
 ghost use Rattle.wh_commands.specs.ParsedCommands.{Says};
 ghost use Rattle.wh_params.specs.View.{view_params};
-ghost use Rattle.wh_engine.specs.Draining.{StaysSo, StopsServing};
+ghost use Rattle.wh_engine.specs.Draining.{StaysSo};
 ghost use Rattle.wh_names.specs.NamePlaces.{place_of_name};
 ghost use Rattle.wh_settings.specs.Hashing.{hashes_by};
 ghost use Rattle.wh_settings.specs.View.{hashing_of};
@@ -36,8 +36,7 @@ impl<
     /// Appends the reply to a command. A call is requested without: its line is printed at the next drain.
     ///
     /// # Errors
-    /// `Memory` where room for the reply is refused, and for a scan also where room for its thread is, or `Threads` where that
-    /// can't be started.
+    /// `Memory` where room for the reply is refused.
     pub fn obey<S: Source, X: Threads + Wait + Copy + Send + 'static>(
         &mut self,
         rt: &X,
@@ -56,9 +55,7 @@ impl<
             self.new.script_host (string_bytes self.old.text) (string_bytes self.new.text)) }
         ensures config { self.new.config ≡ self.old.config }
         ensures device { self.new.script_host.host.device ≡ self.old.script_host.host.device }
-        ensures err { IfErr result StopsServing }
-        ensures threads { IfErr result (λ e. e ≡ RunFault.Threads
-            → command.entry ≡ Command.Scan) }
+        ensures err { IfErr result (λ e. e ≡ RunFault.Memory) }
     {
         match command {
             Command::Module { name, bytes } => self.module(name, &bytes, number),
@@ -244,26 +241,22 @@ impl<
             self.old.script_host self.new.script_host) }
         ensures config { self.new.config ≡ self.old.config }
         ensures device { self.new.script_host.host.device ≡ self.old.script_host.host.device }
-        ensures err { IfErr result StopsServing }
+        ensures err { IfErr result (λ e. e ≡ RunFault.Memory) }
     {
-        self.offer_pages(rt)?;
+        self.offer_pages(rt);
         self.reply(Reply::ScanOk)
     }
 
     // Offers all pages for sharing, each under its hash, which is that of the settings.
-    fn offer_pages<X: Threads + Wait + Copy + Send + 'static>(
-        &mut self,
-        rt: &X,
-    ) -> Result<(), RunFault>
+    fn offer_pages<X: Threads + Wait + Copy + Send + 'static>(&mut self, rt: &X)
         ensures stands { StaysSo self.old.script_host self.new.script_host }
-        ensures scans { OnOk result (HasOffered (hashes_by (hashing_of self.old.config.hash))
-            self.old.script_host self.new.script_host) }
+        ensures scans { HasOffered (hashes_by (hashing_of self.old.config.hash))
+            self.old.script_host self.new.script_host }
         ensures config { self.new.config ≡ self.old.config }
         ensures device { self.new.script_host.host.device ≡ self.old.script_host.host.device }
         ensures text { self.new.text ≡ self.old.text }
-        ensures err { IfErr result StopsServing }
     {
-        self.script_host.scan(rt, self.alloc, self.config.hash)
+        self.script_host.scan(rt, self.alloc, self.config.hash);
     }
 
     /// `report`.

@@ -35,11 +35,10 @@ use wh_swap::SwapDev;
 ///
 /// # Errors
 /// `Script` where the reader fails, after the replies to the lines that it gave; `Output` where the writer fails, after a
-/// beginning of the replies; `Memory` where there is none for the host, for threads, for a reply or for a report, or where
-/// lines can't be counted, `Threads` where a thread can't be started, and `Transcript` where calls don't run to their ends,
-/// after the replies to the first lines; these two only where a call is open, and `Threads` also where the next line asks for a
-/// scan. Out of memory for a command is answered in its
-/// reply.
+/// beginning of the replies; `Memory` where there is none for the host, for a drain, for a reply or for a report, or where
+/// lines can't be counted, and `Transcript` where calls don't run to their ends, which is only where a call is open: after the
+/// replies to the first lines. Out of memory for a command is answered in its reply. Where a thread is refused, the calling
+/// thread does its work.
 pub fn run_script<
     R: Read,
     W: Write,
@@ -63,7 +62,8 @@ pub fn run_script<
         (D.faults after)) → Runs (settings_of settings.now) (S.files source.now)
         (R.remaining reader.old.inner) (R.remaining reader.new.inner) (W.contents writer.old.inner)
         (W.contents writer.new.inner) result.0 }
-    // Where calls of it did fail, so it is still, but that a call may stand for such a fault until it is tried again.
+    // Where calls of it did fail, so it is still, except that a call may be blocked on such a fault until it is
+    // retried.
     ensures amid { MatchOption result.1 (ScriptRunsAmid (settings_of settings.now)
         (S.files source.now) [] (R.remaining reader.old.inner) (R.remaining reader.new.inner)
         (W.contents writer.old.inner) (W.contents writer.new.inner) result.0) (λ after. HoldsAmid
@@ -75,7 +75,7 @@ pub fn run_script<
         (D.keeps after) (D.honest after)) }
     // It ends for the reader or the writer only where a call of that has failed.
     ensures blames { BlamesFailed reader.new.has_failed writer.new.has_failed result.0 }
-    // Calls were run as the settings say, by so many workers.
+    // Calls were run as the settings say, by this number of workers.
     ensures config { RunsBy (settings_of settings.now) workers.number result.0 result.1
         result.2 }
 {
@@ -132,7 +132,7 @@ fn run_on_cell_parts<
     match Session::<D, T, C, O, E, B>::new(alloc, settings, workers, cell_parts) {
         Ok(mut session) => {
             let outcome = session.run_lines(rt, source, reader, writer);
-            let config = session.config;
+            let config = session.ended_config();
             (outcome, Some(session.into_device()), Some(config))
         }
         Err(_) => (Err(ScriptFault::Memory), None, None),

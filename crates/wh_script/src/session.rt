@@ -38,6 +38,17 @@ pub struct SessionConfig {
     pub(crate) hash: HashKind,
     // How many threads run calls.
     pub(crate) workers: Workers,
+    // Whether a thread was refused, so that the calling thread has done what others should have: known where the script has ended.
+    pub(crate) lacked_threads: bool,
+}
+
+impl SessionConfig {
+    /// Tells of a script that has ended whether a thread was refused: then the calling thread has done what others should have.
+    pub fn lacked_threads(&self) -> bool
+        ensures { result ≡ self.now.lacked_threads }
+    {
+        self.lacked_threads
+    }
 }
 
 /// What a script has made so far, with the host on which it runs, and the text of the replies to the present line.
@@ -106,6 +117,7 @@ impl<D: SwapDev + Drop, T: Ledger, C: Ledger, O: Ledger, E: Ledger, B: CellAgree
                 quantum: settings.quantum as u32,
                 hash: settings.hash,
                 workers,
+                lacked_threads: false,
             },
         })
     }
@@ -132,6 +144,20 @@ impl<D: SwapDev, T: Ledger, C: Ledger, O: Ledger, E: Ledger, B: CellAgreements> 
     E,
     B,
 > {
+    /// Returns how the calls of a script that has ended were run, and whether a thread was refused.
+    pub fn ended_config(&self) -> SessionConfig
+        ensures { result ≡ record self.now.config {
+          lacked_threads = self.now.script_host.lacked_threads;
+        } }
+    {
+        SessionConfig {
+            quantum: self.config.quantum,
+            hash: self.config.hash,
+            workers: self.config.workers,
+            lacked_threads: self.script_host.lacked_threads(),
+        }
+    }
+
     // How calls are run: in turns of the session's quantum, by its workers, with its hash.
     fn run_config(&self) -> RunConfig<HashKind>
         ensures quantum { result.quantum ≡ self.now.config.quantum }
@@ -188,12 +214,11 @@ impl<
     E: Ledger + Send + 'static,
     B: CellAgreements + Send + 'static,
 > Session<D, T, C, O, E, B> {
-    /// Runs all calls by threads until none can go on, in turns of the quantum, and appends the lines of that. Begins an epoch
-    /// where some call can go on.
+    /// Runs all calls until none can make progress, in turns of the quantum, and appends the lines of that. Begins an
+    /// epoch if some call can make progress.
     ///
     /// # Errors
-    /// `Memory` where room is refused, `Threads` where a thread can't be started, and `Transcript` where calls can still go
-    /// on then.
+    /// `Memory` if an allocation fails, and `Transcript` if calls can still make progress then.
     pub fn drain<X: Threads + Wait + Copy + Send + Sync + 'static>(
         &mut self,
         rt: X,
@@ -208,7 +233,7 @@ impl<
             (HasDrained self.old.script_host (string_bytes self.old.text) self.new.script_host
             (string_bytes self.new.text))) }
         ensures turns { OnOk result (RunsTurns self.old.config.quantum
-            self.old.script_host.host.books self.old.script_host.host.own
+            self.new.script_host.lacked_threads self.old.script_host.host.books self.old.script_host.host.own
             self.new.script_host.host.books self.new.script_host.host.own) }
         ensures open { IfErr result (StopsOnlyOpen self.old.script_host) }
     {
@@ -233,10 +258,10 @@ impl<
         ensures begins { (self.new.script_host ≡ self.old.script_host)
             ⊎ WasOpen self.old.script_host }
         ensures turns { OnOk result (RunsTurns self.old.config.quantum
-            self.old.script_host.host.books self.old.script_host.host.own
+            self.new.script_host.lacked_threads self.old.script_host.host.books self.old.script_host.host.own
             self.new.script_host.host.books self.new.script_host.host.own) }
         ensures text { self.new.text ≡ self.old.text }
-        ensures open { IfErr result (StopsOnlyOpen self.old.script_host) }
+        ensures err { IfErr result (λ e. e ≡ RunFault.Memory) }
     {
         let run_config = self.run_config();
         self.script_host.run(rt, self.alloc, run_config)

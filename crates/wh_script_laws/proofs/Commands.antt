@@ -1,14 +1,11 @@
 -- Commands, and what a script knows of its host behind them.
 use Rattle.std.proofs.Common.{◌≡◌, ℕ, true, List, [], ◌∷◌, ◌++◌, length, Option, Some, None, refl, sym, subst, arith}
 use Rattle.std.specs.List.{AllZip}
-use Rattle.wh_host_model.specs.Host.Worlds.{Loaded, World}
-use Rattle.wh_host_model.specs.Host.Admission.{LoadFault, broken, invalid, unlinked, modules_full, LoadOutOfMemory, decoder_out_of_memory, validator_out_of_memory, linker_out_of_memory, host_out_of_memory, RefusesLoad, MayRunOut, LoadsModule, module_count}
-use Rattle.wh_host_model.specs.Host.Happens.{is_loaded, isnt_loaded, no_memory_to_load}
+use Rattle.wh_host_model.specs.Host.{Loaded, World, LoadFault, broken, invalid, unlinked, modules_full, LoadOutOfMemory, decoder_out_of_memory, validator_out_of_memory, linker_out_of_memory, host_out_of_memory, RefusesLoad, MayRunOut, LoadsModule, module_count, is_loaded, isnt_loaded, no_memory_to_load}
 use Rattle.wh_script_model.specs.Settings.{Settings}
-use Rattle.wh_script_model.specs.Texts.{Refusal, module_ok, module_refused}
-use Rattle.wh_script_model.specs.ScriptState.{NamedModule, ScriptState}
+use Rattle.wh_script_model.specs.{Refusal, module_ok, module_refused, NamedModule, ReceivesModule}
+use Rattle.wh_script_model.specs.ScriptState.{ScriptState}
 use Rattle.wh_script_model.specs.Receiving as receiving
-use Rattle.wh_script_model.specs.Receiving.{ReceivesModule}
 use Rattle.wh_script_laws.specs.Following.{AreSame, IsFollowed, IsModuleKept, Knows, StandsSame}
 use Rattle.wh_script_laws.specs.Replies.{SaysWhy, SaysOutOfMemory}
 use Rattle.wh_script_laws.specs.Laws.{ModulesFollow}
@@ -47,10 +44,10 @@ as_many : {settings : Settings} {w : World} {m : ScriptState} {places : List ℕ
     → length m.modules ≡ module_count w.modules
 as_many {w = w} {m = m} known = all_there m.modules w.modules known.modules
 
-turned_down : {settings : Settings} {w : World} {m : ScriptState} {places : List ℕ} (name bytes : List ℕ) (fault : LoadFault)
+not_kept : {settings : Settings} {w : World} {m : ScriptState} {places : List ℕ} (name bytes : List ℕ) (fault : LoadFault)
     (why : Refusal) → Knows settings w m places → RefusesLoad w bytes fault → SaysWhy fault why
     → ReceivesModule true m name bytes (module_refused name why) m
-turned_down {w = w} {m = m} name bytes fault why known refuses says = receiving.module_isnt_kept (go fault refuses says) where
+not_kept {w = w} {m = m} name bytes fault why known refuses says = receiving.module_isnt_kept (go fault refuses says) where
   go : (f : LoadFault) → RefusesLoad w bytes f → SaysWhy f why → receiving.RejectsModule m bytes why
   go (broken kind offset) r e = subst (λ x. receiving.RejectsModule m bytes x) (sym e) (receiving.is_broken kind r)
   go invalid r e =
@@ -59,8 +56,7 @@ turned_down {w = w} {m = m} name bytes fault why known refuses says = receiving.
       subst (λ x. receiving.RejectsModule m bytes x) (sym e) (receiving.is_unlinked f r.1 r.2 r.3 r.4)
   go modules_full r e =
       let many = as_many known in
-      let full = r.2 in
-      subst (λ x. receiving.RejectsModule m bytes x) (sym e) (receiving.is_full r.1 (omega (arith, many, full)))
+      subst (λ x. receiving.RejectsModule m bytes x) (sym e) (receiving.is_full r.1 (omega (arith, many, r.2)))
 
 wanted : {settings : Settings} {w : World} {m : ScriptState} {places : List ℕ} (name bytes : List ℕ) (want : LoadOutOfMemory)
     (why : Refusal) → Knows settings w m places → MayRunOut w bytes want → SaysOutOfMemory want why
@@ -72,8 +68,7 @@ wanted {w = w} {m = m} name bytes want why known may says = receiving.module_out
   go linker_out_of_memory r e = subst (λ x. receiving.OutOfMemoryForModule m bytes x) (sym e) (receiving.linker_out_of_memory r.1 r.2 r.3)
   go host_out_of_memory r e =
       let many = as_many known in
-      let few = r.2 in
-      subst (λ x. receiving.OutOfMemoryForModule m bytes x) (sym e) (receiving.host_out_of_memory r.1 (omega (arith, many, few)))
+      subst (λ x. receiving.OutOfMemoryForModule m bytes x) (sym e) (receiving.host_out_of_memory r.1 (omega (arith, many, r.2)))
 
 module_follows : {settings : Settings} {w : World} {m : ScriptState} {places : List ℕ} (name bytes : List ℕ) (number : ℕ)
     (w2 : World) → Knows settings w m places → LoadsModule w bytes number w2
@@ -94,6 +89,6 @@ modules_follow frames slots tax events w happens settings m places name bytes an
     let f = module_follows name bytes _ w2 known x in
     (f.0, subst (λ y. ReceivesModule true m name bytes y f.0) (sym says) f.1, f.2)
 modules_follow frames slots tax events w happens settings m places name bytes answer w2 reply known (isnt_loaded {fault = fault} refuses) says =
-    (m, subst (λ y. ReceivesModule true m name bytes y m) (sym says.2) (turned_down name bytes fault says.0 known refuses says.1), known)
+    (m, subst (λ y. ReceivesModule true m name bytes y m) (sym says.2) (not_kept name bytes fault says.0 known refuses says.1), known)
 modules_follow frames slots tax events w happens settings m places name bytes answer w2 reply known (no_memory_to_load {want = want} may) says =
     (m, subst (λ y. ReceivesModule true m name bytes y m) (sym says.2) (wanted name bytes want says.0 known may says.1), known)

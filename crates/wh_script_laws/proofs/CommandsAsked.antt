@@ -1,20 +1,14 @@
 -- What is asked of the present call of an instance.
 use Rattle.std.proofs.Common.{◌≡◌, ℕ, inl, inr, true, List, [], ◌∷◌, ◌++◌, slice_get, Option, Some, None, refl, sym, ap, subst, ◌∙◌}
 use Rattle.std.proofs.lemmas.Option.{none-some}
-use Rattle.wh_model.specs.Execution.Replay.{Call}
-use Rattle.wh_host_model.specs.Host.Worlds.{Suspension, for_fuel, for_frame, for_device, Tenant, World, journal, journal_calls, tenant, with_tenant}
-use Rattle.wh_host_model.specs.Host.OwnerCalls.{more_fuel, WaitsAfter, Refuels, has_more, Retries, may_try}
+use Rattle.wh_model.specs.Execution.{Call}
+use Rattle.wh_host_model.specs.Host.{Suspension, for_fuel, for_frame, for_device, Tenant, World, journal, journal_calls, tenant, with_tenant, more_fuel, WaitsAfter, Refuels, has_more, Retries, may_try, IsRefuel, IsRetry, InOrder, HasJournal}
 use Rattle.wh_host_model.specs.Host.Happens as happen
-use Rattle.wh_host_model.specs.Host.Happens.{IsLive, IsRefuel, IsRetry}
-use Rattle.wh_host_model.specs.Host.Journals.{InOrder}
-use Rattle.wh_host_model.specs.Host.Laws.{HasJournal}
 use Rattle.wh_script_model.specs.Settings.{Settings}
-use Rattle.wh_script_model.specs.Commands.{refuel, retry}
-use Rattle.wh_script_model.specs.ScriptState.{NamedInstance, ScriptState, HasInstance, with_instance, with_first_open}
-use Rattle.wh_host_model.specs.Owners.{first_open, Entry}
+use Rattle.wh_script_model.specs.{refuel, retry, NamedInstance, HasInstance, with_instance, with_first_open, Files, with_fuel, IsObeyed, IsTenantOf}
+use Rattle.wh_script_model.specs.ScriptState.{ScriptState}
+use Rattle.wh_host_model.specs.{first_open, Entry}
 use Rattle.wh_script_model.specs.Answers as answers
-use Rattle.wh_script_model.specs.Answers.{Files, with_fuel, IsObeyed}
-use Rattle.wh_script_model.specs.Served.{IsTenantOf}
 use Rattle.wh_host_model.proofs.Host.Holding.{journals_are_in_order}
 use Rattle.wh_script_laws.specs.Following.{Knows, StaysWhole, StandsSame, device_fault}
 use Rattle.wh_script_laws.specs.Replies.{refuel_reply, retry_reply}
@@ -26,7 +20,7 @@ use Rattle.wh_script_model.proofs.Standing.{at_no_fault}
 
 -- ---- another try
 
--- where it can't be tried again it stands for no fault
+-- where it can't be tried again it is blocked on no fault
 no_fault : (os : List Entry) (o : Option Suspension) (t : Tenant) → t.open_calls ≡ os → t.waiting_for ≡ o → (t.open_calls ≡ [] → t.waiting_for ≡ None)
     → ((t2 : Tenant) → ¬ (Retries t t2)) → device_fault o ≡ None
 no_fault [] o t none is rests never = ap device_fault (sym is ∙ rests none)

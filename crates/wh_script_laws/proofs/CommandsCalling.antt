@@ -1,20 +1,15 @@
 -- A call that is asked of an instance.
 use Rattle.std.proofs.Common.{inr, ◌≡◌, ℕ, ℤ, true, List, [], ◌∷◌, ◌++◌, length, slice_get, Some, None, refl, sym, ap, subst, ◌∙◌, arith}
 use Rattle.std.proofs.lemmas.Option.{same_Some}
-use Rattle.wh_model.specs.Format.Syntax.{FuncType, Body, Module}
-use Rattle.wh_host_model.specs.Space.Parts.{Space}
-use Rattle.wh_host_model.specs.Host.Worlds.{Tenant, Loaded, World, journal, journal_calls, tenant, with_tenant, loaded_of}
-use Rattle.wh_host_model.specs.Owners.{Entry, new_entry}
-use Rattle.wh_host_model.specs.Host.OwnerCalls.{Meets, IsFirst, TakesCall, open_count}
-use Rattle.wh_host_model.specs.Owners.{ExportsOwn, InvokeFault, no_export, arguments, queue_full, instance_dead, journal_full, rank}
+use Rattle.wh_model.specs.Format.{FuncType, Body, Module}
+use Rattle.wh_space_model.specs.{Space}
+use Rattle.wh_host_model.specs.Host.{Tenant, Loaded, World, journal, journal_calls, tenant, with_tenant, loaded_of, Meets, IsFirst, TakesCall, open_count, InvokeAnswer, IsInvoke, HasJournal}
+use Rattle.wh_host_model.specs.{Entry, new_entry, ExportsOwn, InvokeFault, no_export, arguments, queue_full, instance_dead, journal_full, rank}
 use Rattle.wh_host_model.specs.Host.Happens as happen
-use Rattle.wh_host_model.specs.Host.Happens.{IsLive, InvokeAnswer, IsInvoke}
-use Rattle.wh_host_model.specs.Host.Laws.{HasJournal}
 use Rattle.wh_script_model.specs.Settings.{Settings}
-use Rattle.wh_script_model.specs.ScriptState.{NamedInstance, ScriptState, InvokeOutcome, call_rejected, call_accepted, with_instance, with_invoked, open_behind, start_failed}
+use Rattle.wh_script_model.specs.ScriptState.{ScriptState}
+use Rattle.wh_script_model.specs.{NamedInstance, InvokeOutcome, call_rejected, call_accepted, with_instance, with_invoked, open_behind, start_failed, MeetsBar, IsFirstBar, ReceivesCall, IsTenantOf}
 use Rattle.wh_script_model.specs.Receiving as receiving
-use Rattle.wh_script_model.specs.Receiving.{MeetsBar, MeetsNoBar, IsFirstBar, ReceivesCall}
-use Rattle.wh_script_model.specs.Served.{IsTenantOf}
 use Rattle.wh_host_model.proofs.Host.Holding.{journals_are_in_order}
 use Rattle.wh_script_laws.specs.Following.{Knows, StaysWhole, StandsSame}
 use Rattle.wh_script_laws.specs.Replies.{invoke_outcome}
@@ -140,7 +135,6 @@ called_so : {settings : Settings} {w : World} {m : ScriptState} {places : List �
     → Receives settings m places i g name given fuel (happen.invoke_ok at) (with_tenant w i (Some t2) w.space)
 called_so {settings} {w} {m} {places} i place g t t2 l name given fuel at known has lies of_one here same stands both takes whole =
     let g2 : NamedInstance = record g { calls = g.calls ++ (new_entry takes.func takes.vs given fuel).call ∷ [] } in
-    let w2 : World = with_tenant w i (Some t2) w.space in
     let now = changed i place g g2 t2 w.space known has lies whole refl refl
     (called t t2 g name given fuel at place takes of_one here same stands) in
     let behind : length g.calls ≡ at = both.long ∙ sym takes.place in (

@@ -1,28 +1,19 @@
 -- What ends a call or an instance: it is cancelled, or released.
 use Rattle.std.proofs.Common.{◌≡◌, ℕ, ◌+◌, ◌-◌, true, false, List, [], ◌∷◌, ◌++◌, slice_get, Option, Some, None, refl, sym, ap, subst, ◌∙◌, arith}
 use Rattle.std.proofs.lemmas.Option.{same_Some}
-use Rattle.wh_model.specs.Format.Syntax.{Module}
-use Rattle.wh_model.specs.Execution.Replay.{cancelled, store_at, Replay}
-use Rattle.wh_host_model.specs.declared.Tax.{Tax}
-use Rattle.wh_host_model.specs.Space.Parts.{Space, minima, spreads}
-use Rattle.wh_host_model.specs.Space.Sound.{IsSound}
-use Rattle.wh_host_model.specs.Host.Worlds.{Rest, Doing, resting, has_left, computing, Tenant, World, promised, journal, journal_calls, tenant, with_tenant, standing_with, standing_in}
-use Rattle.wh_host_model.specs.Owners.{Entry, first_open}
-use Rattle.wh_host_model.specs.Owners.{Params, given_of}
-use Rattle.wh_host_model.specs.Host.CallAnswers.{ended_by, Closes, faces_next, is_dead}
-use Rattle.wh_host_model.specs.Host.OwnerCalls.{Cancels, ends}
-use Rattle.wh_host_model.specs.Host.Admission.{LetsGo}
+use Rattle.wh_model.specs.Format.{Module}
+use Rattle.wh_model.specs.Execution.Replay.{Replay}
+use Rattle.wh_model.specs.Execution.{cancelled, store_at}
+use Rattle.wh_space_model.specs.declared.Tax.{Tax}
+use Rattle.wh_space_model.specs.{Space, minima, spreads, IsSound}
+use Rattle.wh_host_model.specs.Host.{Rest, Doing, resting, has_left, computing, Tenant, World, promised, journal, journal_calls, tenant, with_tenant, standing_with, standing_in, ended_by, Closes, faces_next, is_dead, Cancels, LetsGo, IsCancel, IsRelease, InOrder, HasJournal, IsReplayed, PlacesAreTenants}
+use Rattle.wh_host_model.specs.{Entry, first_open, Params, given_of}
+use Rattle.wh_host_model.specs.Host.OwnerCalls.{ends}
 use Rattle.wh_host_model.specs.Host.Happens as happen
-use Rattle.wh_host_model.specs.Host.Happens.{IsLive, IsCancel, IsRelease}
-use Rattle.wh_host_model.specs.Host.Journals.{InOrder}
-use Rattle.wh_host_model.specs.Host.Laws.{HasJournal, IsReplayed, PlacesAreTenants}
 use Rattle.wh_script_model.specs.Settings.{Settings}
-use Rattle.wh_script_model.specs.Commands.{cancel, release}
-use Rattle.wh_script_model.specs.Texts.{release_ok}
-use Rattle.wh_script_model.specs.ScriptState.{MayUseFuel, NamedInstance, ScriptState, HasInstance, with_instance, cancel_first}
+use Rattle.wh_script_model.specs.{cancel, release, release_ok, MayUseFuel, NamedInstance, HasInstance, with_instance, cancel_first, Files, IsObeyed, IsTenantOf}
+use Rattle.wh_script_model.specs.ScriptState.{ScriptState}
 use Rattle.wh_script_model.specs.Answers as answers
-use Rattle.wh_script_model.specs.Answers.{Files, IsObeyed}
-use Rattle.wh_script_model.specs.Served.{IsTenantOf}
 use Rattle.wh_host_model.proofs.Host.Holding.{memory_is_sound, places_are_right, instances_replay, journals_are_in_order}
 use Rattle.wh_script_laws.specs.Following.{AreSame, IsFollowed, is_gone, IsPlaced, Knows, StaysWhole, StandsSame}
 use Rattle.wh_script_laws.specs.Replies.{cancel_reply, release_reply}

@@ -2,25 +2,22 @@
 use Rattle.std.proofs.Common.{◌≡◌, ℕ, ◌+◌, ◌-◌, true, false, List, [], ◌∷◌, ◌++◌, length, slice_get, Option, Some, None, refl, sym, ap, subst, ◌∙◌, arith}
 use Rattle.std.proofs.lemmas.Option.{same_Some}
 use Rattle.std.specs.List.{AllZip}
-use Rattle.wh_model.specs.Format.Syntax.{Module}
+use Rattle.wh_model.specs.Format.{Module}
 use Rattle.wh_model.specs.Execution.Store.{Instance, Store}
-use Rattle.wh_model.specs.Execution.Instance.{Piece, IsInitial, memory_min, segment_bounds, begins}
-use Rattle.wh_model.specs.Execution.Replay.{pending}
-use Rattle.wh_host_model.specs.declared.Tax.{Tax}
-use Rattle.wh_host_model.specs.Space.Sound.{IsSound}
-use Rattle.wh_host_model.specs.Host.Worlds.{Doing, Tenant, Loaded, World, promised, journal_calls, loaded_of}
-use Rattle.wh_host_model.specs.Owners.{Entry, start_entry}
-use Rattle.wh_host_model.specs.Owners.{Params, given_of, AdmitFault, no_module, shares, min_max, frames, swap, instances, memory, segments}
-use Rattle.wh_host_model.specs.Host.Admission.{live_count, MeetsFault, IsFirstMet, StartsAs, writes, runs, ends, rest_of, LetsIn}
+use Rattle.wh_model.specs.Execution.{Piece, IsInitial, memory_min, segment_bounds, begins, pending}
+use Rattle.wh_space_model.specs.declared.Tax.{Tax}
+use Rattle.wh_space_model.specs.{IsSound}
+use Rattle.wh_host_model.specs.Host.{Doing, Tenant, Loaded, World, promised, journal_calls, loaded_of, live_count, MeetsFault, IsFirstMet, StartsAs, writes, runs, rest_of, LetsIn}
+use Rattle.wh_host_model.specs.{Entry, start_entry, Params, given_of, AdmitFault, no_module, shares, min_max, frames, swap, instances, memory, segments}
+use Rattle.wh_host_model.specs.Host.Admission.{ends}
 use Rattle.wh_host_model.specs.Host.Happens as happen
-use Rattle.wh_host_model.specs.Host.Happens.{AdmitAnswer, IsAdmit}
 use Rattle.wh_script_model.specs.Settings.{Settings}
 use Rattle.wh_script_model.specs.Texts as texts
-use Rattle.wh_script_model.specs.ScriptState.{NamedModule, NamedInstance, ScriptState, live_sum}
+use Rattle.wh_script_model.specs.ScriptState.{ScriptState}
+use Rattle.wh_script_model.specs.{NamedModule, NamedInstance, live_sum, MeetsLimit, IsFirstLimit, first_outcome, new_instance, ReceivesInstance}
 use Rattle.wh_script_model.specs.Receiving as receiving
-use Rattle.wh_script_model.specs.Receiving.{MeetsLimit, IsFirstLimit, first_outcome, new_instance, ReceivesInstance}
 use Rattle.wh_host_model.proofs.Host.Holding.{memory_is_sound}
-use Rattle.wh_host_model.proofs.Space.Putting.{get_or_is}
+use Rattle.wh_space_model.proofs.Putting.{get_or_is}
 use Rattle.wh_script_laws.specs.Following.{AreSame, IsFollowed, is_there, is_gone, IsModuleKept, IsPlaced, Knows, StaysWhole, StandsSame}
 use Rattle.wh_script_laws.specs.Laws.{InstancesFollow}
 use Rattle.wh_script_laws.proofs.Fuel.{starts_may}

@@ -2,19 +2,16 @@
 use Rattle.std.proofs.Common.{◌≡◌, ℕ, ◌+◌, ◌-◌, Bool, true, false, if◌then◌else◌, List, [], ◌∷◌, ◌++◌, length, get_or, slice_get, slice_set, Option, Some, None, zero, suc, refl, sym, ap, subst, ◌∙◌, arith}
 use Rattle.std.specs.List.{AllZip}
 use Rattle.std.proofs.lemmas.Option.{none-some, same_Some}
-use Rattle.wh_model.specs.Execution.Replay.{Outcome, returned, stopped, cancelled, dead, pending, Call}
-use Rattle.wh_host_model.specs.declared.Tax.{Tax}
-use Rattle.wh_host_model.specs.Space.Parts.{Space, minima, spreads}
-use Rattle.wh_host_model.specs.Space.Sound.{IsSound}
+use Rattle.wh_model.specs.Execution.{Outcome, returned, stopped, cancelled, dead, pending, Call}
+use Rattle.wh_space_model.specs.declared.Tax.{Tax}
+use Rattle.wh_space_model.specs.{Space, minima, spreads, IsSound}
 use Rattle.wh_script_laws.proofs.SumsChange.{IsQuiet}
-use Rattle.wh_host_model.specs.Host.Worlds.{Tenant, Loaded, World, journal, journal_calls, with_tenant, loaded_of}
-use Rattle.wh_host_model.specs.Owners.{Params, is_open}
-use Rattle.wh_host_model.specs.Host.Happens.{IsLive}
+use Rattle.wh_host_model.specs.Host.{Tenant, Loaded, World, journal, journal_calls, with_tenant, loaded_of, IsLive}
+use Rattle.wh_host_model.specs.{Params, is_open}
 use Rattle.wh_script_model.specs.Settings.{Settings}
-use Rattle.wh_script_model.specs.ScriptState.{NamedInstance, ScriptState, live_sum, with_instance}
-use Rattle.wh_script_model.specs.Drains.{ComesTo, had_ended, goes_on}
-use Rattle.wh_script_model.specs.Served.{IsTenantOf}
-use Rattle.wh_host_model.proofs.Space.Putting.{get_or_is}
+use Rattle.wh_script_model.specs.ScriptState.{ScriptState}
+use Rattle.wh_script_model.specs.{NamedInstance, live_sum, with_instance, ComesTo, had_ended, goes_on, IsTenantOf}
+use Rattle.wh_space_model.proofs.Putting.{get_or_is}
 use Rattle.wh_script_laws.specs.Following.{AreSame, IsFollowed, is_there, is_gone, IsPlaced, Knows, StaysWhole, StandsSame}
 
 -- ---- two lists side by side
@@ -200,7 +197,7 @@ pub record IsNext (w : World) (g g2 : NamedInstance) (t2 : Tenant) (place : ℕ)
   pub stands : StandsSame g2 t2
   pub lies : t2.place ≡ place
 
--- the calls of one are these now, and it stands for this fault
+-- the calls of one are these now, and it is blocked on this fault
 pub tenant_calls : (w : World) (t t2 : Tenant) (g : NamedInstance) (calls : List Call) (stands : Option ℕ) → IsTenantOf w t g → t2.of ≡ t.of
     → t2.params ≡ t.params → t2.inst ≡ t.inst → calls ≡ journal_calls (journal t2)
     → IsTenantOf w t2 (record g { calls = calls; at_fault = stands })

@@ -2,14 +2,10 @@
 use Rattle.std.proofs.Common.{◌≡◌, ℕ, ◌+◌, ◌<◌, true, false, List, [], ◌∷◌, ◌++◌, length, ℤ, refl, sym, ap, subst, ◌∙◌, arith}
 use Rattle.std.specs.List.{AllZip}
 use Rattle.std.proofs.lemmas.Bool.{false≢true}
-use Rattle.wh_script_model.specs.Lines.{is_skipped, longest_line}
+use Rattle.wh_script_model.specs.{is_skipped, longest_line, Command, load, invoke, AsksCommand, Reply, error, NamedInstance, empty_script, HasInstance, ReceivesCall, Files, IsObeyed, IsRead, AnswersLine, skipped, invoked, obeyed, too_long, no_command, line_out_of_memory, AnswersLines}
 use Rattle.wh_script_model.specs.Settings.{Settings}
-use Rattle.wh_script_model.specs.Commands.{Command, load, invoke, AsksCommand}
-use Rattle.wh_script_model.specs.Texts.{Reply, error}
-use Rattle.wh_script_model.specs.ScriptState.{NamedInstance, ScriptState, empty_script, HasInstance}
+use Rattle.wh_script_model.specs.ScriptState.{ScriptState}
 use Rattle.wh_script_model.specs.Drains.{Drains}
-use Rattle.wh_script_model.specs.Receiving.{ReceivesCall}
-use Rattle.wh_script_model.specs.Answers.{Files, IsObeyed, IsRead, AnswersLine, skipped, invoked, obeyed, too_long, no_command, line_out_of_memory, AnswersLines}
 use Rattle.wh_script_model.proofs.Draining.{drains_once}
 use Rattle.wh_commands.proofs.OneCommand.{one_command}
 use Rattle.wh_script_laws.specs.Determined.{IsKnownFile, AreKnown, IsAlike, LinesAreDetermined, AnswersAreDetermined, AnswersOutOfMemoryAreDetermined}
@@ -92,7 +88,7 @@ module _ (settings : Settings) (files : Files) where
   not_skipped line e f = false≢true (sym f ∙ e)
 
   line_once : (w : ScriptState) (number : ℕ) (line : List ℕ) → AreKnownTo line → {replies replies2 : List Reply} {a b : ScriptState} → IsOrderly w
-      → AnswersLine false settings files w number line replies a → AnswersLine false settings files w number line replies2 b
+      → AnswersLine Drains false settings files w number line replies a → AnswersLine Drains false settings files w number line replies2 b
       → IsOnce replies replies2 a b
   line_once w number line known o (line_out_of_memory s read d) y = absurd (false≢true s)
   line_once w number line known o (skipped e) (skipped f) = (tt, refl)
@@ -133,14 +129,14 @@ module _ (settings : Settings) (files : Files) where
   -- ---- all lines, and the drain at the end
 
   lines_once : (w a b : ScriptState) (number : ℕ) (lines : List (List ℕ)) → AreKnown files lines → (replies replies2 : List Reply) → IsOrderly w
-      → AnswersLines false settings files w number lines replies a → AnswersLines false settings files w number lines replies2 b
+      → AnswersLines Drains false settings files w number lines replies a → AnswersLines Drains false settings files w number lines replies2 b
       → IsOnce replies replies2 a b × IsOrderly a
   lines_once w a b number [] known replies replies2 o x y =
       (same_once replies replies2 a b (x.0 ∙ sym y.0) (x.1 ∙ sym y.1), subst IsOrderly (sym x.1) o)
   lines_once w a b number (line ∷ lines) known replies replies2 o (here, rest, between, e, x, more) (here2, rest2, between2, e2, y, more2) =
       let head = line_once w number line known.0 o x y in
       let tail = lines_once between a b (number + 1) lines known.1 rest rest2 (line_orderly false settings files w between number line here x o) more
-      (subst (λ (k : ScriptState). AnswersLines false settings files k (number + 1) lines rest2 b) (sym head.1) more2) in
+      (subst (λ (k : ScriptState). AnswersLines Drains false settings files k (number + 1) lines rest2 b) (sym head.1) more2) in
       let alike : AllZip IsAlike (here ++ rest) (here2 ++ rest2) = join_alike here rest here2 rest2 head.0 tail.0.0 in
       ((subst (λ k. AllZip IsAlike k replies2) (sym e) (subst (AllZip IsAlike (here ++ rest)) (sym e2) alike), tail.0.1), tail.1)
 

@@ -3,19 +3,17 @@ use Rattle.std.proofs.Common.{◌≡◌, ℕ, ⊎_elim, Bool, true, false, List,
 use Rattle.std.specs.List.{AllZip}
 use Rattle.std.proofs.lemmas.Bool.{false≢true}
 use Rattle.std.proofs.lemmas.Option.{none-some, same_Some}
-use Rattle.wh_model.specs.Format.Syntax.{Module}
-use Rattle.wh_model.specs.Execution.Replay.{Standing, store_at, Replay}
+use Rattle.wh_model.specs.Format.{Module}
+use Rattle.wh_model.specs.Execution.Replay.{Replay}
+use Rattle.wh_model.specs.Execution.{Standing, store_at}
 use Rattle.wh_model.specs.Execution.Store.{Instance}
-use Rattle.wh_model.specs.Laws.ReplayLaws.{Alike}
+use Rattle.wh_model.specs.Laws.{Alike}
 use Rattle.wh_model.proofs.Opened.{opened_store}
 use Rattle.wh_model.proofs.Journals.{one_standing}
-use Rattle.wh_host_model.specs.Owners.{Params, given_of, first_open}
+use Rattle.wh_host_model.specs.{Params, given_of, first_open}
 use Rattle.wh_script_model.specs.Settings.{Settings}
-use Rattle.wh_script_model.specs.Commands.{Command, keep, load, admit, invoke, drain, refuel, cancel, retry, scan, report, release}
-use Rattle.wh_script_model.specs.Texts.{Reply, error, refuel_ok, refuel_refused, cancel_ok, cancel_refused, retry_ok, retry_refused, scan_ok, release_ok, release_refused}
-use Rattle.wh_script_model.specs.ScriptState.{NamedInstance, ScriptState, HasModule, NoModule, HasInstance, LacksInstance, with_instance, with_first_open, cancel_first}
-use Rattle.wh_script_model.specs.Receiving.{ReceivesModule, ReceivesInstance}
-use Rattle.wh_script_model.specs.Answers.{Files, with_fuel, IsObeyed, module_name_is_taken, no_file, module_comes, no_such_module, instance_name_is_taken, instance_comes, no_such_instance, is_drained, is_scanned, is_reported, is_refueled, no_one_to_refuel, no_call_to_refuel, is_cancelled, no_one_to_cancel, no_call_to_cancel, is_retried, no_one_to_retry, no_fault_to_retry, is_released, no_one_to_release}
+use Rattle.wh_script_model.specs.{Command, keep, load, admit, invoke, drain, refuel, cancel, retry, scan, report, release, Reply, error, refuel_ok, refuel_refused, cancel_ok, cancel_refused, retry_ok, retry_refused, scan_ok, release_ok, release_refused, NamedInstance, HasModule, NoModule, HasInstance, LacksInstance, with_instance, with_first_open, cancel_first, ReceivesModule, ReceivesInstance, Files, with_fuel, IsObeyed, module_name_is_taken, no_file, module_comes, no_such_module, instance_name_is_taken, instance_comes, no_such_instance, is_drained, is_scanned, is_reported, is_refueled, no_one_to_refuel, no_call_to_refuel, is_cancelled, no_one_to_cancel, no_call_to_cancel, is_retried, no_one_to_retry, no_fault_to_retry, is_released, no_one_to_release}
+use Rattle.wh_script_model.specs.ScriptState.{ScriptState}
 use Rattle.wh_script_laws.specs.Determined.{IsKnownFile, IsAlike, is_same}
 use Rattle.wh_script_laws.proofs.DeterminedNames.{BeganWell, IsOrderly, well_there, one_module_named, one_guest_named}
 use Rattle.wh_script_laws.proofs.DeterminedParts.{module_once, guest_once}

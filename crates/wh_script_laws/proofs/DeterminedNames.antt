@@ -3,12 +3,12 @@ use Rattle.std.proofs.Common.{◌≡◌, ℕ, zero, suc, ◌⊎◌, ⊎_elim, in
 use Rattle.std.specs.List.{AllZip, AllByRecursion}
 use Rattle.std.proofs.lemmas.List.{map_push}
 use Rattle.std.proofs.lemmas.Option.{none-some, same_Some}
-use Rattle.wh_model.specs.Format.Syntax.{Module}
+use Rattle.wh_model.specs.Format.{Module}
 use Rattle.wh_model.specs.Validity.Valid.{Valid}
-use Rattle.wh_script_model.specs.Texts.{Reply}
-use Rattle.wh_script_model.specs.ScriptState.{NamedModule, NamedInstance, Invoked, ScriptState, empty_script, HasModule, NoModule, HasInstance, LacksInstance}
-use Rattle.wh_script_model.specs.Drains.{RunsAlone, is_gone, has_run, PrintsStart, has_none, has_one, PrintStarts, Drains}
-use Rattle.wh_script_model.specs.AnswerLaws.{HasBegun}
+use Rattle.wh_script_model.specs.{Reply, NamedModule, NamedInstance, Invoked, empty_script, HasModule, NoModule, HasInstance, LacksInstance, RunsAlone, is_gone, has_run, PrintsStart, has_none, has_one, PrintStarts, HasBegun}
+use Rattle.wh_script_model.specs.ScriptState.{ScriptState}
+use Rattle.wh_script_model.specs.Drains.{Drains}
+use Rattle.wh_script_model.proofs.Begun.{is_one}
 use Rattle.wh_script_laws.proofs.CommandsKnown.{zip_over}
 
 -- ---- lists
@@ -51,11 +51,6 @@ push_apart {A} xs y apart new i j x at at2 =
     (λ (q : slice_get xs j ≡ Some x). apart i j x p q) (push_place xs j y x at2))
     (push_place xs i y x at)
 
-one_there : {A : Type 0} (P : A → Type 0) (xs : List A) (i : ℕ) (x : A) → AllByRecursion P xs → slice_get xs i ≡ Some x → P x
-one_there P [] i x all e = absurd (none-some x e)
-one_there P (y ∷ xs) zero x all e = subst P (same_Some y x e) all.0
-one_there P (y ∷ xs) (suc i) x all e = one_there P xs i x all.1 e
-
 one_more : {A : Type 0} (P : A → Type 0) (xs : List A) (x : A) → AllByRecursion P xs → P x → AllByRecursion P (xs ++ x ∷ [])
 one_more P [] x all p = (p, tt)
 one_more P (y ∷ xs) x all p = (all.0, one_more P xs x all.1 p)
@@ -96,10 +91,10 @@ pub all_begun : (w : ScriptState) → IsOrderly w → AllByRecursion HasBegun w.
 all_begun w o = only_begun w.instances o.well
 
 pub well_there : (w : ScriptState) (name : List ℕ) (i : ℕ) (g : NamedInstance) → IsOrderly w → HasInstance w name i g → BeganWell g
-well_there w name i g o has = one_there BeganWell w.instances i g o.well has.0
+well_there w name i g o has = is_one BeganWell w.instances i g o.well has.0
 
 pub valid_there : (w : ScriptState) (name : List ℕ) (m : Module) → IsOrderly w → HasModule w name m → Valid m
-valid_there w name m o has = one_there (λ (named : NamedModule). Valid named.m) w.modules has.0 _ o.valid has.1
+valid_there w name m o has = is_one (λ (named : NamedModule). Valid named.m) w.modules has.0 _ o.valid has.1
 
 -- ---- by name
 

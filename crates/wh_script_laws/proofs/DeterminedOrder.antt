@@ -1,15 +1,13 @@
 -- Whatever lines make, each name is given once, and modules are valid.
 use Rattle.std.proofs.Common.{◌≡◌, ℕ, Bool, true, List, slice_get, slice_set, Some, ℤ, refl, Option, None}
-use Rattle.wh_model.specs.Format.Syntax.{Module}
-use Rattle.wh_model.specs.Execution.Replay.{Call}
+use Rattle.wh_model.specs.Format.{Module}
+use Rattle.wh_model.specs.Execution.{Call}
 use Rattle.wh_model.specs.Validity.Valid.{Valid}
-use Rattle.wh_host_model.specs.Owners.{Params}
+use Rattle.wh_host_model.specs.{Params}
 use Rattle.wh_script_model.specs.Settings.{Settings}
-use Rattle.wh_script_model.specs.Commands.{Command}
-use Rattle.wh_script_model.specs.Texts.{Reply}
-use Rattle.wh_script_model.specs.ScriptState.{NamedInstance, Invoked, ScriptState, NoModule, LacksInstance, with_instance}
-use Rattle.wh_script_model.specs.Receiving.{ReceivesModule, module_is_kept, module_isnt_kept, module_out_of_memory, new_instance, ReceivesInstance, is_admitted, isnt_admitted, admission_out_of_memory, ReceivesCall, instance_is_gone, isnt_invoked, is_invoked, call_out_of_memory}
-use Rattle.wh_script_model.specs.Answers.{Files, IsObeyed, module_name_is_taken, no_file, module_comes, no_such_module, instance_name_is_taken, instance_comes, no_such_instance, is_drained, is_scanned, is_reported, is_refueled, no_one_to_refuel, no_call_to_refuel, is_cancelled, no_one_to_cancel, no_call_to_cancel, is_retried, no_one_to_retry, no_fault_to_retry, is_released, no_one_to_release, AnswersLine, skipped, invoked, obeyed, too_long, no_command, line_out_of_memory}
+use Rattle.wh_script_model.specs.{Command, Reply, NamedInstance, Invoked, NoModule, LacksInstance, with_instance, ReceivesModule, module_is_kept, module_isnt_kept, module_out_of_memory, new_instance, ReceivesInstance, is_admitted, isnt_admitted, admission_out_of_memory, ReceivesCall, instance_is_gone, isnt_invoked, is_invoked, call_out_of_memory, Files, IsObeyed, module_name_is_taken, no_file, module_comes, no_such_module, instance_name_is_taken, instance_comes, no_such_instance, is_drained, is_scanned, is_reported, is_refueled, no_one_to_refuel, no_call_to_refuel, is_cancelled, no_one_to_cancel, no_call_to_cancel, is_retried, no_one_to_retry, no_fault_to_retry, is_released, no_one_to_release, AnswersLine, skipped, invoked, obeyed, too_long, no_command, line_out_of_memory}
+use Rattle.wh_script_model.specs.ScriptState.{ScriptState}
+use Rattle.wh_script_model.specs.Drains.{Drains}
 use Rattle.wh_script_laws.proofs.DeterminedNames.{IsOrderly, valid_there, module_orderly, guest_orderly, Stays, stay_orderly, one_stays, all_stay, drain_orderly}
 
 -- ---- one instance changes
@@ -78,7 +76,7 @@ module _ (may_run_out : Bool) (settings : Settings) (files : Files) where
   command_orderly w w2 number command replies (no_one_to_release i has gone) o = o
 
   pub line_orderly : (w w2 : ScriptState) (number : ℕ) (line : List ℕ) (replies : List Reply)
-      → AnswersLine may_run_out settings files w number line replies w2 → IsOrderly w → IsOrderly w2
+      → AnswersLine Drains may_run_out settings files w number line replies w2 → IsOrderly w → IsOrderly w2
   line_orderly w w2 number line replies (skipped e) o = o
   line_orderly w w2 number line replies (invoked {export = export} {fuel = fuel} {args = args} i {g = g} read asks has x) o =
       call_orderly may_run_out w w2 i g export fuel args has.0 x o

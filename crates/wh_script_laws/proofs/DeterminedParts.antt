@@ -7,23 +7,19 @@ use Rattle.wh_model.specs.declared.ValType.{ValType}
 use Rattle.wh_model.specs.declared.ValType.TheVariants.{I32, I64}
 use Rattle.wh_model.specs.declared.faults.FaultKind.{FaultKind}
 use Rattle.wh_model.specs.declared.faults.ImportFault.{ImportFault}
-use Rattle.wh_model.specs.Format.Numbering.{fault_number, import_number}
-use Rattle.wh_model.specs.Format.Syntax.{FuncType, Body, Export, Module}
-use Rattle.wh_model.specs.Format.Spelling.{IsBroken}
-use Rattle.wh_model.specs.Validity.Valid.{DifferentNames, Valid}
-use Rattle.wh_model.specs.Validity.Heights.{Fits}
-use Rattle.wh_model.specs.Linking.Imports.{Links, IsFirstFault}
-use Rattle.wh_model.specs.Linking.Accepting.{IsModule, IsAccepted}
-use Rattle.wh_model.specs.Execution.Store.{Value, own, Instance, Store}
-use Rattle.wh_model.specs.Execution.Instance.{Piece, begins}
+use Rattle.wh_model.specs.Format.{fault_number, import_number, FuncType, Body, Export, Module, IsBroken}
+use Rattle.wh_model.specs.Validity.Valid.{Valid}
+use Rattle.wh_model.specs.Validity.{DifferentNames, Fits}
+use Rattle.wh_model.specs.Linking.{Links, IsFirstFault, IsModule, IsAccepted}
+use Rattle.wh_model.specs.Execution.Store.{Instance, Store}
+use Rattle.wh_model.specs.Execution.{Value, own, Piece, begins}
 use Rattle.wh_model.proofs.Instance.{one_beginning}
 use Rattle.wh_model.proofs.LinkingLemmas.{one_first_fault, links_no_fault}
 use Rattle.wh_decode.proofs.Modules.{one_fault, fault_or_module, one_module}
-use Rattle.wh_host_model.specs.Owners.{Params, given_of, admit_rank, most_modules, IsArgument, AreArguments, ExportsOwn, rank, new_entry}
+use Rattle.wh_host_model.specs.{Params, given_of, admit_rank, most_modules, IsArgument, AreArguments, ExportsOwn, rank, new_entry}
 use Rattle.wh_script_model.specs.Settings.{Settings}
-use Rattle.wh_script_model.specs.Texts.{Refusal, broken, unlinked, Reply, module_refused, admit_refused}
-use Rattle.wh_script_model.specs.ScriptState.{NamedInstance, ScriptState, call_rejected, call_accepted, with_instance, with_invoked}
-use Rattle.wh_script_model.specs.Receiving.{RejectsModule, is_broken, is_invalid, is_unlinked, is_full, ReceivesModule, module_is_kept, module_isnt_kept, module_out_of_memory, new_instance, ReceivesInstance, is_admitted, isnt_admitted, admission_out_of_memory, ReceivesCall, instance_is_gone, isnt_invoked, is_invoked, call_out_of_memory}
+use Rattle.wh_script_model.specs.{Refusal, broken, unlinked, Reply, module_refused, admit_refused, NamedInstance, call_rejected, call_accepted, with_instance, with_invoked, RejectsModule, is_broken, is_invalid, is_unlinked, is_full, ReceivesModule, module_is_kept, module_isnt_kept, module_out_of_memory, new_instance, ReceivesInstance, is_admitted, isnt_admitted, admission_out_of_memory, ReceivesCall, instance_is_gone, isnt_invoked, is_invoked, call_out_of_memory}
+use Rattle.wh_script_model.specs.ScriptState.{ScriptState}
 use Rattle.wh_script_laws.specs.Determined.{IsAlike, is_same, both_invalid}
 
 -- ---- modules

@@ -2,25 +2,21 @@
 use Rattle.std.proofs.Common.{◌≡◌, ℕ, suc, ◌+◌, ◌-◌, ◌⊎◌, ⊎_elim, inl, inr, Bool, true, false, List, [], ◌∷◌, Option, Some, None, get_or, refl, sym, ap, subst, ◌∙◌, arith}
 use Rattle.std.proofs.lemmas.Option.{none-some}
 use Rattle.std.specs.List.{AllZip}
-use Rattle.wh_model.specs.Execution.Replay.{Outcome, cancelled, Call}
-use Rattle.wh_host_model.specs.declared.Tax.{Tax}
-use Rattle.wh_host_model.specs.Space.Parts.{Space, minima, spreads}
-use Rattle.wh_host_model.specs.Host.Worlds.{for_fuel, for_device, Tenant, World, journal, journal_calls}
-use Rattle.wh_host_model.specs.Owners.{Params, is_open}
+use Rattle.wh_model.specs.Execution.{Outcome, cancelled, Call}
+use Rattle.wh_space_model.specs.declared.Tax.{Tax}
+use Rattle.wh_space_model.specs.{Space, minima, spreads, swap_number}
+use Rattle.wh_host_model.specs.Host.{for_fuel, for_device, Tenant, World, journal, journal_calls}
+use Rattle.wh_host_model.specs.{Params, is_open}
 use Rattle.wh_script_model.specs.Settings.{Settings}
-use Rattle.wh_script_model.specs.Texts.{CallStatus, Reply}
-use Rattle.wh_script_model.specs.ScriptState.{NamedInstance, ScriptState, live_sum}
-use Rattle.wh_script_model.specs.Drains.{ComesTo, had_ended, goes_on, RunsAlone, PrintsStart, has_none, has_one, PrintStarts}
+use Rattle.wh_script_model.specs.{CallStatus, Reply, NamedInstance, live_sum, ComesTo, had_ended, goes_on, RunsAlone, PrintsStart, has_none, has_one, PrintStarts, IsTenantOf, GoesNoFurther, LosesNothing, RunsAmid, ZipAmid, gone_still, stands_still, runs_on, rests_alone, meets_fault}
+use Rattle.wh_script_model.specs.ScriptState.{ScriptState}
 use Rattle.wh_script_model.specs.Drains as drains
-use Rattle.wh_script_model.specs.Served.{IsTenantOf, GoesNoFurther}
 use Rattle.wh_host_model.proofs.Host.Holding.{memory_is_sound}
 use Rattle.wh_script_model.proofs.Serving.{served_as_alone}
 use Rattle.wh_script_laws.specs.Following.{IsFueled, AreSame, ComesFurther, ComeFurther, IsFollowed, is_there, is_gone, FollowsScript, FollowsSame, IsRunAmid, AreRunAmid, StaysWhole, StandsAmid, device_fault, StandsSame}
 use Rattle.wh_script_laws.specs.Laws.{DrainsBegin, MovesFollow, DrainsEnd, PrintingFollows, StandsForDevice}
 use Rattle.wh_script_laws.proofs.Mixing.{zip_amid_so, zip_none}
 use Rattle.wh_script_laws.proofs.Sums.{claims_decide}
-use Rattle.wh_script_model.specs.Failing.{LosesNothing, RunsAmid, ZipAmid, gone_still, stands_still, runs_on, rests_alone, meets_fault}
-use Rattle.wh_host_model.specs.SwapFaults.{swap_number}
 use Rattle.wh_script_model.proofs.Standing.{IsStuck, is_stuck, at_no_fault}
 
 -- ---- lists side by side
@@ -233,7 +229,7 @@ saying_follows settings w m places lines last_printed invoked h says =
 
 -- ---- a drain ends
 
--- how the guest of a tenant has run
+-- how the instance of a tenant has run
 abbrev pub run_guest : NamedInstance → Option Tenant → NamedInstance
 run_guest g None = g
 run_guest g (Some t) = record g { calls = journal_calls (journal t); at_fault = device_fault t.waiting_for }
@@ -290,7 +286,7 @@ all_run faults w (g ∷ gs) (o ∷ ts) so_far fueled h =
 
 -- ---- whom no turn brings further
 
--- who has been run alone stands for no fault
+-- who has been run alone is blocked on no fault
 from_alone : (faults : List ℕ) (g : NamedInstance) (t : Tenant) (g2 : NamedInstance) → g2 ≡ record g { calls = journal_calls (journal t) } → RunsAlone g g2 → g.is_released ≡ false → g.at_fault ≡ None
     → RunsAmid faults g (record g { calls = journal_calls (journal t); at_fault = None })
 from_alone faults g t _ e (drains.is_gone gone) live faultless = absurd (cc (gone, live))

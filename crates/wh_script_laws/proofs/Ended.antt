@@ -2,15 +2,12 @@
 use Rattle.std.proofs.Common.{◌≡◌, ℕ, zero, suc, ⊎_elim, Bool, true, false, if◌then◌else◌, List, [], ◌∷◌, ◌++◌, map, take, slice_get, Option, Some, None, is_some, refl, sym, ap, subst, ◌∙◌}
 use Rattle.std.specs.List.{AllZip, AllByRecursion}
 use Rattle.std.proofs.lemmas.Option.{none-some, same_Some}
-use Rattle.wh_model.specs.Format.Syntax.{Module}
+use Rattle.wh_model.specs.Format.{Module}
 use Rattle.wh_model.specs.Execution.Store.{Instance, Store}
-use Rattle.wh_model.specs.Execution.Instance.{Piece, Parameters}
-use Rattle.wh_model.specs.Execution.Replay.{Outcome, returned, stopped, cancelled, dead, pending, Call, Waits, Standing, Replays, ended, at_work, Replay}
-use Rattle.wh_script_model.specs.Texts.{CallStatus, Reply}
-use Rattle.wh_script_model.specs.ScriptState.{NamedInstance, with_first_open, cancel_first, ended_so}
-use Rattle.wh_host_model.specs.Owners.{is_open, first_open}
-use Rattle.wh_script_model.specs.Drains.{ComesTo, had_ended, goes_on, status_by, call_status, PrintsStart, has_none, has_one}
-use Rattle.wh_script_model.specs.Failing.{RunsAmid, gone_still, stands_still, runs_on}
+use Rattle.wh_model.specs.Execution.{Piece, Parameters, Outcome, returned, stopped, cancelled, dead, pending, Call, Waits, Standing, Replays, ended, at_work}
+use Rattle.wh_model.specs.Execution.Replay.{Replay}
+use Rattle.wh_script_model.specs.{CallStatus, Reply, NamedInstance, with_first_open, cancel_first, ended_so, ComesTo, had_ended, goes_on, status_by, call_status, PrintsStart, has_none, has_one, RunsAmid, gone_still, stands_still, runs_on}
+use Rattle.wh_host_model.specs.{is_open, first_open}
 use Rattle.wh_script_model.proofs.Once.{end_closed}
 use Rattle.wh_script_laws.specs.Printed.{is_final, HasStart, IsPrinted, HasEndedSo, StartsFirst}
 use Rattle.wh_script_laws.proofs.Drains.{open_or_not}

@@ -1,12 +1,10 @@
 -- Calls that were said to have ended stay so where a line is obeyed, and nothing is said of them again.
 use Rattle.std.proofs.Common.{◌≡◌, ℕ, ◌⊎◌, ⊎_elim, inl, inr, true, false, List, [], ◌∷◌, ◌++◌, slice_get, slice_set, Option, Some, None, refl, sym, ap, subst, ◌∙◌}
 use Rattle.std.proofs.lemmas.Option.{none-some, same_Some}
-use Rattle.wh_model.specs.Execution.Instance.{Piece}
-use Rattle.wh_model.specs.Execution.Replay.{Call}
+use Rattle.wh_model.specs.Execution.{Piece, Call}
 use Rattle.wh_script_model.specs.Texts as texts
-use Rattle.wh_script_model.specs.Texts.{CallStatus}
-use Rattle.wh_script_model.specs.ScriptState.{NamedInstance, Invoked, ScriptState, InvokeOutcome, call_rejected, call_accepted}
-use Rattle.wh_script_model.specs.Drains.{call_status, PrintsStart, has_none, has_one, PrintsCall, is_refused, is_taken, as_before}
+use Rattle.wh_script_model.specs.{CallStatus, NamedInstance, Invoked, InvokeOutcome, call_rejected, call_accepted, call_status, PrintsStart, has_none, has_one, PrintsCall, is_refused, is_taken, as_before}
+use Rattle.wh_script_model.specs.ScriptState.{ScriptState}
 use Rattle.wh_script_laws.specs.Laws.{EndedStays}
 use Rattle.wh_script_laws.specs.Printed.{is_final, HasStart, HasEndedSo, StartsFirst, EndedAsPrinted, CallsAreThere, IsWellMade}
 use Rattle.wh_script_laws.proofs.Ended.{KeepsEnded, stays_ended}

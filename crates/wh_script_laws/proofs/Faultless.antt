@@ -1,39 +1,21 @@
--- Where no call of a device fails, nobody stands for a fault, and lines get the same.
-use Rattle.std.proofs.Common.{◌≡◌, ℕ, zero, suc, ◌+◌, Bool, List, [], ◌∷◌, ◌++◌, slice_get, slice_set, Option, Some, None, ℤ, refl, sym, subst, ◌∙◌, arith}
-use Rattle.std.proofs.lemmas.Option.{none-some, same_Some}
+-- Where no call of a device fails, nobody is blocked on a fault, and lines get the same.
+use Rattle.std.proofs.Common.{◌≡◌, ℕ, ◌+◌, Bool, List, [], ◌∷◌, ◌++◌, slice_get, Option, Some, None, ℤ, refl, sym, ap, subst, ◌∙◌, arith}
+use Rattle.std.proofs.lemmas.Option.{none-some}
 use Rattle.std.specs.List.{AllZip, AllByRecursion}
-use Rattle.wh_model.specs.Format.Syntax.{Module}
-use Rattle.wh_host_model.specs.Owners.{Params}
+use Rattle.wh_model.specs.Format.{Module}
+use Rattle.wh_host_model.specs.{Params}
 use Rattle.wh_script_model.specs.Settings.{Settings}
-use Rattle.wh_script_model.specs.Commands.{Command}
-use Rattle.wh_script_model.specs.Texts.{Reply}
-use Rattle.wh_script_model.specs.ScriptState.{NamedInstance, ScriptState, empty_script}
+use Rattle.wh_script_model.specs.{Command, Reply, NamedInstance, empty_script, RunsAlone, PrintsStart, has_none, has_one, PrintStarts, DrainsBy, ReceivesModule, module_is_kept, module_isnt_kept, module_out_of_memory, ReceivesInstance, is_admitted, isnt_admitted, admission_out_of_memory, ReceivesCall, instance_is_gone, isnt_invoked, is_invoked, call_out_of_memory, Files, IsObeyed, module_name_is_taken, no_file, module_comes, no_such_module, instance_name_is_taken, instance_comes, no_such_instance, is_drained, is_scanned, is_reported, is_refueled, no_one_to_refuel, no_call_to_refuel, is_cancelled, no_one_to_cancel, no_call_to_cancel, is_retried, no_one_to_retry, no_fault_to_retry, is_released, no_one_to_release, AnswersLine, skipped, invoked, obeyed, too_long, no_command, line_out_of_memory, AnswersLines, AnswersScript, rests_alone, meets_fault, RunsAmid, AreMixed, ZipAmid, none_left, gone_still, stands_still, runs_on, DrainsAmidFaults}
+use Rattle.wh_script_model.specs.ScriptState.{ScriptState}
 use Rattle.wh_script_model.specs.Drains as drains
-use Rattle.wh_script_model.specs.Drains.{RunsAlone, PrintsStart, has_none, has_one, PrintStarts, Drains}
-use Rattle.wh_script_model.specs.Receiving.{ReceivesModule, module_is_kept, module_isnt_kept, module_out_of_memory, ReceivesInstance, is_admitted, isnt_admitted, admission_out_of_memory, ReceivesCall, instance_is_gone, isnt_invoked, is_invoked, call_out_of_memory}
-use Rattle.wh_script_model.specs.Answers as alone
-use Rattle.wh_script_model.specs.Answers.{Files, IsObeyed, module_name_is_taken, no_file, module_comes, no_such_module, instance_name_is_taken, instance_comes, no_such_instance, is_drained, is_scanned, is_reported, is_refueled, no_one_to_refuel, no_call_to_refuel, is_cancelled, no_one_to_cancel, no_call_to_cancel, is_retried, no_one_to_retry, no_fault_to_retry, is_released, no_one_to_release, AnswersLine, AnswersLines, AnswersScript}
-use Rattle.wh_script_model.specs.Failing as amid
-use Rattle.wh_script_model.specs.Failing.{rests_alone, meets_fault, RunsAmid, AreMixed, ZipAmid, none_left, gone_still, stands_still, runs_on, DrainsAmid, AnswersLineAmid, AnswersLinesAmid, AnswersScriptAmid}
+use Rattle.wh_script_model.specs.Drains.{Drains}
 use Rattle.wh_host_model.proofs.Host.Entries.{all_join}
+use Rattle.wh_script_model.proofs.Begun.{is_one, with_one}
 use Rattle.wh_script_laws.proofs.Mixing.{mixed_nothing}
 use Rattle.wh_script_laws.specs.Faultless.{NobodyStands, LinesLeaveNobody, FaultlessLines, FaultlessScripts}
 
 abbrev IsAtNoFault : NamedInstance → Type 0
 IsAtNoFault g = g.at_fault ≡ None
-
--- ---- one instance changes
-
-is_one : {A : Type 0} (P : A → Type 0) (xs : List A) (i : ℕ) (x : A) → AllByRecursion P xs → slice_get xs i ≡ Some x → P x
-is_one P [] i x h e = absurd (none-some x e)
-is_one P (y ∷ xs) zero x h e = subst P (same_Some y x e) h.0
-is_one P (y ∷ xs) (suc i) x h e = is_one P xs i x h.1 e
-
-with_one : {A : Type 0} (P : A → Type 0) (xs : List A) (i : ℕ) (x : A) → AllByRecursion P xs → P x
-    → AllByRecursion P (slice_set xs i x)
-with_one P [] i x h p = tt
-with_one P (y ∷ xs) zero x h p = (p, h.1)
-with_one P (y ∷ xs) (suc i) x h p = (h.0, with_one P xs i x h.1 p)
 
 -- ---- calls run
 
@@ -83,187 +65,208 @@ said_for_none [] hs lines x none = subst (AllByRecursion IsAtNoFault) (sym x.1) 
 said_for_none (g ∷ gs) hs lines (here, rest, k, ks, e, f, x, more) none =
     subst (AllByRecursion IsAtNoFault) (sym f) (one_said g k here x none.0, said_for_none gs ks rest more none.1)
 
-pub drained_alone : (w w2 : ScriptState) (lines : List Reply) → NobodyStands w → DrainsAmid [] w lines w2 → Drains w lines w2
-drained_alone w w2 lines none x = record {
+-- the calls run in another way
+drained_so : (P Q : List NamedInstance → List NamedInstance → Type 0) (faults : List ℕ) (w w2 : ScriptState) (lines : List Reply)
+    → ((run : List NamedInstance) → P w.instances run → Q w.instances run) → DrainsBy P faults w lines w2 → DrainsBy Q faults w lines w2
+drained_so P Q faults w w2 lines so x = record {
   run = x.run;
   instances = x.instances;
   invoked = x.invoked;
   starts = x.starts;
   calls = x.calls;
-  each_runs = all_alone [] w.instances x.run refl none x.each_runs;
+  each_runs = so x.run x.each_runs;
   print_starts = x.print_starts;
   print_calls = x.print_calls;
   lines_are = x.lines_are;
   after = x.after;
 }
 
-drained_amid : (w w2 : ScriptState) (lines : List Reply) → NobodyStands w → Drains w lines w2 → DrainsAmid [] w lines w2
-drained_amid w w2 lines none x = record {
-  run = x.run;
-  instances = x.instances;
-  invoked = x.invoked;
-  starts = x.starts;
-  calls = x.calls;
-  each_runs = all_amid w.instances x.run none x.each_runs;
-  print_starts = x.print_starts;
-  print_calls = x.print_calls;
-  lines_are = x.lines_are;
-  after = x.after;
-}
+-- ---- nothing more is met, and nobody comes to be blocked on a fault
 
-drained_none : (w w2 : ScriptState) (lines : List Reply) → Drains w lines w2 → NobodyStands w → NobodyStands w2
-drained_none w w2 lines x none =
-    subst NobodyStands (sym x.after) (said_for_none x.run x.instances x.starts x.print_starts (all_for_none w.instances x.run none x.each_runs))
+abbrev pub AddsNone : ScriptState → ScriptState → Type 0
+AddsNone w w2 = (w2.faults_met ≡ w.faults_met) × (NobodyStands w → NobodyStands w2)
 
--- ---- what comes
+same : (w : ScriptState) → AddsNone w w
+same w = (refl, λ h. h)
+
+none_then : (w w1 w2 : ScriptState) → AddsNone w w1 → AddsNone w1 w2 → AddsNone w w2
+none_then w w1 w2 first later = (later.0 ∙ first.0, λ h. later.1 (first.1 h))
+
+drained_none : (w w2 : ScriptState) (lines : List Reply) → Drains w lines w2 → AddsNone w w2
+drained_none w w2 lines x = (
+  ap (λ (k : ScriptState). k.faults_met) x.after,
+  λ none. subst NobodyStands (sym x.after) (said_for_none x.run x.instances x.starts x.print_starts (all_for_none w.instances x.run none x.each_runs)),
+)
 
 module_none : (may_run_out : Bool) (w w2 : ScriptState) (name bytes : List ℕ) (reply : Reply)
-    → ReceivesModule may_run_out w name bytes reply w2 → NobodyStands w → NobodyStands w2
-module_none may_run_out w w2 name bytes reply (module_is_kept a f) h = h
-module_none may_run_out w w2 name bytes reply (module_isnt_kept r) h = h
-module_none may_run_out w w2 name bytes reply (module_out_of_memory s r) h = h
+    → ReceivesModule may_run_out w name bytes reply w2 → AddsNone w w2
+module_none may_run_out w w2 name bytes reply (module_is_kept a f) = (refl, λ h. h)
+module_none may_run_out w w2 name bytes reply (module_isnt_kept r) = same w
+module_none may_run_out w w2 name bytes reply (module_out_of_memory s r) = same w
 
 guest_none : (may_run_out : Bool) (settings : Settings) (w w2 : ScriptState) (name : List ℕ) (m : Module) (p : Params) (reply : Reply)
-    → ReceivesInstance may_run_out settings w name m p reply w2 → NobodyStands w → NobodyStands w2
-guest_none may_run_out settings w w2 name m p reply (is_admitted n initial) h = all_join IsAtNoFault w.instances (_ ∷ []) h (refl, tt)
-guest_none may_run_out settings w w2 name m p reply (isnt_admitted fault f) h = h
-guest_none may_run_out settings w w2 name m p reply (admission_out_of_memory s n) h = h
+    → ReceivesInstance may_run_out settings w name m p reply w2 → AddsNone w w2
+guest_none may_run_out settings w w2 name m p reply (is_admitted n initial) = (refl, λ h. all_join IsAtNoFault w.instances (_ ∷ []) h (refl, tt))
+guest_none may_run_out settings w w2 name m p reply (isnt_admitted fault f) = same w
+guest_none may_run_out settings w w2 name m p reply (admission_out_of_memory s n) = same w
 
-call_none : (may_run_out : Bool) (w w2 : ScriptState) (i : ℕ) (g : NamedInstance) (name : List ℕ) (fuel : ℕ) (given : List ℤ)
-    → slice_get w.instances i ≡ Some g → ReceivesCall may_run_out w i g name fuel given w2 → NobodyStands w → NobodyStands w2
-call_none may_run_out w w2 i g name fuel given e (instance_is_gone r) h = h
-call_none may_run_out w w2 i g name fuel given e (isnt_invoked fault l f) h = h
-call_none may_run_out w w2 i g name fuel given e (is_invoked vs l n x a) h = with_one IsAtNoFault w.instances i _ h (is_one IsAtNoFault w.instances i g h e)
-call_none may_run_out w w2 i g name fuel given e (call_out_of_memory s l n) h = h
+pub call_none : (may_run_out : Bool) (w w2 : ScriptState) (i : ℕ) (g : NamedInstance) (name : List ℕ) (fuel : ℕ) (given : List ℤ)
+    → slice_get w.instances i ≡ Some g → ReceivesCall may_run_out w i g name fuel given w2 → AddsNone w w2
+call_none may_run_out w w2 i g name fuel given e (instance_is_gone r) = (refl, λ h. h)
+call_none may_run_out w w2 i g name fuel given e (isnt_invoked fault l f) = (refl, λ h. h)
+call_none may_run_out w w2 i g name fuel given e (is_invoked vs l n x a) =
+    (refl, λ h. with_one IsAtNoFault w.instances i _ h (is_one IsAtNoFault w.instances i g h e))
+call_none may_run_out w w2 i g name fuel given e (call_out_of_memory s l n) = (refl, λ h. h)
 
-obeyed_none : (may_run_out : Bool) (settings : Settings) (files : Files) (w w2 : ScriptState) (number : ℕ) (command : Command)
-    (replies : List Reply) → IsObeyed may_run_out settings files w number command replies w2 → NobodyStands w → NobodyStands w2
-obeyed_none may_run_out settings files w w2 number command replies (module_name_is_taken n m) h = h
-obeyed_none may_run_out settings files w w2 number command replies (no_file n f) h = h
-obeyed_none may_run_out settings files w w2 number command replies (module_comes {name = name} {bytes = bytes} {reply = reply} n f b x) h =
-    module_none may_run_out w w2 name bytes reply x h
-obeyed_none may_run_out settings files w w2 number command replies (no_such_module n) h = h
-obeyed_none may_run_out settings files w w2 number command replies (instance_name_is_taken i m g) h = h
-obeyed_none may_run_out settings files w w2 number command replies (instance_comes {inst = inst} {p = p} {m = m} {reply = reply} n f x) h =
-    guest_none may_run_out settings w w2 inst m p reply x h
-obeyed_none may_run_out settings files w w2 number command replies (no_such_instance f n) h = h
-obeyed_none may_run_out settings files w w2 number command replies is_drained h = h
-obeyed_none may_run_out settings files w w2 number command replies is_scanned h = h
-obeyed_none may_run_out settings files w w2 number command replies is_reported h = h
-obeyed_none may_run_out settings files w w2 number command replies (is_refueled i {g = g} n l f) h =
-    with_one IsAtNoFault w.instances i _ h (is_one IsAtNoFault w.instances i g h n.0)
-obeyed_none may_run_out settings files w w2 number command replies (no_one_to_refuel i n l) h = h
-obeyed_none may_run_out settings files w w2 number command replies (no_call_to_refuel i n l f) h = h
-obeyed_none may_run_out settings files w w2 number command replies (is_cancelled i n l f) h = with_one IsAtNoFault w.instances i _ h refl
-obeyed_none may_run_out settings files w w2 number command replies (no_one_to_cancel i n l) h = h
-obeyed_none may_run_out settings files w w2 number command replies (no_call_to_cancel i n l f) h = h
-obeyed_none may_run_out settings files w w2 number command replies (is_retried i n l f) h = with_one IsAtNoFault w.instances i _ h refl
-obeyed_none may_run_out settings files w w2 number command replies (no_one_to_retry i n l) h = h
-obeyed_none may_run_out settings files w w2 number command replies (no_fault_to_retry i n l f) h = h
-obeyed_none may_run_out settings files w w2 number command replies (is_released i {g = g} z n l r) h =
-    with_one IsAtNoFault w.instances i _ h (is_one IsAtNoFault w.instances i g h n.0)
-obeyed_none may_run_out settings files w w2 number command replies (no_one_to_release i n l) h = h
+pub obeyed_none : (may_run_out : Bool) (settings : Settings) (files : Files) (w w2 : ScriptState) (number : ℕ) (command : Command)
+    (replies : List Reply) → IsObeyed may_run_out settings files w number command replies w2 → AddsNone w w2
+obeyed_none may_run_out settings files w w2 number command replies (module_name_is_taken n m) = same w
+obeyed_none may_run_out settings files w w2 number command replies (no_file n f) = same w
+obeyed_none may_run_out settings files w w2 number command replies (module_comes {name = name} {bytes = bytes} {reply = reply} n f b x) =
+    module_none may_run_out w w2 name bytes reply x
+obeyed_none may_run_out settings files w w2 number command replies (no_such_module n) = same w
+obeyed_none may_run_out settings files w w2 number command replies (instance_name_is_taken i m g) = same w
+obeyed_none may_run_out settings files w w2 number command replies (instance_comes {inst = inst} {p = p} {m = m} {reply = reply} n f x) =
+    guest_none may_run_out settings w w2 inst m p reply x
+obeyed_none may_run_out settings files w w2 number command replies (no_such_instance f n) = same w
+obeyed_none may_run_out settings files w w2 number command replies is_drained = same w
+obeyed_none may_run_out settings files w w2 number command replies is_scanned = same w
+obeyed_none may_run_out settings files w w2 number command replies is_reported = same w
+obeyed_none may_run_out settings files w w2 number command replies (is_refueled i {g = g} n l f) =
+    (refl, λ h. with_one IsAtNoFault w.instances i _ h (is_one IsAtNoFault w.instances i g h n.0))
+obeyed_none may_run_out settings files w w2 number command replies (no_one_to_refuel i n l) = same w
+obeyed_none may_run_out settings files w w2 number command replies (no_call_to_refuel i n l f) = same w
+obeyed_none may_run_out settings files w w2 number command replies (is_cancelled i n l f) = (refl, λ h. with_one IsAtNoFault w.instances i _ h refl)
+obeyed_none may_run_out settings files w w2 number command replies (no_one_to_cancel i n l) = same w
+obeyed_none may_run_out settings files w w2 number command replies (no_call_to_cancel i n l f) = same w
+obeyed_none may_run_out settings files w w2 number command replies (is_retried i n l f) = (refl, λ h. with_one IsAtNoFault w.instances i _ h refl)
+obeyed_none may_run_out settings files w w2 number command replies (no_one_to_retry i n l) = same w
+obeyed_none may_run_out settings files w w2 number command replies (no_fault_to_retry i n l f) = same w
+obeyed_none may_run_out settings files w w2 number command replies (is_released i {g = g} z n l r) =
+    (refl, λ h. with_one IsAtNoFault w.instances i _ h (is_one IsAtNoFault w.instances i g h n.0))
+obeyed_none may_run_out settings files w w2 number command replies (no_one_to_release i n l) = same w
+
+-- ---- where none was met, none was before, and each instance's calls run alone
+
+pub both_none : (later now : List ℕ) → later ++ now ≡ [] → (later ≡ []) × (now ≡ [])
+both_none [] now e = (refl, e)
+both_none (x ∷ later) now e = absurd (cc e)
+
+pub drained_alone : (w w2 : ScriptState) (lines : List Reply) → DrainsAmidFaults w lines w2 → w2.faults_met ≡ []
+    → (w.faults_met ≡ []) × (NobodyStands w → Drains w lines w2)
+drained_alone w w2 lines d none =
+    let nothing = both_none d.0 w.faults_met (sym (ap (λ (k : ScriptState). k.faults_met) d.1.after) ∙ none) in (
+      nothing.1,
+      λ nobody.
+          drained_so (ZipAmid RunsAmid []) (AllZip RunsAlone) [] w w2 lines (λ run x. all_alone [] w.instances run refl nobody x)
+          (subst (λ faults. DrainsBy (ZipAmid RunsAmid faults) faults w lines w2) nothing.0 d.1),
+    )
+
+drained_amid : (w w2 : ScriptState) (lines : List Reply) → NobodyStands w → Drains w lines w2 → DrainsAmidFaults w lines w2
+drained_amid w w2 lines nobody d =
+    ([], drained_so (AllZip RunsAlone) (ZipAmid RunsAmid []) [] w w2 lines (λ run x. all_amid w.instances run nobody x) d)
 
 -- ---- lines
 
 module _ (may_run_out : Bool) (settings : Settings) (files : Files) where
   pub line_none : (w w2 : ScriptState) (number : ℕ) (line : List ℕ) (replies : List Reply)
-      → AnswersLine may_run_out settings files w number line replies w2 → NobodyStands w → NobodyStands w2
-  line_none w w2 number line replies (alone.skipped e) h = h
-  line_none w w2 number line replies (alone.invoked {export = export} {fuel = fuel} {args = args} i {g = g} r a n x) h =
-      call_none may_run_out w w2 i g export fuel args n.0 x h
-  line_none w w2 number line replies (alone.obeyed {command = command} {lines = lines} {replies = given} {w1 = w1} r a d x) h =
-      obeyed_none may_run_out settings files w1 w2 number command given x (drained_none w w1 lines d h)
-  line_none w w2 number line replies (alone.too_long {lines = lines} e l d) h = drained_none w w2 lines d h
-  line_none w w2 number line replies (alone.no_command {lines = lines} r n d) h = drained_none w w2 lines d h
-  line_none w w2 number line replies (alone.line_out_of_memory {lines = lines} s r d) h = drained_none w w2 lines d h
+      → AnswersLine Drains may_run_out settings files w number line replies w2 → AddsNone w w2
+  line_none w w2 number line replies (skipped e) = same w
+  line_none w w2 number line replies (invoked {export = export} {fuel = fuel} {args = args} i {g = g} r a n x) =
+      call_none may_run_out w w2 i g export fuel args n.0 x
+  line_none w w2 number line replies (obeyed {command = command} {lines = lines} {replies = given} {w1 = w1} r a d x) =
+      none_then w w1 w2 (drained_none w w1 lines d) (obeyed_none may_run_out settings files w1 w2 number command given x)
+  line_none w w2 number line replies (too_long {lines = lines} e l d) = drained_none w w2 lines d
+  line_none w w2 number line replies (no_command {lines = lines} r n d) = drained_none w w2 lines d
+  line_none w w2 number line replies (line_out_of_memory {lines = lines} s r d) = drained_none w w2 lines d
 
   pub line_alone : (w w2 : ScriptState) (number : ℕ) (line : List ℕ) (replies : List Reply)
-      → AnswersLineAmid may_run_out settings files [] w number line replies w2 → NobodyStands w → AnswersLine may_run_out settings files w number line replies w2
-  line_alone w w2 number line replies (amid.skipped e f) h = alone.skipped e
-  line_alone w w2 number line replies (amid.invoked i r a n x f) h = alone.invoked i r a n x
-  line_alone w w2 number line replies (amid.obeyed {lines = lines} {w1 = w1} r a d x) h = alone.obeyed r a (drained_alone w w1 lines h d) x
-  line_alone w w2 number line replies (amid.too_long {lines = lines} e l d) h = alone.too_long e l (drained_alone w w2 lines h d)
-  line_alone w w2 number line replies (amid.no_command {lines = lines} r n d) h = alone.no_command r n (drained_alone w w2 lines h d)
-  line_alone w w2 number line replies (amid.line_out_of_memory {lines = lines} s r d) h = alone.line_out_of_memory s r (drained_alone w w2 lines h d)
+      → AnswersLine DrainsAmidFaults may_run_out settings files w number line replies w2 → w2.faults_met ≡ []
+      → (w.faults_met ≡ []) × (NobodyStands w → AnswersLine Drains may_run_out settings files w number line replies w2)
+  line_alone w w2 number line replies (skipped e) none = (none, λ nobody. skipped e)
+  line_alone w w2 number line replies (invoked {export = export} {fuel = fuel} {args = args} i {g = g} r a n x) none =
+      (sym (call_none may_run_out w w2 i g export fuel args n.0 x).0 ∙ none, λ nobody. invoked i r a n x)
+  line_alone w w2 number line replies (obeyed {command = command} {lines = lines} {replies = given} {w1 = w1} r a d x) none =
+      let alone = drained_alone w w1 lines d (sym (obeyed_none may_run_out settings files w1 w2 number command given x).0 ∙ none) in
+      (alone.0, λ nobody. obeyed r a (alone.1 nobody) x)
+  line_alone w w2 number line replies (too_long {lines = lines} e l d) none =
+      let alone = drained_alone w w2 lines d none in (alone.0, λ nobody. too_long e l (alone.1 nobody))
+  line_alone w w2 number line replies (no_command {lines = lines} r n d) none =
+      let alone = drained_alone w w2 lines d none in (alone.0, λ nobody. no_command r n (alone.1 nobody))
+  line_alone w w2 number line replies (line_out_of_memory {lines = lines} s r d) none =
+      let alone = drained_alone w w2 lines d none in (alone.0, λ nobody. line_out_of_memory s r (alone.1 nobody))
 
-  line_amid : (w w2 : ScriptState) (number : ℕ) (line : List ℕ) (replies : List Reply)
-      → AnswersLine may_run_out settings files w number line replies w2 → NobodyStands w → AnswersLineAmid may_run_out settings files [] w number line replies w2
-  line_amid w w2 number line replies (alone.skipped e) h = amid.skipped e refl
-  line_amid w w2 number line replies (alone.invoked i r a n x) h = amid.invoked i r a n x refl
-  line_amid w w2 number line replies (alone.obeyed {lines = lines} {w1 = w1} r a d x) h = amid.obeyed r a (drained_amid w w1 lines h d) x
-  line_amid w w2 number line replies (alone.too_long {lines = lines} e l d) h = amid.too_long e l (drained_amid w w2 lines h d)
-  line_amid w w2 number line replies (alone.no_command {lines = lines} r n d) h = amid.no_command r n (drained_amid w w2 lines h d)
-  line_amid w w2 number line replies (alone.line_out_of_memory {lines = lines} s r d) h = amid.line_out_of_memory s r (drained_amid w w2 lines h d)
+  line_amid : (w w2 : ScriptState) (number : ℕ) (line : List ℕ) (replies : List Reply) → NobodyStands w
+      → AnswersLine Drains may_run_out settings files w number line replies w2 → AnswersLine DrainsAmidFaults may_run_out settings files w number line replies w2
+  line_amid w w2 number line replies h (skipped e) = skipped e
+  line_amid w w2 number line replies h (invoked i r a n x) = invoked i r a n x
+  line_amid w w2 number line replies h (obeyed {lines = lines} {w1 = w1} r a d x) = obeyed r a (drained_amid w w1 lines h d) x
+  line_amid w w2 number line replies h (too_long {lines = lines} e l d) = too_long e l (drained_amid w w2 lines h d)
+  line_amid w w2 number line replies h (no_command {lines = lines} r n d) = no_command r n (drained_amid w w2 lines h d)
+  line_amid w w2 number line replies h (line_out_of_memory {lines = lines} s r d) = line_out_of_memory s r (drained_amid w w2 lines h d)
 
   pub lines_none : (w w2 : ScriptState) (number : ℕ) (lines : List (List ℕ)) (replies : List Reply)
-      → AnswersLines may_run_out settings files w number lines replies w2 → NobodyStands w → NobodyStands w2
-  lines_none w w2 number [] replies x h = subst NobodyStands (sym x.1) h
-  lines_none w w2 number (line ∷ lines) replies (here, rest, between, e, x, more) h =
-      lines_none between w2 (number + 1) lines rest more (line_none w between number line here x h)
-
-  pub both_none : (later now : List ℕ) → [] ≡ later ++ now → (later ≡ []) × (now ≡ [])
-  both_none [] now e = (refl, sym e)
-  both_none (x ∷ later) now e = absurd (cc e)
+      → AnswersLines Drains may_run_out settings files w number lines replies w2 → AddsNone w w2
+  lines_none w w2 number [] replies x = subst (AddsNone w) (sym x.1) (same w)
+  lines_none w w2 number (line ∷ lines) replies (here, rest, between, e, x, more) =
+      none_then w between w2 (line_none w between number line here x) (lines_none between w2 (number + 1) lines rest more)
 
   lines_alone : (w w2 : ScriptState) (number : ℕ) (lines : List (List ℕ)) (replies : List Reply)
-      → AnswersLinesAmid may_run_out settings files [] w number lines replies w2 → NobodyStands w
-      → AnswersLines may_run_out settings files w number lines replies w2
-  lines_alone w w2 number [] replies x h = (x.1, x.2)
-  lines_alone w w2 number (line ∷ lines) replies (now, later, here, rest, between, f, e, x, more) h =
-      let none = both_none later now f in
-      let first = line_alone w between number line here (subst (λ fs. AnswersLineAmid may_run_out settings files fs w number line here between) none.1 x) h in (
-        here,
-        rest,
-        between,
-        e,
-        first,
-        lines_alone between w2 (number + 1) lines rest
-            (subst (λ fs. AnswersLinesAmid may_run_out settings files fs between (number + 1) lines rest w2) none.0 more) (line_none w between number line here first h),
-      )
+      → AnswersLines DrainsAmidFaults may_run_out settings files w number lines replies w2 → w2.faults_met ≡ []
+      → (w.faults_met ≡ []) × (NobodyStands w → AnswersLines Drains may_run_out settings files w number lines replies w2)
+  lines_alone w w2 number [] replies x none = (subst (λ (k : ScriptState). k.faults_met ≡ []) x.1 none, λ nobody. x)
+  lines_alone w w2 number (line ∷ lines) replies (here, rest, between, e, x, more) none =
+      let later = lines_alone between w2 (number + 1) lines rest more none in
+      let first = line_alone w between number line here x later.0 in
+      (first.0, λ nobody. let alone = first.1 nobody in (here, rest, between, e, alone, later.1 ((line_none w between number line here alone).1 nobody)))
 
-  lines_amid : (w w2 : ScriptState) (number : ℕ) (lines : List (List ℕ)) (replies : List Reply)
-      → AnswersLines may_run_out settings files w number lines replies w2 → NobodyStands w
-      → AnswersLinesAmid may_run_out settings files [] w number lines replies w2
-  lines_amid w w2 number [] replies x h = (refl, x.0, x.1)
-  lines_amid w w2 number (line ∷ lines) replies (here, rest, between, e, x, more) h =
-      ([], [], here, rest, between, refl, e, line_amid w between number line here x h, lines_amid between w2 (number + 1) lines rest more (line_none w between number line here x h))
+  lines_amid : (w w2 : ScriptState) (number : ℕ) (lines : List (List ℕ)) (replies : List Reply) → NobodyStands w
+      → AnswersLines Drains may_run_out settings files w number lines replies w2
+      → AnswersLines DrainsAmidFaults may_run_out settings files w number lines replies w2
+  lines_amid w w2 number [] replies nobody x = x
+  lines_amid w w2 number (line ∷ lines) replies nobody (here, rest, between, e, x, more) =
+      (here, rest, between, e, line_amid w between number line here nobody x, lines_amid between w2 (number + 1) lines rest ((line_none w between number line here x).1 nobody) more)
 
-  script_alone : (lines : List (List ℕ)) (replies : List Reply) → AnswersScriptAmid may_run_out settings files [] lines replies → AnswersScript may_run_out settings files lines replies
-  script_alone lines replies x =
-      let none = both_none x.at_last x.earlier x.faults_are in
-      let first = lines_alone empty_script x.before 1 lines x.to_lines (subst (λ fs. AnswersLinesAmid may_run_out settings files fs empty_script 1 lines x.to_lines x.before) none.1 x.answers) tt in
+  pub script_alone : (lines : List (List ℕ)) (replies : List Reply) (amid : AnswersScript DrainsAmidFaults may_run_out settings files lines replies) → amid.after.faults_met ≡ []
+      → AnswersScript Drains may_run_out settings files lines replies
+  script_alone lines replies x none =
+      let drains = drained_alone x.before x.after x.last x.drains none in
+      let answers = (lines_alone empty_script x.before 1 lines x.to_lines x.answers drains.0).1 tt in
       record {
         before = x.before;
         after = x.after;
         to_lines = x.to_lines;
         last = x.last;
-        answers = first;
-        drains = drained_alone x.before x.after x.last (lines_none empty_script x.before 1 lines x.to_lines first tt)
-            (subst (λ fs. DrainsAmid fs x.before x.last x.after) none.0 x.drains);
+        answers = answers;
+        drains = drains.1 ((lines_none empty_script x.before 1 lines x.to_lines answers).1 tt);
         replies_are = x.replies_are;
       }
 
-  script_amid : (lines : List (List ℕ)) (replies : List Reply) → AnswersScript may_run_out settings files lines replies → AnswersScriptAmid may_run_out settings files [] lines replies
-  script_amid lines replies x = record {
-    before = x.before;
-    after = x.after;
-    to_lines = x.to_lines;
-    last = x.last;
-    earlier = [];
-    at_last = [];
-    answers = lines_amid empty_script x.before 1 lines x.to_lines x.answers tt;
-    drains = drained_amid x.before x.after x.last (lines_none empty_script x.before 1 lines x.to_lines x.answers tt) x.drains;
-    faults_are = refl;
-    replies_are = x.replies_are;
-  }
+  script_amid : (lines : List (List ℕ)) (replies : List Reply) → AnswersScript Drains may_run_out settings files lines replies
+      → (amid : AnswersScript DrainsAmidFaults may_run_out settings files lines replies) × (amid.after.faults_met ≡ [])
+  script_amid lines replies x =
+      let before = lines_none empty_script x.before 1 lines x.to_lines x.answers in (
+        record {
+          before = x.before;
+          after = x.after;
+          to_lines = x.to_lines;
+          last = x.last;
+          answers = lines_amid empty_script x.before 1 lines x.to_lines tt x.answers;
+          drains = drained_amid x.before x.after x.last (before.1 tt) x.drains;
+          replies_are = x.replies_are;
+        },
+        (drained_none x.before x.after x.last x.drains).0 ∙ before.0,
+      )
 
 pub lines_leave_nobody : LinesLeaveNobody
-lines_leave_nobody may_run_out settings files lines replies w x = lines_none may_run_out settings files empty_script w 1 lines replies x tt
+lines_leave_nobody may_run_out settings files lines replies w x = (lines_none may_run_out settings files empty_script w 1 lines replies x).1 tt
 
 pub faultless_lines : FaultlessLines
-faultless_lines may_run_out settings files lines replies w =
-    (λ x. lines_alone may_run_out settings files empty_script w 1 lines replies x tt, λ x. lines_amid may_run_out settings files empty_script w 1 lines replies x tt)
+faultless_lines may_run_out settings files lines replies w = (
+  λ x. (lines_alone may_run_out settings files empty_script w 1 lines replies x.0 x.1).1 tt,
+  λ x. (lines_amid may_run_out settings files empty_script w 1 lines replies tt x, (lines_none may_run_out settings files empty_script w 1 lines replies x).0),
+)
 
 pub faultless_scripts : FaultlessScripts
-faultless_scripts may_run_out settings files lines replies = (script_alone may_run_out settings files lines replies, script_amid may_run_out settings files lines replies)
+faultless_scripts may_run_out settings files lines replies =
+    (λ x. script_alone may_run_out settings files lines replies x.0 x.1, script_amid may_run_out settings files lines replies)

@@ -4,18 +4,14 @@ use Rattle.std.proofs.Math.Nat.{le-min}
 use Rattle.std.proofs.lemmas.Option.{none-some}
 use Rattle.std.specs.List.{AllByRecursion}
 use Rattle.wh_model.specs.declared.memory.Need.{Need}
-use Rattle.wh_model.specs.Format.Syntax.{Module}
+use Rattle.wh_model.specs.Format.{Module}
 use Rattle.wh_model.specs.Execution.Store.{Instance, Store}
-use Rattle.wh_model.specs.Execution.Instance.{Piece, Parameters}
-use Rattle.wh_model.specs.Execution.Replay.{Call, pending, Waits, Standing, writing, Stands, has_pieces, is_invoked, is_under_way, Replays, ended, at_work, Replay}
+use Rattle.wh_model.specs.Execution.{Piece, Parameters, Call, pending, Waits, Standing, Stands, has_pieces, is_invoked, is_under_way, Replays, ended, at_work}
+use Rattle.wh_model.specs.Execution.Replay.{writing, Replay}
 use Rattle.wh_host_model.specs.Host.Admission as admission
-use Rattle.wh_host_model.specs.Host.Admission.{StartsAs}
-use Rattle.wh_host_model.specs.Host.Journals.{InOrder, is_starting, has_started}
-use Rattle.wh_host_model.specs.Host.OwnerCalls.{more_fuel, WaitsAfter}
-use Rattle.wh_host_model.specs.Host.Suspensions.{NextAsks, a_piece, a_step, FirstWaitsDuly}
-use Rattle.wh_host_model.specs.Host.Worlds.{Rest, Doing, Suspension, for_fuel, for_frame, for_device, journal_calls, store_with, standing_with}
-use Rattle.wh_host_model.specs.Owners.{Entry, is_open, most_fuel, start_entry}
-use Rattle.wh_script_model.specs.ScriptState.{MayUseFuel}
+use Rattle.wh_host_model.specs.Host.{StartsAs, InOrder, is_starting, has_started, more_fuel, WaitsAfter, NextAsks, a_piece, a_step, FirstWaitsDuly, Rest, Doing, Suspension, for_fuel, for_frame, for_device, journal_calls, store_with, standing_with}
+use Rattle.wh_host_model.specs.{Entry, is_open, most_fuel, start_entry}
+use Rattle.wh_script_model.specs.{MayUseFuel}
 use Rattle.wh_script_model.proofs.Once.{end_closed}
 use Rattle.wh_script_laws.proofs.Journals.{IsClosed, IsOpened, ended_closed, all_opened}
 

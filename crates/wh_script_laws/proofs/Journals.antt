@@ -1,17 +1,12 @@
 -- What a script counts and changes in a journal: calls that have ended, and then those that are open.
 use Rattle.std.proofs.Common.{◌≡◌, ℕ, ◌+◌, ◌-◌, min, Bool, true, false, List, [], ◌∷◌, ◌++◌, map, length, Some, None, refl, sym, ap, subst, ◌∙◌, arith, append_assoc}
 use Rattle.std.specs.List.{AllByRecursion}
-use Rattle.wh_model.specs.Format.Syntax.{Module}
+use Rattle.wh_model.specs.Format.{Module}
 use Rattle.wh_model.specs.Execution.Store.{Instance}
-use Rattle.wh_model.specs.Execution.Replay.{Outcome, returned, stopped, cancelled, dead, pending, Call, fails}
-use Rattle.wh_host_model.specs.Host.Laws.{HasJournal}
-use Rattle.wh_host_model.specs.Host.Worlds.{World, Tenant, journal, journal_calls}
-use Rattle.wh_host_model.specs.Owners.{Entry, is_open, first_open}
-use Rattle.wh_host_model.specs.Host.CallAnswers.{ended_by, dies}
-use Rattle.wh_host_model.specs.Host.OwnerCalls.{more_fuel}
-use Rattle.wh_host_model.specs.Host.Journals.{HasEnded, IsEnded, IsOpenCall, IsDeadCall, InOrder, is_starting, has_started, has_died}
-use Rattle.wh_script_model.specs.ScriptState.{NamedInstance, with_first_open, open_number, open_behind, start_failed, ended_so, cancel_first}
-use Rattle.wh_script_model.specs.Answers.{with_fuel}
+use Rattle.wh_model.specs.Execution.{Outcome, returned, stopped, cancelled, dead, pending, Call, fails}
+use Rattle.wh_host_model.specs.Host.{HasJournal, World, Tenant, journal, journal_calls, ended_by, dies, more_fuel, HasEnded, IsEnded, IsOpenCall, IsDeadCall, InOrder, is_starting, has_started, has_died}
+use Rattle.wh_host_model.specs.{Entry, is_open, first_open}
+use Rattle.wh_script_model.specs.{NamedInstance, with_first_open, open_number, open_behind, start_failed, ended_so, cancel_first, with_fuel}
 use Rattle.wh_host_model.proofs.Host.Entries.{calls_join}
 use Rattle.wh_script_model.proofs.Once.{passes, stops_there}
 

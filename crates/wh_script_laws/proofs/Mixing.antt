@@ -1,7 +1,7 @@
 -- Faults that are split among pairs.
 use Rattle.std.proofs.Common.{◌≡◌, ℕ, zero, suc, List, [], ◌∷◌, Option, Some, None, get_or, slice_set, refl, subst}
 use Rattle.std.specs.List.{AllZip}
-use Rattle.wh_script_model.specs.Failing.{AreMixed, none_left, one_own, one_other, ZipAmid}
+use Rattle.wh_script_model.specs.{AreMixed, none_left, one_own, one_other, ZipAmid}
 
 pub mixed_others : (all : List ℕ) → AreMixed [] all all
 mixed_others [] = none_left
@@ -17,14 +17,6 @@ zip_none P R so faults [] [] h = tt
 zip_none P R so faults [] (y ∷ ys) h = absurd h
 zip_none P R so faults (x ∷ xs) [] h = absurd h
 zip_none P R so faults (x ∷ xs) (y ∷ ys) h = ([], faults, mixed_others faults, so x y h.0, zip_none P R so faults xs ys h.1)
-
--- whatever their faults are
-pub zip_any : {A B : Type 0} (R : List ℕ → A → B → Type 0) (P : A → B → Type 0) → ((own : List ℕ) (a : A) (b : B) → R own a b → P a b)
-    → (faults : List ℕ) (xs : List A) (ys : List B) → ZipAmid R faults xs ys → AllZip P xs ys
-zip_any R P so faults [] [] h = tt
-zip_any R P so faults [] (y ∷ ys) h = absurd h
-zip_any R P so faults (x ∷ xs) [] h = absurd h
-zip_any R P so faults (x ∷ xs) (y ∷ ys) h = (so h.0 x y h.3, zip_any R P so h.1 xs ys h.4)
 
 pub zip_amid_so : {A B : Type 0} (R S : List ℕ → A → B → Type 0) → ((own : List ℕ) (a : A) (b : B) → R own a b → S own a b)
     → (faults : List ℕ) (xs : List A) (ys : List B) → ZipAmid R faults xs ys → ZipAmid S faults xs ys

@@ -2,14 +2,11 @@
 use Rattle.std.proofs.Common.{◌≡◌, ◌≢◌, ◌∙◌, ◌⊎◌, ⊎_elim, inl, inr, ℕ, zero, suc, List, [], ◌∷◌, ◌++◌, get_or, slice_get, Option, Some, None, false, refl, sym, ap, subst}
 use Rattle.std.proofs.lemmas.Option.{same_Some}
 use Rattle.std.specs.List.{AllZip}
-use Rattle.wh_model.specs.Execution.Replay.{Call}
-use Rattle.wh_host_model.specs.Host.Journals.{InOrder}
-use Rattle.wh_host_model.specs.Host.Laws.{HasJournal}
-use Rattle.wh_host_model.specs.Host.Worlds.{for_frame, Tenant, World, journal, journal_calls, store_in}
-use Rattle.wh_host_model.specs.Host.Suspensions.{FirstWaitsDuly}
-use Rattle.wh_host_model.specs.Owners.{Entry, first_open, given_of}
-use Rattle.wh_host_model.specs.Space.Parts.{view, wants}
-use Rattle.wh_script_model.specs.ScriptState.{MayUseFuel, NamedInstance}
+use Rattle.wh_model.specs.Execution.{Call}
+use Rattle.wh_host_model.specs.Host.{InOrder, HasJournal, for_frame, Tenant, World, journal, journal_calls, store_in, FirstWaitsDuly}
+use Rattle.wh_host_model.specs.{Entry, first_open, given_of}
+use Rattle.wh_space_model.specs.{view, wants}
+use Rattle.wh_script_model.specs.{MayUseFuel, NamedInstance}
 use Rattle.wh_host_model.proofs.Host.Holding.{instances_replay, journals_are_in_order, suspensions_are_right}
 use Rattle.wh_script_laws.specs.Following.{IsFueled, AreSame, device_fault, IsFollowed, is_there, StandsSame}
 use Rattle.wh_script_laws.specs.Laws.{GoingIsKnown, OpenIsKnown}

@@ -3,17 +3,15 @@ use Rattle.std.proofs.Common.{◌≡◌, ℕ, zero, suc, ◌+◌, ◌⊎◌, ⊎
 use Rattle.std.specs.List.{AllZip, AllByRecursion}
 use Rattle.std.proofs.lemmas.Option.{none-some, same_Some}
 use Rattle.wh_model.specs.Execution.Store.{Instance, Store}
-use Rattle.wh_model.specs.Execution.Instance.{Piece, Parameters}
-use Rattle.wh_model.specs.Execution.Replay.{Outcome, returned, stopped, cancelled, dead, pending, Call, Waits, Standing, Replays, ended, at_work, Replay}
-use Rattle.wh_model.specs.Format.Syntax.{Module}
+use Rattle.wh_model.specs.Execution.{Piece, Parameters, Outcome, returned, stopped, cancelled, dead, pending, Call, Waits, Standing, Replays, ended, at_work}
+use Rattle.wh_model.specs.Execution.Replay.{Replay}
+use Rattle.wh_model.specs.Format.{Module}
 use Rattle.wh_script_model.specs.Texts as texts
-use Rattle.wh_script_model.specs.Texts.{CallStatus, Reply}
-use Rattle.wh_script_model.specs.ScriptState.{NamedInstance, Invoked, ScriptState, call_rejected, call_accepted, InvokeOutcome, with_first_open, cancel_first, ended_so}
-use Rattle.wh_host_model.specs.Owners.{is_open, first_open}
-use Rattle.wh_script_model.specs.Drains.{ComesTo, status_by, call_status, PrintsStart, has_none, has_one, PrintStarts, PrintsCall, is_refused, is_taken, PrintCalls}
+use Rattle.wh_script_model.specs.{CallStatus, Reply, NamedInstance, Invoked, call_rejected, call_accepted, InvokeOutcome, with_first_open, cancel_first, ended_so, ComesTo, status_by, call_status, PrintsStart, has_none, has_one, PrintStarts, PrintsCall, is_refused, is_taken, PrintCalls, DrainsAmid, RunsAmid, ZipAmid, gone_still, stands_still, runs_on}
+use Rattle.wh_script_model.specs.ScriptState.{ScriptState}
+use Rattle.wh_host_model.specs.{is_open, first_open}
 use Rattle.wh_script_model.proofs.Once.{end_closed}
 use Rattle.wh_script_laws.proofs.Ended.{ended_as_said, run_ended, run_start, run_starts_first, start_still_ended}
-use Rattle.wh_script_model.specs.Failing.{DrainsAmid, RunsAmid, ZipAmid, gone_still, stands_still, runs_on}
 use Rattle.wh_script_laws.specs.Printed.{HasEndedSo, StartsFirst, when_released, HasStart, IsPrinted, WasPrinted, IsReleased, AllArePrinted, IsWellMade}
 
 -- ---- places of lists
@@ -180,7 +178,7 @@ gone_before faults g _ (gone_still gone) released = refl
 gone_before faults g _ (stands_still live stands) released = refl
 gone_before faults g _ (runs_on live faultless come replay rest) released = absurd (cc (live, released))
 
-pub runs_well : (faults : List ℕ) (m : ScriptState) (run : List NamedInstance) → IsWellMade m → ZipAmid RunsAmid faults m.instances run → IsWellMade (record m { instances = run })
+pub runs_well : (faults : List ℕ) (m : ScriptState) (run : List NamedInstance) → IsWellMade m → ZipAmid RunsAmid faults m.instances run → IsWellMade (record m { instances = run; faults_met = faults ++ m.faults_met })
 runs_well faults m run h all = record {
   there = record {
     starts = λ j r e.

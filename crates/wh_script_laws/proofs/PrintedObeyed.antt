@@ -1,16 +1,13 @@
 -- What has been said of calls stays true where a line is obeyed.
 use Rattle.std.proofs.Common.{◌≡◌, ℕ, zero, suc, ⊎_elim, Bool, true, false, List, [], ◌∷◌, ◌++◌, length, take, slice_get, slice_set, Option, Some, None, is_some, ℤ, refl, sym, ap, subst, ◌∙◌}
 use Rattle.std.proofs.lemmas.Option.{none-some, same_Some}
-use Rattle.wh_model.specs.Format.Syntax.{Module}
-use Rattle.wh_model.specs.Execution.Replay.{Call, Standing, Replay}
-use Rattle.wh_host_model.specs.Owners.{Params, given_of, first_open}
+use Rattle.wh_model.specs.Format.{Module}
+use Rattle.wh_model.specs.Execution.Replay.{Replay}
+use Rattle.wh_model.specs.Execution.{Call, Standing}
+use Rattle.wh_host_model.specs.{Params, given_of, first_open}
 use Rattle.wh_script_model.specs.Settings.{Settings}
-use Rattle.wh_script_model.specs.Commands.{Command}
-use Rattle.wh_script_model.specs.Texts.{CallStatus, Reply}
-use Rattle.wh_script_model.specs.ScriptState.{NamedInstance, Invoked, ScriptState, call_rejected, call_accepted, InvokeOutcome, with_instance, with_invoked, empty_script}
-use Rattle.wh_script_model.specs.Drains.{status_by, call_status}
-use Rattle.wh_script_model.specs.Receiving.{ReceivesModule, module_is_kept, module_isnt_kept, module_out_of_memory, ReceivesInstance, is_admitted, isnt_admitted, admission_out_of_memory, ReceivesCall, instance_is_gone, isnt_invoked, is_invoked, call_out_of_memory}
-use Rattle.wh_script_model.specs.Answers.{Files, IsObeyed, module_name_is_taken, no_file, module_comes, no_such_module, instance_name_is_taken, instance_comes, no_such_instance, is_drained, is_scanned, is_reported, is_refueled, no_one_to_refuel, no_call_to_refuel, is_cancelled, no_one_to_cancel, no_call_to_cancel, is_retried, no_one_to_retry, no_fault_to_retry, is_released, no_one_to_release}
+use Rattle.wh_script_model.specs.{Command, CallStatus, Reply, NamedInstance, Invoked, call_rejected, call_accepted, InvokeOutcome, with_instance, with_invoked, empty_script, status_by, call_status, ReceivesModule, module_is_kept, module_isnt_kept, module_out_of_memory, ReceivesInstance, is_admitted, isnt_admitted, admission_out_of_memory, ReceivesCall, instance_is_gone, isnt_invoked, is_invoked, call_out_of_memory, Files, IsObeyed, module_name_is_taken, no_file, module_comes, no_such_module, instance_name_is_taken, instance_comes, no_such_instance, is_drained, is_scanned, is_reported, is_refueled, no_one_to_refuel, no_call_to_refuel, is_cancelled, no_one_to_cancel, no_call_to_cancel, is_retried, no_one_to_retry, no_fault_to_retry, is_released, no_one_to_release}
+use Rattle.wh_script_model.specs.ScriptState.{ScriptState}
 use Rattle.wh_script_laws.specs.Printed.{StartsFirst, HasStart, IsPrinted, WasPrinted, ArePrinted, IsReleased, AllArePrinted, CallsAreThere, IsWellMade}
 use Rattle.wh_script_laws.proofs.Ended.{KeepsEnded, none_changes, first_open_changes, cancel_changes, starts_first_pushed, starts_first_changed, starts_first_cancelled}
 use Rattle.wh_script_laws.proofs.EndedObeyed.{none_ended, push_changes, ended_with, ended_guest, ended_call}

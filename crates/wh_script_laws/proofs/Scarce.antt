@@ -1,12 +1,9 @@
 -- Where no reply names out of memory, no memory ran out.
 use Rattle.std.proofs.Common.{◌≡◌, ℕ, ◌+◌, true, false, List, [], ◌∷◌, ◌++◌, slice_get, Some, None, zero, suc, refl, sym, subst}
 use Rattle.wh_script_model.specs.Settings.{Settings}
-use Rattle.wh_script_model.specs.Commands.{Command}
-use Rattle.wh_script_model.specs.Texts.{Reply}
-use Rattle.wh_script_model.specs.ScriptState.{NamedInstance, Invoked, ScriptState, empty_script, call_rejected}
-use Rattle.wh_script_model.specs.Drains.{as_before, anew, PrintsCall, is_refused, is_taken, PrintCalls, Drains}
-use Rattle.wh_script_model.specs.Receiving.{ReceivesModule, module_is_kept, module_isnt_kept, module_out_of_memory, decoder_out_of_memory, validator_out_of_memory, linker_out_of_memory, host_out_of_memory, ReceivesInstance, is_admitted, isnt_admitted, admission_out_of_memory, ReceivesCall, instance_is_gone, isnt_invoked, is_invoked, call_out_of_memory}
-use Rattle.wh_script_model.specs.Answers.{Files, IsObeyed, module_name_is_taken, no_file, module_comes, no_such_module, instance_name_is_taken, instance_comes, no_such_instance, is_drained, is_scanned, is_reported, is_refueled, no_one_to_refuel, no_call_to_refuel, is_cancelled, no_one_to_cancel, no_call_to_cancel, is_retried, no_one_to_retry, no_fault_to_retry, is_released, no_one_to_release, AnswersLine, skipped, invoked, obeyed, too_long, no_command, line_out_of_memory, AnswersLines, AnswersScript}
+use Rattle.wh_script_model.specs.{Command, Reply, NamedInstance, Invoked, empty_script, call_rejected, as_before, anew, PrintsCall, is_refused, is_taken, PrintCalls, ReceivesModule, module_is_kept, module_isnt_kept, module_out_of_memory, decoder_out_of_memory, validator_out_of_memory, linker_out_of_memory, host_out_of_memory, ReceivesInstance, is_admitted, isnt_admitted, admission_out_of_memory, ReceivesCall, instance_is_gone, isnt_invoked, is_invoked, call_out_of_memory, Files, IsObeyed, module_name_is_taken, no_file, module_comes, no_such_module, instance_name_is_taken, instance_comes, no_such_instance, is_drained, is_scanned, is_reported, is_refueled, no_one_to_refuel, no_call_to_refuel, is_cancelled, no_one_to_cancel, no_call_to_cancel, is_retried, no_one_to_retry, no_fault_to_retry, is_released, no_one_to_release, AnswersLine, skipped, invoked, obeyed, too_long, no_command, line_out_of_memory, AnswersLines, AnswersScript}
+use Rattle.wh_script_model.specs.ScriptState.{ScriptState}
+use Rattle.wh_script_model.specs.Drains.{Drains}
 use Rattle.wh_script_laws.specs.OutOfMemory.{IsOutOfMemory, NoneIsOutOfMemory}
 use Rattle.wh_script_laws.proofs.CommandsKnown.{last_there}
 
@@ -56,7 +53,7 @@ call_leaves w w2 i g name fuel given (is_invoked vs e bar own args) u = stays_un
 call_leaves w w2 i g name fuel given (call_out_of_memory s e bar) u = stays_unsaid w.invoked _ u
 
 module _ (settings : Settings) (files : Files) where
-  here_leaves : (w w2 : ScriptState) (number : ℕ) (line : List ℕ) (replies : List Reply) → AnswersLine true settings files w number line replies w2 → IsUnsaid w.invoked
+  here_leaves : (w w2 : ScriptState) (number : ℕ) (line : List ℕ) (replies : List Reply) → AnswersLine Drains true settings files w number line replies w2 → IsUnsaid w.invoked
       → NoneIsOutOfMemory replies → IsUnsaid w2.invoked
   here_leaves w w2 number line replies (skipped e) u plenty = u
   here_leaves w w2 number line replies (invoked {inst = inst} {export = export} {fuel = fuel} {args = args} i {g = g} read asks has calls) u plenty = call_leaves w w2 i g export fuel args calls u
@@ -65,7 +62,7 @@ module _ (settings : Settings) (files : Files) where
   here_leaves w w2 number line replies (no_command {lines = lines} {w1 = w1} read none d) u plenty = absurd (drain_says w w1 lines d u (first_part lines _ plenty))
   here_leaves w w2 number line replies (line_out_of_memory {lines = lines} {w1 = w1} s read d) u plenty = absurd (drain_says w w1 lines d u (first_part lines _ plenty))
 
-  lines_say : (w w2 w3 : ScriptState) (number : ℕ) (lines : List (List ℕ)) (replies last : List Reply) → AnswersLines true settings files w number lines replies w2
+  lines_say : (w w2 w3 : ScriptState) (number : ℕ) (lines : List (List ℕ)) (replies last : List Reply) → AnswersLines Drains true settings files w number lines replies w2
       → Drains w2 last w3 → IsUnsaid w.invoked → NoneIsOutOfMemory replies → NoneIsOutOfMemory last → ⊥
   lines_say w w2 w3 number [] replies last p d u plenty end = drain_says w2 w3 last d (subst (λ (m : ScriptState). IsUnsaid m.invoked) (sym p.1) u) end
   lines_say w w2 w3 number (line ∷ lines) replies last p d u plenty end =
@@ -123,8 +120,8 @@ module _ (settings : Settings) (files : Files) where
   obeyed_plain w w2 number command replies (is_released i z has live replay) plenty = is_released i z has live replay
   obeyed_plain w w2 number command replies (no_one_to_release i has gone) plenty = no_one_to_release i has gone
 
-  line_plain : (w w2 : ScriptState) (number : ℕ) (line : List ℕ) (replies : List Reply) → AnswersLine true settings files w number line replies w2
-      → NoneIsOutOfMemory replies → ¬ (IsUnsaid w2.invoked) → AnswersLine false settings files w number line replies w2
+  line_plain : (w w2 : ScriptState) (number : ℕ) (line : List ℕ) (replies : List Reply) → AnswersLine Drains true settings files w number line replies w2
+      → NoneIsOutOfMemory replies → ¬ (IsUnsaid w2.invoked) → AnswersLine Drains false settings files w number line replies w2
   line_plain w w2 number line replies (skipped e) plenty unsaid = skipped e
   line_plain w w2 number line replies (invoked i read asks has calls) plenty unsaid = invoked i read asks has (call_plain w w2 _ _ _ _ _ calls unsaid)
   line_plain w w2 number line replies (obeyed {command = command} {lines = lines} {replies = rest} {w1 = w1} read asks d is) plenty unsaid =
@@ -133,8 +130,8 @@ module _ (settings : Settings) (files : Files) where
   line_plain w w2 number line replies (no_command read none d) plenty unsaid = no_command read none d
   line_plain w w2 number line replies (line_out_of_memory {lines = lines} s read d) plenty unsaid = absurd ((last_part lines _ plenty).0 refl)
 
-  lines_plain : (w w2 w3 : ScriptState) (number : ℕ) (lines : List (List ℕ)) (replies last : List Reply) → AnswersLines true settings files w number lines replies w2
-      → Drains w2 last w3 → NoneIsOutOfMemory replies → NoneIsOutOfMemory last → AnswersLines false settings files w number lines replies w2
+  lines_plain : (w w2 w3 : ScriptState) (number : ℕ) (lines : List (List ℕ)) (replies last : List Reply) → AnswersLines Drains true settings files w number lines replies w2
+      → Drains w2 last w3 → NoneIsOutOfMemory replies → NoneIsOutOfMemory last → AnswersLines Drains false settings files w number lines replies w2
   lines_plain w w2 w3 number [] replies last p d plenty end = p
   lines_plain w w2 w3 number (line ∷ lines) replies last p d plenty end =
       let all = subst NoneIsOutOfMemory p.3 plenty in
@@ -147,8 +144,8 @@ module _ (settings : Settings) (files : Files) where
         lines_plain p.2 w2 w3 (number + 1) lines p.1 last p.5 d back end,
       )
 
-pub wants_are_named : (settings : Settings) (files : Files) (lines : List (List ℕ)) (replies : List Reply) → AnswersScript true settings files lines replies
-    → NoneIsOutOfMemory replies → AnswersScript false settings files lines replies
+pub wants_are_named : (settings : Settings) (files : Files) (lines : List (List ℕ)) (replies : List Reply) → AnswersScript Drains true settings files lines replies
+    → NoneIsOutOfMemory replies → AnswersScript Drains false settings files lines replies
 wants_are_named settings files lines replies a plenty =
     let all = subst NoneIsOutOfMemory a.replies_are plenty in
     record {

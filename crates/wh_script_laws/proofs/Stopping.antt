@@ -1,11 +1,10 @@
--- Faults stop few, and bring no call back; and who stands for one goes on only where it is tried again.
+-- Faults stop few, and bring no call back; and who represents one goes on only where it is tried again.
 use Rattle.std.proofs.Common.{◌≡◌, ◌≤◌, ◌∙◌, ℕ, ◌+◌, List, [], ◌∷◌, length, Option, Some, None, refl, sym, arith}
 use Rattle.std.proofs.lemmas.Option.{none-some}
 use Rattle.std.specs.List.{AllZip}
-use Rattle.wh_model.specs.Execution.Replay.{Call, Standing}
+use Rattle.wh_model.specs.Execution.{Call, Standing}
 use Rattle.wh_model.specs.Execution.Store.{Instance}
-use Rattle.wh_script_model.specs.ScriptState.{NamedInstance}
-use Rattle.wh_script_model.specs.Failing.{LosesNothing, RestsAmid, rests_alone, meets_fault, RunsAmid, gone_still, stands_still, runs_on, AreMixed, none_left, one_own, one_other}
+use Rattle.wh_script_model.specs.{NamedInstance, LosesNothing, RestsAmid, rests_alone, meets_fault, RunsAmid, gone_still, stands_still, runs_on, AreMixed, none_left, one_own, one_other}
 use Rattle.wh_script_laws.specs.Failures.{newly_stopped, NoCallGoesBack, NoneGoesOnUnasked, FaultsStopFew}
 
 loses_none : (calls : List Call) → AllZip LosesNothing calls calls
@@ -45,9 +44,8 @@ rest_stops : (faults : List ℕ) (inst : Instance) (before calls : List Call) (z
     → newly_stopped was o ≤ length faults
 rest_stops faults inst before calls z was _ (rests_alone rest) = let none = not_stopped was in omega (arith, none)
 rest_stops faults inst before calls z was _ (meets_fault {fault = fault} c first needs lost met) =
-    let within = met.1 in
     let one = one_at_most was fault in
-    omega (arith, within, one)
+    omega (arith, met.1, one)
 
 run_stops : (own : List ℕ) (g g2 : NamedInstance) → RunsAmid own g g2 → newly_stopped g.at_fault g2.at_fault ≤ length own
 run_stops own g _ (gone_still gone) = let none = not_newly g.at_fault in omega (arith, none)

@@ -1,13 +1,10 @@
 -- Where no ticket is out, what was promised at each place decides how much is promised in all.
 use Rattle.std.proofs.Common.{◌≡◌, ℕ, zero, suc, ◌+◌, ◌-◌, ◌≤◌, Bool, true, false, List, [], ◌∷◌, Option, Some, None, get_or, slice_get, refl, sym, ap, ◌∙◌, arith}
 use Rattle.std.proofs.lemmas.Bool.Decides.{nat_tests}
-use Rattle.wh_host_model.specs.Frames.{tally, one_if}
-use Rattle.wh_host_model.specs.declared.states.Slot.{Slot}
-use Rattle.wh_host_model.specs.declared.states.Slot.TheVariants.{Vacant, Taken, Evicting, EvictVoid, Fetching, FetchVoid}
-use Rattle.wh_host_model.specs.Space.Errands.{is_ticket, ticket_of, tickets}
-use Rattle.wh_host_model.specs.Space.Parts.{Space, Occupant, Claimed, claim, claim_of, of_occupant, minima, spreads}
-use Rattle.wh_host_model.specs.Space.Sound.{IsSound}
-use Rattle.wh_host_model.proofs.Space.Sums.{tally_le}
+use Rattle.wh_space_model.specs.{tally, one_if, is_ticket, ticket_of, tickets, Space, Occupant, Claimed, claim, claim_of, of_occupant, minima, spreads, IsSound}
+use Rattle.wh_space_model.specs.declared.states.Slot.{Slot}
+use Rattle.wh_space_model.specs.declared.states.Slot.TheVariants.{Vacant, Taken, Evicting, EvictVoid, Fetching, FetchVoid}
+use Rattle.wh_space_model.proofs.Sums.{tally_le}
 
 -- ---- sums over two lists that are alike but at one place
 

@@ -1,16 +1,12 @@
 -- The sums of what instances were promised, where the claim at one place is another.
 use Rattle.std.proofs.Common.{◌≡◌, ◌≢◌, ℕ, ◌+◌, ◌-◌, ◌≤◌, inl, inr, cond, Bool, true, false, List, [], ◌∷◌, length, get_or, slice_get, Option, Some, None, zero, suc, refl, sym, ap, ◌∙◌, arith}
 use Rattle.std.proofs.lemmas.Bool.Decides.{nat_tests}
-use Rattle.wh_host_model.specs.Frames.{tally, one_if}
-use Rattle.wh_host_model.specs.declared.states.Slot.{Slot}
-use Rattle.wh_host_model.specs.declared.states.Slot.TheVariants.{Vacant, Taken, Evicting, EvictVoid, Fetching, FetchVoid}
-use Rattle.wh_host_model.specs.Space.Parts.{Space, Occupant, Claimed, occupant_at, claim_of, claim, of_occupant, minima, spreads}
-use Rattle.wh_host_model.specs.Space.Errands.{tickets, is_ticket, ticket_of}
-use Rattle.wh_host_model.specs.Space.Sound.{IsSound}
-use Rattle.wh_host_model.specs.Space.Places.{IsFreePlace}
-use Rattle.wh_host_model.specs.Host.Spaces.{OthersLeftAlone}
-use Rattle.wh_host_model.proofs.Space.Putting.{get_or_is}
-use Rattle.wh_host_model.proofs.Space.Sums.{tally_le}
+use Rattle.wh_space_model.specs.{tally, one_if, Space, Occupant, Claimed, occupant_at, claim_of, claim, of_occupant, minima, spreads, tickets, is_ticket, ticket_of, IsSound, IsFreePlace}
+use Rattle.wh_space_model.specs.declared.states.Slot.{Slot}
+use Rattle.wh_space_model.specs.declared.states.Slot.TheVariants.{Vacant, Taken, Evicting, EvictVoid, Fetching, FetchVoid}
+use Rattle.wh_host_model.specs.Host.{OthersLeftAlone}
+use Rattle.wh_space_model.proofs.Putting.{get_or_is}
+use Rattle.wh_space_model.proofs.Sums.{tally_le}
 
 -- ---- where no ticket is out, all are live
 

@@ -3,29 +3,20 @@ use Rattle.std.proofs.Common.{◌≡◌, ◌≢◌, ℕ, zero, suc, ◌+◌, ◌
 use Rattle.std.proofs.lemmas.Option.{none-some, same_Some}
 use Rattle.std.specs.List.{AllZip, AllByRecursion}
 use Rattle.wh_model.specs.declared.memory.Need.{Need}
-use Rattle.wh_model.specs.Format.Syntax.{Module}
+use Rattle.wh_model.specs.Format.{Module}
 use Rattle.wh_model.specs.Execution.Store.{Instance}
-use Rattle.wh_model.specs.Execution.Replay.{Outcome, cancelled, dead, Call}
-use Rattle.wh_host_model.specs.declared.Tax.{Tax}
-use Rattle.wh_host_model.specs.declared.plain.InstId.{InstId}
+use Rattle.wh_model.specs.Execution.{Outcome, cancelled, dead, Call}
+use Rattle.wh_space_model.specs.declared.Tax.{Tax}
+use Rattle.wh_space_model.specs.declared.plain.InstId.{InstId}
 use Rattle.wh_host_model.specs.declared.plain.TurnEnd.{TurnEnd}
-use Rattle.wh_host_model.specs.Space.Parts.{Space, claim}
-use Rattle.wh_host_model.specs.Space.Sound.{IsSound}
-use Rattle.wh_host_model.specs.Host.Worlds.{Rest, Doing, Suspension, for_frame, for_device, Tenant, World, journal, journal_calls, with_tenant}
-use Rattle.wh_host_model.specs.Owners.{Entry, is_open}
-use Rattle.wh_host_model.specs.Host.Turns.{to_end, Proceeds, returns, traps, writes_all}
-use Rattle.wh_host_model.specs.Host.CallAnswers.{ended_by, gone_further, Closes, faces_next, is_dead, at_frame, Turn, is_idle, has_ended, has_no_fuel, has_no_frame, can_go_on, keeps_its_fault}
-use Rattle.wh_host_model.specs.Host.Journals.{IsOpenCall, InOrder, is_starting, has_started, has_died}
-use Rattle.wh_host_model.specs.Host.Happens.{IsLive, IsTurn, of_none, of_one}
-use Rattle.wh_host_model.specs.Host.Laws.{AfterEvents}
-use Rattle.wh_host_model.specs.Host.Suspensions.{CanGoOn}
-use Rattle.wh_host_model.specs.declared.plain.SwapError.{SwapError}
-use Rattle.wh_script_model.specs.ScriptState.{NamedInstance, ScriptState}
-use Rattle.wh_script_model.specs.Drains.{ComesTo, had_ended, goes_on}
-use Rattle.wh_script_model.specs.Served.{IsTenantOf}
+use Rattle.wh_space_model.specs.{Space, claim, IsSound}
+use Rattle.wh_host_model.specs.Host.{Rest, Doing, Suspension, for_frame, for_device, Tenant, World, journal, journal_calls, with_tenant, to_end, Proceeds, returns, traps, writes_all, ended_by, gone_further, Closes, faces_next, is_dead, at_frame, Turn, is_idle, has_ended, has_no_fuel, has_no_frame, can_go_on, keeps_its_fault, IsOpenCall, InOrder, is_starting, has_started, has_died, IsLive, IsTurn, of_none, of_one, AfterEvents, CanGoOn}
+use Rattle.wh_host_model.specs.{Entry, is_open}
+use Rattle.wh_space_model.specs.declared.plain.SwapError.{SwapError}
+use Rattle.wh_script_model.specs.ScriptState.{ScriptState}
+use Rattle.wh_script_model.specs.{NamedInstance, ComesTo, had_ended, goes_on, IsTenantOf, LosesNothing}
 use Rattle.wh_host_model.proofs.Host.Holding.{memory_is_sound, journals_are_in_order}
 use Rattle.wh_host_model.proofs.Host.Opening.{Apart, apart_then, apart_steps, proceeds_apart}
-use Rattle.wh_script_model.specs.Failing.{LosesNothing}
 use Rattle.wh_script_laws.specs.Following.{ComesFurther, ComeFurther, is_there, IsModuleKept, IsPlaced, IsRunAmid, AreRunAmid, StandsAmid, device_fault}
 use Rattle.wh_script_laws.specs.Laws.{TurnsFollow}
 use Rattle.wh_script_laws.proofs.Mixing.{zip_amid_set}
@@ -41,10 +32,6 @@ comes_then a b c (goes_on open_yet alive) (goes_on open_then alive_then) = goes_
 
 loses_then : (a b c : Call) → LosesNothing a b → LosesNothing b c → LosesNothing a c
 loses_then a b c x y =
-    let p = x.fragments in
-    let q = y.fragments in
-    let r = x.charges in
-    let s = y.charges in
     record { fragments = omega arith; charges = omega arith }
 
 come_then : (xs ys zs : List Call) → ComeFurther xs ys → ComeFurther ys zs → ComeFurther xs zs
@@ -91,7 +78,7 @@ never_cancelled (returns x y) e = absurd (cc e)
 never_cancelled (traps x) e = absurd (cc e)
 never_cancelled (writes_all x y z) e = absurd (cc e)
 
--- who stood for nothing, or waited for a frame, stands for no fault of a device where it waits for a frame then
+-- who was blocked on nothing, or waited for a frame, is blocked on no fault of a device where it waits for a frame then
 no_fault_at_frame : (steps : ℕ) (o : Option Suspension) → (o ≡ None) ⊎ (o ≡ Some for_frame) → device_fault (at_frame steps o) ≡ None
 no_fault_at_frame steps o (inl none) = subst (λ x. device_fault (at_frame steps x) ≡ None) (sym none) (of_none steps) where
   of_none : (n : ℕ) → device_fault (at_frame n None) ≡ None
@@ -102,7 +89,7 @@ no_fault_at_frame steps o (inr frame) = subst (λ x. device_fault (at_frame step
   of_frame zero = refl
   of_frame (suc n) = refl
 
--- the same instance, of which calls have come further, and which stands for no fault of a device
+-- the same instance, of which calls have come further, and which is blocked on no fault of a device
 record TurnLeaves (s s2 : Space) (t t2 : Tenant) : Type 0 where
   place : t2.place ≡ t.place
   of : t2.of ≡ t.of

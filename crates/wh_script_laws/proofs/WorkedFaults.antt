@@ -6,32 +6,22 @@ use Rattle.std.proofs.lemmas.Option.{none-some}
 use Rattle.std.specs.List.{AllZip, Contains}
 use Rattle.wh_model.specs.declared.ValType.TheVariants.{I32}
 use Rattle.wh_model.specs.declared.StoreOp.TheVariants.{I32Store8}
-use Rattle.wh_model.specs.Format.Syntax.{store, nothing, plain}
-use Rattle.wh_model.specs.Execution.Asking.{Asks}
+use Rattle.wh_model.specs.Format.{store, nothing, plain}
+use Rattle.wh_model.specs.Execution.{Asks, unsigned, value, own, bytes_of, written, Beginning, memory_min, segment_bounds, begins, IsInitial, in_bounds, After, IsNext, Outcome, returned, dead, pending, Call, Stands, is_under_way, idle, at_rest, ended, at_work, has_written, was_cancelled}
 use Rattle.wh_model.specs.Execution.Memory.{writing}
-use Rattle.wh_model.specs.Execution.Numbers.{unsigned}
-use Rattle.wh_model.specs.Execution.Store.{value, own, Instance, Store, bytes_of, written}
-use Rattle.wh_model.specs.Execution.Instance.{Beginning, memory_min, segment_bounds, begins, IsInitial, in_bounds}
-use Rattle.wh_model.specs.Execution.Reduction.{After, IsNext}
+use Rattle.wh_model.specs.Execution.Store.{Instance, Store}
 use Rattle.wh_model.specs.Execution.Replay as replay
-use Rattle.wh_model.specs.Execution.Replay.{Outcome, returned, dead, pending, Call, Stands, is_under_way, idle, at_rest, ended, at_work, has_written, was_cancelled, Replay}
-use Rattle.wh_model.specs.Focus.Focused.{Focused, running, finished, activation, plug}
-use Rattle.wh_model.specs.Focus.FocusSteps.{Steps, steps, rests}
+use Rattle.wh_model.specs.Execution.Replay.{Replay}
+use Rattle.wh_model.specs.Focus.Focused.{Focused}
+use Rattle.wh_model.specs.Focus.{running, finished, activation, plug, Steps, steps, rests}
 use Rattle.wh_model.proofs.Agrees.{after_agrees}
 use Rattle.wh_model.proofs.Instance.{one_beginning}
 use Rattle.wh_model.proofs.Journals.{done_replays}
 use Rattle.wh_model.proofs.StepsReduce.{steps_reduce}
-use Rattle.wh_host_model.specs.Owners.{given_of, no_module, shares, min_max, frames, swap, instances, memory, segments, no_export, arguments, queue_full, instance_dead, journal_full, is_open, ExportsOwn}
-use Rattle.wh_script_model.specs.Settings.{default_settings}
-use Rattle.wh_script_model.specs.Commands.{admit}
+use Rattle.wh_host_model.specs.{given_of, no_module, shares, min_max, frames, swap, instances, memory, segments, no_export, arguments, queue_full, instance_dead, journal_full, is_open, ExportsOwn}
+use Rattle.wh_script_model.specs.{default_settings, admit, CallStatus, call, done, wants_frame, admit_ok, call_is, NamedInstance, call_accepted, Invoked, had_ended, goes_on, all_ended, has_none, as_before, anew, is_taken, MeetsNoLimit, MeetsNoBar, new_instance, is_admitted, is_invoked, instance_comes, is_cancelled, is_retried, no_fault_to_retry, NeedsBytes, for_a_step, LosesNothing, rests_alone, meets_fault, none_left, one_own, stands_still, runs_on, DrainsAmid, only_module, some_params, IsObeyedHere}
 use Rattle.wh_script_model.specs.Texts as texts
-use Rattle.wh_script_model.specs.Texts.{CallStatus, call, done, wants_frame, admit_ok, call_is}
-use Rattle.wh_script_model.specs.ScriptState.{NamedInstance, call_accepted, Invoked, ScriptState}
-use Rattle.wh_script_model.specs.Drains.{had_ended, goes_on, all_ended, has_none, as_before, anew, is_taken}
-use Rattle.wh_script_model.specs.Receiving.{MeetsNoLimit, MeetsNoBar, new_instance, is_admitted, is_invoked}
-use Rattle.wh_script_model.specs.Answers.{instance_comes, is_cancelled, is_retried, no_fault_to_retry}
-use Rattle.wh_script_model.specs.Failing.{NeedsBytes, for_a_step, LosesNothing, rests_alone, meets_fault, none_left, one_own, stands_still, runs_on, DrainsAmid}
-use Rattle.wh_script_model.specs.WorkedScripts.{only_module, some_params, IsObeyedHere}
+use Rattle.wh_script_model.specs.ScriptState.{ScriptState}
 use Rattle.wh_script_model.proofs.Beginning.{type_with, body_of}
 use Rattle.wh_script_model.proofs.Sevens.{the_start, returned_isnt, names_one}
 use Rattle.wh_script_laws.specs.WorkedFaults.{one_at_zero, with_one_page, StoreIsRetried, StoreIsCancelled}
@@ -87,26 +77,26 @@ no_limit instances h = omega (arith, h)
 no_limit memory h = isnt_refused memory_min refl h
 no_limit segments h = isnt_refused segment_bounds refl h
 
-abbrev guest : NamedInstance
-guest = new_instance (codes "a") (with_one_page one_at_zero) some_params the_instance []
+abbrev tenant : NamedInstance
+tenant = new_instance (codes "a") (with_one_page one_at_zero) some_params the_instance []
 
 -- with these calls, standing for this
-abbrev guest_with : List Call → Option ℕ → NamedInstance
-guest_with calls stands = record guest { calls = the_start ∷ calls; at_fault = stands }
+abbrev tenant_with : List Call → Option ℕ → NamedInstance
+tenant_with calls stands = record tenant { calls = the_start ∷ calls; at_fault = stands }
 
-abbrev with_guest : NamedInstance → List Invoked → ScriptState
-with_guest g invoked = record (only_module (with_one_page one_at_zero)) { instances = g ∷ []; invoked = invoked }
+abbrev with_tenant : NamedInstance → List Invoked → ScriptState
+with_tenant g invoked = record (only_module (with_one_page one_at_zero)) { instances = g ∷ []; invoked = invoked }
 
 none_yet : (i : ℕ) (g : NamedInstance) → slice_get {X = NamedInstance} [] i ≡ Some g → ⊥
 none_yet i g h = none-some g h
 
-is_admitted_so : IsObeyedHere (only_module (with_one_page one_at_zero)) 2 (admit (codes "a") (codes "m") some_params) (admit_ok (codes "a") 0 ∷ []) (with_guest (guest_with [] None) [])
+is_admitted_so : IsObeyedHere (only_module (with_one_page one_at_zero)) 2 (admit (codes "a") (codes "m") some_params) (admit_ok (codes "a") 0 ∷ []) (with_tenant (tenant_with [] None) [])
 is_admitted_so = instance_comes (0, refl) (λ i g h. none_yet i g h.0) (is_admitted no_limit initial)
 
 exports_f : ExportsOwn (with_one_page one_at_zero) the_instance (codes "f") 0 (type_with []) (body_of one_at_zero)
 exports_f = record { place = 0; exported = refl; is_own = refl }
 
-no_bar : MeetsNoBar (guest_with [] None) (codes "f") []
+no_bar : MeetsNoBar (tenant_with [] None) (codes "f") []
 no_bar no_export h = h 0 _ _ exports_f
 no_bar arguments h = h 0 _ _ [] exports_f refl
 no_bar queue_full h = omega (arith, h)
@@ -220,8 +210,12 @@ replays_cancelled = (
 abbrev said_last : Option CallStatus → Invoked
 said_last status = record { outcome = call_accepted 0 1; last_printed = status }
 
+-- once the fault was met
+abbrev met_by : ScriptState → ScriptState
+met_by w = record w { faults_met = 2 ∷ [] }
+
 abbrev stuck : ScriptState
-stuck = with_guest (guest_with (call_for 0 pending ∷ []) (Some 2)) (said_last (Some (wants_frame 2 0)) ∷ [])
+stuck = met_by (with_tenant (tenant_with (call_for 0 pending ∷ []) (Some 2)) (said_last (Some (wants_frame 2 0)) ∷ []))
 
 met : Contains {X = ℕ} (2 ∷ []) 2
 met = (0, omega arith, refl)
@@ -232,10 +226,10 @@ lost_by c = record { fragments = omega arith; charges = omega arith }
 lost : AllZip LosesNothing (the_start ∷ call_for 0 pending ∷ []) (the_start ∷ call_for 0 pending ∷ [])
 lost = (lost_by the_start, (lost_by (call_for 0 pending), tt))
 
-first_drain : DrainsAmid (2 ∷ []) (with_guest (guest_with (call_for 0 pending ∷ []) None) (said_last None ∷ [])) (call_is (call 1) (wants_frame 2 0) ∷ []) stuck
+first_drain : DrainsAmid (2 ∷ []) (with_tenant (tenant_with (call_for 0 pending ∷ []) None) (said_last None ∷ [])) (call_is (call 1) (wants_frame 2 0) ∷ []) stuck
 first_drain = record {
-  run = guest_with (call_for 0 pending ∷ []) (Some 2) ∷ [];
-  instances = guest_with (call_for 0 pending ∷ []) (Some 2) ∷ [];
+  run = tenant_with (call_for 0 pending ∷ []) (Some 2) ∷ [];
+  instances = tenant_with (call_for 0 pending ∷ []) (Some 2) ∷ [];
   invoked = _;
   starts = [];
   calls = _;
@@ -257,11 +251,11 @@ was_done p = false≢true (sym (ap is_stuck p))
 was_cancelled_so : Some (wants_frame 2 0) ≡ Some (texts.cancelled 0) → ⊥
 was_cancelled_so p = false≢true (sym (ap is_stuck p))
 
-last_drain : DrainsAmid [] (with_guest (guest_with (call_for 0 pending ∷ []) None) (said_last (Some (wants_frame 2 0)) ∷ [])) (call_is (call 1) (done None 1) ∷ [])
-    (with_guest (guest_with (call_for 1 (returned []) ∷ []) None) (said_last (Some (done None 1)) ∷ []))
+last_drain : DrainsAmid [] (met_by (with_tenant (tenant_with (call_for 0 pending ∷ []) None) (said_last (Some (wants_frame 2 0)) ∷ []))) (call_is (call 1) (done None 1) ∷ [])
+    (met_by (with_tenant (tenant_with (call_for 1 (returned []) ∷ []) None) (said_last (Some (done None 1)) ∷ [])))
 last_drain = record {
-  run = guest_with (call_for 1 (returned []) ∷ []) None ∷ [];
-  instances = guest_with (call_for 1 (returned []) ∷ []) None ∷ [];
+  run = tenant_with (call_for 1 (returned []) ∷ []) None ∷ [];
+  instances = tenant_with (call_for 1 (returned []) ∷ []) None ∷ [];
   invoked = _;
   starts = [];
   calls = _;
@@ -274,8 +268,8 @@ last_drain = record {
 
 still_drain : DrainsAmid [] stuck [] stuck
 still_drain = record {
-  run = guest_with (call_for 0 pending ∷ []) (Some 2) ∷ [];
-  instances = guest_with (call_for 0 pending ∷ []) (Some 2) ∷ [];
+  run = tenant_with (call_for 0 pending ∷ []) (Some 2) ∷ [];
+  instances = tenant_with (call_for 0 pending ∷ []) (Some 2) ∷ [];
   invoked = _;
   starts = [];
   calls = _;
@@ -286,11 +280,11 @@ still_drain = record {
   after = refl;
 }
 
-cancelled_drain : DrainsAmid [] (with_guest (guest_with (call_for 0 replay.cancelled ∷ []) None) (said_last (Some (wants_frame 2 0)) ∷ [])) (call_is (call 1) (texts.cancelled 0) ∷ [])
-    (with_guest (guest_with (call_for 0 replay.cancelled ∷ []) None) (said_last (Some (texts.cancelled 0)) ∷ []))
+cancelled_drain : DrainsAmid [] (met_by (with_tenant (tenant_with (call_for 0 replay.cancelled ∷ []) None) (said_last (Some (wants_frame 2 0)) ∷ []))) (call_is (call 1) (texts.cancelled 0) ∷ [])
+    (met_by (with_tenant (tenant_with (call_for 0 replay.cancelled ∷ []) None) (said_last (Some (texts.cancelled 0)) ∷ [])))
 cancelled_drain = record {
-  run = guest_with (call_for 0 replay.cancelled ∷ []) None ∷ [];
-  instances = guest_with (call_for 0 replay.cancelled ∷ []) None ∷ [];
+  run = tenant_with (call_for 0 replay.cancelled ∷ []) None ∷ [];
+  instances = tenant_with (call_for 0 replay.cancelled ∷ []) None ∷ [];
   invoked = _;
   starts = [];
   calls = _;
@@ -305,13 +299,13 @@ cancelled_drain = record {
 
 pub store_is_retried : StoreIsRetried
 store_is_retried = (
-  with_guest (guest_with [] None) [],
-  with_guest (guest_with (call_for 0 pending ∷ []) None) (said_last None ∷ []),
+  with_tenant (tenant_with [] None) [],
+  with_tenant (tenant_with (call_for 0 pending ∷ []) None) (said_last None ∷ []),
   stuck,
-  with_guest (guest_with (call_for 0 pending ∷ []) None) (said_last (Some (wants_frame 2 0)) ∷ []),
+  met_by (with_tenant (tenant_with (call_for 0 pending ∷ []) None) (said_last (Some (wants_frame 2 0)) ∷ [])),
   _,
   is_admitted_so,
-  (0, guest_with [] None, (refl, refl), is_invoked [] refl no_bar exports_f refl),
+  (0, tenant_with [] None, (refl, refl), is_invoked [] refl no_bar exports_f refl),
   first_drain,
   is_retried 0 (refl, refl) refl refl,
   last_drain,
@@ -319,13 +313,13 @@ store_is_retried = (
 
 pub store_is_cancelled : StoreIsCancelled
 store_is_cancelled = (
-  with_guest (guest_with [] None) [],
-  with_guest (guest_with (call_for 0 pending ∷ []) None) (said_last None ∷ []),
+  with_tenant (tenant_with [] None) [],
+  with_tenant (tenant_with (call_for 0 pending ∷ []) None) (said_last None ∷ []),
   stuck,
-  with_guest (guest_with (call_for 0 replay.cancelled ∷ []) None) (said_last (Some (wants_frame 2 0)) ∷ []),
-  with_guest (guest_with (call_for 0 replay.cancelled ∷ []) None) (said_last (Some (texts.cancelled 0)) ∷ []),
+  met_by (with_tenant (tenant_with (call_for 0 replay.cancelled ∷ []) None) (said_last (Some (wants_frame 2 0)) ∷ [])),
+  met_by (with_tenant (tenant_with (call_for 0 replay.cancelled ∷ []) None) (said_last (Some (texts.cancelled 0)) ∷ [])),
   is_admitted_so,
-  (0, guest_with [] None, (refl, refl), is_invoked [] refl no_bar exports_f refl),
+  (0, tenant_with [] None, (refl, refl), is_invoked [] refl no_bar exports_f refl),
   first_drain,
   still_drain,
   is_cancelled 0 (refl, refl) refl refl,

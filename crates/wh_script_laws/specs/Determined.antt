@@ -9,6 +9,7 @@ use Rattle.wh_script_model.specs.Settings.{Settings}
 use Rattle.wh_script_model.specs.Commands.{load, AsksCommand}
 use Rattle.wh_script_model.specs.Texts.{invalid, Reply, module_refused}
 use Rattle.wh_script_model.specs.ScriptState.{ScriptState, empty_script}
+use Rattle.wh_script_model.specs.Drains.{Drains}
 use Rattle.wh_script_model.specs.Answers.{Files, AnswersLines, AnswersScript}
 use Rattle.wh_script_laws.specs.OutOfMemory.{NoneIsOutOfMemory}
 
@@ -35,20 +36,20 @@ pub data IsAlike : Reply → Reply → Type 0 where
 abbrev pub LinesAreDetermined : Type 0
 LinesAreDetermined =
     (settings : Settings) (files : Files) (lines : List (List ℕ)) (replies replies2 : List Reply) (w w2 : ScriptState)
-    → AreKnown files lines → AnswersLines false settings files empty_script 1 lines replies w
-    → AnswersLines false settings files empty_script 1 lines replies2 w2
+    → AreKnown files lines → AnswersLines Drains false settings files empty_script 1 lines replies w
+    → AnswersLines Drains false settings files empty_script 1 lines replies2 w2
     → AllZip IsAlike replies replies2 × (w ≡ w2)
 
 -- so a script gets one list of replies, but for that
 abbrev pub AnswersAreDetermined : Type 0
 AnswersAreDetermined =
     (settings : Settings) (files : Files) (lines : List (List ℕ)) (replies replies2 : List Reply) → AreKnown files lines
-    → AnswersScript false settings files lines replies → AnswersScript false settings files lines replies2
+    → AnswersScript Drains false settings files lines replies → AnswersScript Drains false settings files lines replies2
     → AllZip IsAlike replies replies2
 
 -- and where memory may run out, if none of them names it
 abbrev pub AnswersOutOfMemoryAreDetermined : Type 0
 AnswersOutOfMemoryAreDetermined =
     (settings : Settings) (files : Files) (lines : List (List ℕ)) (replies replies2 : List Reply) → AreKnown files lines
-    → AnswersScript true settings files lines replies → AnswersScript true settings files lines replies2
+    → AnswersScript Drains true settings files lines replies → AnswersScript Drains true settings files lines replies2
     → NoneIsOutOfMemory replies → NoneIsOutOfMemory replies2 → AllZip IsAlike replies replies2

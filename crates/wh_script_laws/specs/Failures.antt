@@ -4,7 +4,7 @@ use Rattle.std.specs.List.{AllZip}
 use Rattle.wh_script_model.specs.ScriptState.{NamedInstance}
 use Rattle.wh_script_model.specs.Failing.{LosesNothing, RunsAmid, ZipAmid}
 
--- 1 where who stood for no fault stands for one
+-- 1 where who wasn't blocked on a fault is blocked on one
 abbrev pub newly_stopped : (before after : Option ℕ) → ℕ
 newly_stopped None (Some fault) = 1
 newly_stopped before after = 0
@@ -15,13 +15,13 @@ stopped_among [] run = 0
 stopped_among (g ∷ gs) [] = 0
 stopped_among (g ∷ gs) (g2 ∷ run) = newly_stopped g.at_fault g2.at_fault + stopped_among gs run
 
--- where an instance stands for a fault, none of its calls has gone back
+-- where an instance is blocked on a fault, none of its calls has gone back
 abbrev pub NoCallGoesBack : Type 0
 NoCallGoesBack =
     (faults : List ℕ) (fault : ℕ) (g g2 : NamedInstance) → RunsAmid faults g g2 → g2.at_fault ≡ Some fault
     → AllZip LosesNothing g.calls g2.calls
 
--- who stands for a fault stays as it is at any drain: it goes on once it is tried again, and not before
+-- who is blocked on a fault stays as it is at any drain: it goes on once it is tried again, and not before
 abbrev pub NoneGoesOnUnasked : Type 0
 NoneGoesOnUnasked =
     (faults : List ℕ) (fault : ℕ) (g g2 : NamedInstance) → RunsAmid faults g g2 → g.at_fault ≡ Some fault → g2 ≡ g

@@ -4,10 +4,11 @@ use Rattle.std.specs.List.{AllByRecursion}
 use Rattle.wh_script_model.specs.Settings.{Settings}
 use Rattle.wh_script_model.specs.Texts.{Reply}
 use Rattle.wh_script_model.specs.ScriptState.{NamedInstance, ScriptState, empty_script}
+use Rattle.wh_script_model.specs.Drains.{Drains}
 use Rattle.wh_script_model.specs.Answers.{Files, AnswersLines, AnswersScript}
-use Rattle.wh_script_model.specs.Failing.{AnswersLinesAmid, AnswersScriptAmid}
+use Rattle.wh_script_model.specs.Failing.{DrainsAmidFaults}
 
--- no call of an instance stands for a fault
+-- no call of an instance is blocked on a fault
 abbrev pub NobodyStands : ScriptState → Type 0
 NobodyStands w = AllByRecursion (λ (g : NamedInstance). g.at_fault ≡ None) w.instances
 
@@ -15,18 +16,19 @@ NobodyStands w = AllByRecursion (λ (g : NamedInstance). g.at_fault ≡ None) w.
 abbrev pub LinesLeaveNobody : Type 0
 LinesLeaveNobody =
     (may_run_out : Bool) (settings : Settings) (files : Files) (lines : List (List ℕ)) (replies : List Reply)
-    (w : ScriptState) → AnswersLines may_run_out settings files empty_script 1 lines replies w → NobodyStands w
+    (w : ScriptState) → AnswersLines Drains may_run_out settings files empty_script 1 lines replies w → NobodyStands w
 
 -- without a fault lines get the same in both ways, and make the same
 abbrev pub FaultlessLines : Type 0
 FaultlessLines =
     (may_run_out : Bool) (settings : Settings) (files : Files) (lines : List (List ℕ)) (replies : List Reply)
     (w : ScriptState)
-    → AnswersLinesAmid may_run_out settings files [] empty_script 1 lines replies w
-    ↔ AnswersLines may_run_out settings files empty_script 1 lines replies w
+    → (AnswersLines DrainsAmidFaults may_run_out settings files empty_script 1 lines replies w × (w.faults_met ≡ []))
+    ↔ AnswersLines Drains may_run_out settings files empty_script 1 lines replies w
 
 -- and so do scripts
 abbrev pub FaultlessScripts : Type 0
 FaultlessScripts =
     (may_run_out : Bool) (settings : Settings) (files : Files) (lines : List (List ℕ)) (replies : List Reply)
-    → AnswersScriptAmid may_run_out settings files [] lines replies ↔ AnswersScript may_run_out settings files lines replies
+    → ((amid : AnswersScript DrainsAmidFaults may_run_out settings files lines replies) × (amid.after.faults_met ≡ []))
+    ↔ AnswersScript Drains may_run_out settings files lines replies

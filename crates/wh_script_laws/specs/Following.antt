@@ -3,9 +3,9 @@ use Rattle.std.specs.Prelude.{◌≡◌, ◌⊎◌, ℕ, ◌+◌, ◌-◌, true,
 use Rattle.std.specs.List.{AllZip, Contains}
 use Rattle.wh_model.specs.Execution.Replay.{Call}
 use Rattle.wh_host_model.specs.Owners.{Entry}
-use Rattle.wh_host_model.specs.SwapFaults.{swap_number}
-use Rattle.wh_host_model.specs.Space.Errands.{tickets}
-use Rattle.wh_host_model.specs.Space.Parts.{Space, minima, spreads}
+use Rattle.wh_space_model.specs.SwapFaults.{swap_number}
+use Rattle.wh_space_model.specs.Errands.{tickets}
+use Rattle.wh_space_model.specs.Parts.{Space, minima, spreads}
 use Rattle.wh_host_model.specs.Host.Worlds.{Suspension, for_device, Tenant, Loaded, World, journal, journal_calls}
 use Rattle.wh_script_model.specs.Settings.{Settings}
 use Rattle.wh_script_model.specs.ScriptState.{NamedModule, NamedInstance, ScriptState, live_sum, MayUseFuel}
@@ -29,7 +29,7 @@ abbrev pub device_fault : Option Suspension → Option ℕ
 device_fault (Some (for_device fault)) = Some (swap_number fault)
 device_fault other = None
 
--- it stands for the same fault as the script knows, or for none
+-- it is blocked on the same fault as the script knows, or on none
 abbrev pub IsAtSameFault : NamedInstance → Tenant → Type 0
 IsAtSameFault g t = g.at_fault ≡ device_fault t.waiting_for
 
@@ -41,13 +41,13 @@ IsFueled t = (e : Entry) (es : List Entry) → t.open_calls ≡ e ∷ es → t.w
 abbrev pub StandsSame : NamedInstance → Tenant → Type 0
 StandsSame g t = IsAtSameFault g t × IsFueled t
 
--- it stood for a fault, and stands for it where it was
+-- it was blocked on a fault, and is blocked on it where it was
 abbrev pub StandsYet : NamedInstance → Tenant → Type 0
 StandsYet g t =
     (fault : ℕ) × (g.at_fault ≡ Some fault) × (device_fault t.waiting_for ≡ Some fault)
     × (g.calls ≡ journal_calls (journal t))
 
--- it stood for none, and stands for one of these, or for none
+-- it was blocked on none, and is blocked on one of these, or on none
 abbrev pub MayStand : (faults : List ℕ) → NamedInstance → Tenant → Type 0
 MayStand faults g t =
     (g.at_fault ≡ None) × ((fault : ℕ) → device_fault t.waiting_for ≡ Some fault → Contains faults fault)

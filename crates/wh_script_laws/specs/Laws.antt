@@ -1,7 +1,7 @@
 -- How what a script has made follows what happens on the host.
 use Rattle.std.specs.Prelude.{◌≡◌, ◌≢◌, ◌⊎◌, ℕ, Bool, true, false, List, [], ◌∷◌, ◌++◌, slice_get, Option, Some, None, ℤ}
-use Rattle.wh_host_model.specs.declared.plain.InstId.{InstId}
-use Rattle.wh_host_model.specs.declared.plain.SwapError.{SwapError}
+use Rattle.wh_space_model.specs.declared.plain.InstId.{InstId}
+use Rattle.wh_space_model.specs.declared.plain.SwapError.{SwapError}
 use Rattle.wh_host_model.specs.declared.plain.TurnEnd.{TurnEnd}
 use Rattle.wh_host_model.specs.Host.Worlds.{for_device, Tenant, World, tenant}
 use Rattle.wh_host_model.specs.Owners.{Params}
@@ -12,7 +12,7 @@ use Rattle.wh_script_model.specs.Settings.{Settings}
 use Rattle.wh_script_model.specs.Commands.{Command, refuel, cancel, retry, release}
 use Rattle.wh_script_model.specs.Texts.{CallStatus, Reply}
 use Rattle.wh_script_model.specs.ScriptState.{NamedModule, NamedInstance, Invoked, ScriptState, empty_script, HasInstance, SomeCallIsOpen, SomeCallMayGo}
-use Rattle.wh_script_model.specs.Drains.{PrintsStart, PrintStarts, PrintsCall, PrintCalls}
+use Rattle.wh_script_model.specs.Drains.{PrintsStart, PrintStarts, PrintsCall, PrintCalls, Drains}
 use Rattle.wh_script_model.specs.Served.{GoesNoFurther}
 use Rattle.wh_script_model.specs.Receiving.{ReceivesModule, ReceivesInstance, ReceivesCall}
 use Rattle.wh_script_model.specs.Answers.{Files, IsObeyed, AnswersScript}
@@ -32,7 +32,7 @@ ModulesFollow =
     → SaysModule name answer reply
     → (m2 : ScriptState) × ReceivesModule true m name bytes reply m2 × Knows settings w2 m2 places)
 
--- the places behind an answer to an admission
+-- the places after an answer to an admission
 abbrev pub places_after : List ℕ → AdmitAnswer → List ℕ
 places_after places (admit_ok id) = places ++ id.place ∷ []
 places_after places (admit_refused fault) = places
@@ -102,7 +102,7 @@ DrainsBegin =
     (settings : Settings) (w : World) (m : ScriptState) (places : List ℕ) → Knows settings w m places
     → RunsKnown [] settings w m places
 
--- turns of who can go on bring calls further
+-- turns of who can go on make calls progress
 abbrev pub TurnsFollow : Type 0
 TurnsFollow =
     AfterEvents (λ w. (faults : List ℕ) (settings : Settings) (m : ScriptState) (places : List ℕ) (id : InstId) (q : ℕ)
@@ -117,7 +117,7 @@ MovesFollow =
     → (Knows settings w m places → Knows settings w2 m places)
     × (RunsKnown faults settings w m places → RunsKnown faults settings w2 m places))
 
--- its present call stands for a fault of a device
+-- its present call is blocked on a fault of a device
 abbrev pub StandsForDevice : Tenant → Type 0
 StandsForDevice t = (fault : SwapError) × (t.waiting_for ≡ Some (for_device fault))
 
@@ -131,7 +131,7 @@ DrainsEnd =
     AfterEvents (λ w. (faults : List ℕ) (settings : Settings) (m : ScriptState) (places : List ℕ)
     → RunsKnown faults settings w m places → AllServed w
     → (run : List NamedInstance) × ZipAmid RunsAmid faults m.instances run
-    × Knows settings w (record m { instances = run }) places)
+    × Knows settings w (record m { instances = run; faults_met = faults ++ m.faults_met }) places)
 
 -- and where somebody has an open call, the script knows one
 abbrev pub OpenIsKnown : Type 0
@@ -162,7 +162,7 @@ BeginsWell = IsWellMade empty_script
 abbrev pub RunsWell : Type 0
 RunsWell =
     (faults : List ℕ) (m : ScriptState) (run : List NamedInstance) → IsWellMade m
-    → ZipAmid RunsAmid faults m.instances run → IsWellMade (record m { instances = run })
+    → ZipAmid RunsAmid faults m.instances run → IsWellMade (record m { instances = run; faults_met = faults ++ m.faults_met })
 
 -- where it is said how they are: then it was said of all of them
 abbrev pub SaysWell : Type 0
@@ -201,5 +201,5 @@ EndedStays =
 abbrev pub OutOfMemoryIsNamed : Type 0
 OutOfMemoryIsNamed =
     (settings : Settings) (files : Files) (lines : List (List ℕ)) (replies : List Reply)
-    → AnswersScript true settings files lines replies → NoneIsOutOfMemory replies
-    → AnswersScript false settings files lines replies
+    → AnswersScript Drains true settings files lines replies → NoneIsOutOfMemory replies
+    → AnswersScript Drains false settings files lines replies

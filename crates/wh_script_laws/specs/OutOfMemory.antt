@@ -1,5 +1,5 @@
 -- Replies that name out of memory.
-use Rattle.std.specs.Prelude.{◌≡◌, ℕ, List}
+use Rattle.std.specs.Prelude.{◌≡◌, List}
 use Rattle.std.specs.List.{AllByRecursion}
 use Rattle.wh_script_model.specs.Texts.{Refusal, broken, invalid, no_link_memory, no_room, refused, Reply, error, module_refused, admit_refused, call_is}
 

@@ -75,7 +75,7 @@ abbrev pub HasEndedSo : NamedInstance → ℕ → Call → Option CallStatus →
 HasEndedSo g place c last_printed =
     (status : CallStatus) → last_printed ≡ Some status → is_final status ≡ true → call_status g place c ≡ status
 
--- behind an open start all calls are open
+-- after an open start all calls are open
 abbrev pub StartsFirst : List Call → Type 0
 StartsFirst [] = Unit {0}
 StartsFirst (first ∷ calls) =

@@ -28,8 +28,8 @@ StoreIsRetried =
     × IsObeyedHere w3 4 (retry (codes "a")) (retry_ok (codes "a") ∷ []) w4
     × DrainsAmid [] w4 (call_is (call 1) (done None 1) ∷ []) w5
 
--- At another drain it stands where it stood, and no line is printed. `cancel a` gets `cancel a ok`, then
--- `call 1 cancelled charges 0`, and `retry a` behind that `retry a refused H8`.
+-- At another drain it stands where it stood, and no line is printed. `cancel a` gets `cancel a ok`, then `call 1 cancelled
+-- charges 0`, and `retry a` after that `retry a refused H8`.
 abbrev pub StoreIsCancelled : Type 0
 StoreIsCancelled =
     (w w2 w3 w4 w5 : ScriptState)

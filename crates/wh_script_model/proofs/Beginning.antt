@@ -3,18 +3,13 @@ use Rattle.std.proofs.Common.{◌≡◌, ℕ, inl, inr, Bool, true, false, List,
 use Rattle.std.proofs.lemmas.Bool.{false≢true}
 use Rattle.std.proofs.lemmas.Option.{none-some}
 use Rattle.wh_model.specs.declared.ValType.{ValType}
-use Rattle.wh_model.specs.Format.Syntax.{Code, FuncType, Body}
-use Rattle.wh_model.specs.Execution.Store.{own, Instance, Store}
-use Rattle.wh_model.specs.Execution.Instance.{Beginning, memory_min, segment_bounds, begins, Prepares, IsInitial, in_bounds}
+use Rattle.wh_model.specs.Format.{Code, FuncType, Body}
+use Rattle.wh_model.specs.Execution.Store.{Instance, Store}
+use Rattle.wh_model.specs.Execution.{own, Beginning, memory_min, segment_bounds, begins, Prepares, IsInitial, in_bounds}
 use Rattle.wh_model.proofs.Instance.{one_beginning}
-use Rattle.wh_host_model.specs.Owners.{given_of, no_module, shares, min_max, frames, swap, instances, memory, segments, ExportsOwn}
-use Rattle.wh_script_model.specs.Settings.{default_settings}
-use Rattle.wh_script_model.specs.Commands.{admit}
-use Rattle.wh_script_model.specs.Texts.{admit_ok}
-use Rattle.wh_script_model.specs.ScriptState.{NamedInstance, ScriptState}
-use Rattle.wh_script_model.specs.Receiving.{MeetsNoLimit, new_instance, is_admitted}
-use Rattle.wh_script_model.specs.Answers.{instance_comes}
-use Rattle.wh_script_model.specs.WorkedScripts.{one_function, only_module, some_params, IsObeyedHere}
+use Rattle.wh_host_model.specs.{given_of, no_module, shares, min_max, frames, swap, instances, memory, segments, ExportsOwn}
+use Rattle.wh_script_model.specs.{default_settings, admit, admit_ok, NamedInstance, MeetsNoLimit, new_instance, is_admitted, instance_comes, one_function, only_module, some_params, IsObeyedHere}
+use Rattle.wh_script_model.specs.ScriptState.{ScriptState}
 
 abbrev pub type_with : List ValType → FuncType
 type_with results = record { params = []; results = results }

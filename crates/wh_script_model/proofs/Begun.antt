@@ -2,17 +2,13 @@
 use Rattle.std.proofs.Common.{◌≡◌, ℕ, zero, suc, ◌+◌, Bool, List, [], ◌∷◌, slice_get, slice_set, Some, None, ℤ, sym, subst}
 use Rattle.std.proofs.lemmas.Option.{none-some, same_Some}
 use Rattle.std.specs.List.{AllZip, AllByRecursion}
-use Rattle.wh_model.specs.Execution.Replay.{Call}
-use Rattle.wh_host_model.specs.Owners.{Params}
-use Rattle.wh_model.specs.Format.Syntax.{Module}
+use Rattle.wh_model.specs.Execution.{Call}
+use Rattle.wh_host_model.specs.{Params}
+use Rattle.wh_model.specs.Format.{Module}
 use Rattle.wh_script_model.specs.Settings.{Settings}
-use Rattle.wh_script_model.specs.Commands.{Command}
-use Rattle.wh_script_model.specs.Texts.{Reply}
-use Rattle.wh_script_model.specs.ScriptState.{NamedInstance, ScriptState, with_instance}
-use Rattle.wh_script_model.specs.Drains.{RunsAlone, is_gone, has_run, PrintsStart, has_none, has_one, PrintStarts, Drains}
-use Rattle.wh_script_model.specs.Receiving.{ReceivesModule, module_is_kept, module_isnt_kept, module_out_of_memory, ReceivesInstance, is_admitted, isnt_admitted, admission_out_of_memory, ReceivesCall, instance_is_gone, isnt_invoked, is_invoked, call_out_of_memory}
-use Rattle.wh_script_model.specs.Answers.{Files, IsObeyed, module_name_is_taken, no_file, module_comes, no_such_module, instance_name_is_taken, instance_comes, no_such_instance, is_drained, is_scanned, is_reported, is_refueled, no_one_to_refuel, no_call_to_refuel, is_cancelled, no_one_to_cancel, no_call_to_cancel, is_retried, no_one_to_retry, no_fault_to_retry, is_released, no_one_to_release, AnswersLine, skipped, invoked, obeyed, too_long, no_command, line_out_of_memory, AnswersLines}
-use Rattle.wh_script_model.specs.AnswerLaws.{HasBegun, LinesBegin}
+use Rattle.wh_script_model.specs.{Command, Reply, NamedInstance, with_instance, RunsAlone, is_gone, has_run, PrintsStart, has_none, has_one, PrintStarts, ReceivesModule, module_is_kept, module_isnt_kept, module_out_of_memory, ReceivesInstance, is_admitted, isnt_admitted, admission_out_of_memory, ReceivesCall, instance_is_gone, isnt_invoked, is_invoked, call_out_of_memory, Files, IsObeyed, module_name_is_taken, no_file, module_comes, no_such_module, instance_name_is_taken, instance_comes, no_such_instance, is_drained, is_scanned, is_reported, is_refueled, no_one_to_refuel, no_call_to_refuel, is_cancelled, no_one_to_cancel, no_call_to_cancel, is_retried, no_one_to_retry, no_fault_to_retry, is_released, no_one_to_release, AnswersLine, skipped, invoked, obeyed, too_long, no_command, line_out_of_memory, AnswersLines, HasBegun, LinesBegin}
+use Rattle.wh_script_model.specs.ScriptState.{ScriptState}
+use Rattle.wh_script_model.specs.Drains.{Drains}
 use Rattle.wh_host_model.proofs.Host.Entries.{all_join}
 
 abbrev AllBegun : ScriptState → Type 0
@@ -20,12 +16,12 @@ AllBegun w = AllByRecursion HasBegun w.instances
 
 -- ---- one instance changes
 
-is_one : {A : Type 0} (P : A → Type 0) (xs : List A) (i : ℕ) (x : A) → AllByRecursion P xs → slice_get xs i ≡ Some x → P x
+pub is_one : {A : Type 0} (P : A → Type 0) (xs : List A) (i : ℕ) (x : A) → AllByRecursion P xs → slice_get xs i ≡ Some x → P x
 is_one P [] i x h e = absurd (none-some x e)
 is_one P (y ∷ xs) zero x h e = subst P (same_Some y x e) h.0
 is_one P (y ∷ xs) (suc i) x h e = is_one P xs i x h.1 e
 
-with_one : {A : Type 0} (P : A → Type 0) (xs : List A) (i : ℕ) (x : A) → AllByRecursion P xs → P x
+pub with_one : {A : Type 0} (P : A → Type 0) (xs : List A) (i : ℕ) (x : A) → AllByRecursion P xs → P x
     → AllByRecursion P (slice_set xs i x)
 with_one P [] i x h p = tt
 with_one P (y ∷ xs) zero x h p = (p, h.1)
@@ -116,7 +112,7 @@ obeyed_begun may_run_out settings files w w2 number command replies (no_one_to_r
 -- ---- lines
 
 line_begun : (may_run_out : Bool) (settings : Settings) (files : Files) (w w2 : ScriptState) (number : ℕ) (line : List ℕ)
-    (replies : List Reply) → AnswersLine may_run_out settings files w number line replies w2 → AllBegun w → AllBegun w2
+    (replies : List Reply) → AnswersLine Drains may_run_out settings files w number line replies w2 → AllBegun w → AllBegun w2
 line_begun may_run_out settings files w w2 number line replies (skipped e) h = h
 line_begun may_run_out settings files w w2 number line replies (invoked {export = export} {fuel = fuel} {args = args} i {g = g} r a n x) h =
     call_begun may_run_out w w2 i g export fuel args n.0 x h
@@ -127,7 +123,7 @@ line_begun may_run_out settings files w w2 number line replies (no_command {line
 line_begun may_run_out settings files w w2 number line replies (line_out_of_memory {lines = lines} s r d) h = drained_begun w w2 lines d h
 
 lines_begun : (may_run_out : Bool) (settings : Settings) (files : Files) (w w2 : ScriptState) (number : ℕ) (lines : List (List ℕ))
-    (replies : List Reply) → AnswersLines may_run_out settings files w number lines replies w2 → AllBegun w → AllBegun w2
+    (replies : List Reply) → AnswersLines Drains may_run_out settings files w number lines replies w2 → AllBegun w → AllBegun w2
 lines_begun may_run_out settings files w w2 number [] replies x h = subst AllBegun (sym x.1) h
 lines_begun may_run_out settings files w w2 number (line ∷ lines) replies (here, rest, between, e, x, more) h =
     lines_begun may_run_out settings files between w2 (number + 1) lines rest more

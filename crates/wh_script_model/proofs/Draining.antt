@@ -3,11 +3,9 @@ use Rattle.std.proofs.Common.{◌≡◌, ℕ, ◌+◌, Bool, false, true, List, 
 use Rattle.std.proofs.lemmas.Bool.{false≢true}
 use Rattle.std.proofs.lemmas.Option.{same_Some}
 use Rattle.std.specs.List.{AllZip, AllByRecursion}
-use Rattle.wh_model.specs.Execution.Replay.{Call}
-use Rattle.wh_script_model.specs.Texts.{Caller, CallStatus, refused, Reply}
-use Rattle.wh_script_model.specs.ScriptState.{NamedInstance, InvokeOutcome, call_rejected, call_accepted, Invoked, ScriptState}
-use Rattle.wh_script_model.specs.Drains.{RunsAlone, call_status, PrintsLine, as_before, anew, PrintsStart, has_none, has_one, PrintsCall, is_refused, is_taken, PrintStarts, PrintCalls}
-use Rattle.wh_script_model.specs.AnswerLaws.{HasBegun, DrainsOnce}
+use Rattle.wh_model.specs.Execution.{Call}
+use Rattle.wh_script_model.specs.{Caller, CallStatus, refused, Reply, NamedInstance, InvokeOutcome, call_rejected, call_accepted, Invoked, RunsAlone, call_status, PrintsLine, as_before, anew, PrintsStart, has_none, has_one, PrintsCall, is_refused, is_taken, PrintStarts, PrintCalls, HasBegun, DrainsOnce}
+use Rattle.wh_script_model.specs.ScriptState.{ScriptState}
 use Rattle.wh_script_model.proofs.Once.{runs_once}
 
 -- ---- one line

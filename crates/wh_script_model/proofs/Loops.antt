@@ -2,23 +2,20 @@
 use Rattle.std.proofs.Common.{◌≡◌, ℕ, Bool, true, false, List, [], ◌∷◌, Option, Some, None, codes, refl, sym, ap, arith}
 use Rattle.std.proofs.lemmas.Bool.{false≢true}
 use Rattle.std.proofs.lemmas.Option.{none-some}
-use Rattle.wh_model.specs.Format.Syntax.{br, nothing, plain}
+use Rattle.wh_model.specs.Format.{br, nothing, plain}
 use Rattle.wh_model.specs.Execution.Store.{Instance}
-use Rattle.wh_model.specs.Execution.Reduction.{After, IsNext}
+use Rattle.wh_model.specs.Execution.{After, IsNext, Outcome, dead, pending, Call, Stands, is_under_way, ended, at_work, has_written, was_cancelled}
 use Rattle.wh_model.specs.Execution.Replay as replay
-use Rattle.wh_model.specs.Execution.Replay.{Outcome, returned, dead, pending, Call, Stands, is_under_way, ended, at_work, has_written, was_cancelled, Replay}
-use Rattle.wh_model.specs.Focus.Focused.{Focused, running, activation, plug}
-use Rattle.wh_model.specs.Focus.FocusSteps.{Steps, steps, rests}
+use Rattle.wh_model.specs.Execution.Replay.{Replay}
+use Rattle.wh_model.specs.Focus.Focused.{Focused}
+use Rattle.wh_model.specs.Focus.{running, activation, plug, Steps, steps, rests}
 use Rattle.wh_model.proofs.Agrees.{after_agrees}
 use Rattle.wh_model.proofs.StepsReduce.{steps_reduce}
-use Rattle.wh_host_model.specs.Owners.{given_of, no_export, arguments, queue_full, instance_dead, journal_full, is_open}
+use Rattle.wh_host_model.specs.{given_of, no_export, arguments, queue_full, instance_dead, journal_full, is_open}
 use Rattle.wh_script_model.specs.Texts as texts
-use Rattle.wh_script_model.specs.Texts.{CallStatus, call, wants_fuel, queued, call_is}
-use Rattle.wh_script_model.specs.ScriptState.{NamedInstance, call_accepted, Invoked, ScriptState}
-use Rattle.wh_script_model.specs.Drains.{had_ended, goes_on, used_up, has_run, has_none, anew, is_taken, Drains}
-use Rattle.wh_script_model.specs.Receiving.{MeetsNoBar, is_invoked}
-use Rattle.wh_script_model.specs.Answers.{is_cancelled}
-use Rattle.wh_script_model.specs.WorkedScripts.{one_function, round_and_round, some_params, LoopIsAnswered}
+use Rattle.wh_script_model.specs.{CallStatus, call, wants_fuel, queued, call_is, NamedInstance, call_accepted, Invoked, had_ended, goes_on, used_up, has_run, has_none, anew, is_taken, MeetsNoBar, is_invoked, is_cancelled, one_function, round_and_round, some_params, LoopIsAnswered}
+use Rattle.wh_script_model.specs.ScriptState.{ScriptState}
+use Rattle.wh_script_model.specs.Drains.{Drains}
 use Rattle.wh_script_model.proofs.Beginning.{type_with, body_of, instance_of, no_store, initial, guest_a, with_a, is_admitted_so, exports_f}
 use Rattle.wh_script_model.proofs.Sevens.{the_start, returned_isnt, names_one}
 
@@ -68,7 +65,7 @@ next_before = (plug in_loop, steps_reduce the_instance before_loop in_loop 1 ent
 
 -- ---- the journal
 
--- a call with this fuel, after so many charges
+-- a call with this fuel, after n charges
 abbrev call_for : (fuel charges : ℕ) → Outcome → Call
 call_for fuel charges o =
     record { func = Some 0; args = []; fuel = fuel; fragments = 0; charges = charges; outcome = o }

@@ -6,22 +6,19 @@ use Rattle.std.proofs.lemmas.List.{reverse-reverse}
 use Rattle.std.specs.Bool.{MatchBool}
 use Rattle.std.specs.List.{AllZip, AllByRecursion}
 use Rattle.wh_model.specs.declared.Trap.{Trap}
-use Rattle.wh_model.specs.Format.Syntax.{nothing, Module}
-use Rattle.wh_model.specs.Execution.Store.{Value, Instance, Store}
-use Rattle.wh_model.specs.Execution.Configuration.{code, Config, config, trapped, store_of}
-use Rattle.wh_model.specs.Execution.Reduction.{Leads, stays, After, IsNext}
-use Rattle.wh_model.specs.Execution.Instance.{Parameters, Piece, begins, IsInitial}
-use Rattle.wh_model.specs.Execution.Replay.{Outcome, returned, stopped, cancelled, dead, pending, Call, with_pieces, Invocation, Standing, running, store_at, Stands, is_invoked, is_under_way, Ends, has_returned, has_trapped, has_written, was_cancelled, never_began, Waits, Replays, ended, at_work, fails, IsDead, IsNotDead, IsJournal, Replay}
+use Rattle.wh_model.specs.Format.{nothing, Module}
+use Rattle.wh_model.specs.Execution.Store.{Instance, Store}
+use Rattle.wh_model.specs.Execution.{Value, code, Config, config, trapped, store_of, Leads, stays, After, IsNext, Parameters, Piece, begins, IsInitial, Outcome, returned, stopped, cancelled, dead, pending, Call, with_pieces, Invocation, Standing, running, store_at, Stands, is_invoked, is_under_way, Ends, has_returned, has_trapped, has_written, was_cancelled, never_began, Waits, Replays, ended, at_work, fails, IsDead, IsNotDead, IsJournal}
+use Rattle.wh_model.specs.Execution.Replay.{Replay}
 use Rattle.wh_model.proofs.Chains.{one_after}
 use Rattle.wh_model.proofs.Journals.{invocation_same, one_end, from_beginning}
-use Rattle.wh_host_model.specs.Owners.{given_of, is_open, first_open}
-use Rattle.wh_script_model.specs.AnswerLaws.{RunsOnce}
-use Rattle.wh_script_model.specs.Drains.{ComesTo, had_ended, goes_on, AreAtRest, all_ended, used_up, is_gone, has_run}
+use Rattle.wh_host_model.specs.{given_of, is_open, first_open}
+use Rattle.wh_script_model.specs.{RunsOnce, ComesTo, had_ended, goes_on, AreAtRest, all_ended, used_up, is_gone, has_run}
 use Rattle.wh_host_model.proofs.Host.Stopping.{is_settled, further_on, done_stops, trap_stops, term_same, values_same, trap_same, never_trapped, done_has_no_next, trap_has_no_next, apart_by}
 
 -- ---- one invocation stops in one way
 
--- so many charges from a configuration on, within this fuel, it has returned, or trapped, or waits for fuel
+-- n charges from a configuration on, within this fuel, it has returned, or trapped, or waits for fuel
 data Halts (inst : Instance) (fuel n : ℕ) (c : Config) : Outcome → Type 0 where
   at_return : (s : Store) (vs : List Value) → c ≡ config s [] (code (reverse vs) nothing) → n ≤ fuel
       → Halts inst fuel n c (returned vs)

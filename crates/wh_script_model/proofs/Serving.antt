@@ -3,18 +3,14 @@ use Rattle.std.proofs.Common.{◌≡◌, ℕ, ◌⊎◌, inl, inr, Bool, true, f
 use Rattle.std.proofs.lemmas.Option.{none-some, same_Some}
 use Rattle.std.specs.List.{AllByRecursion}
 use Rattle.wh_model.specs.declared.memory.Need.{Need}
-use Rattle.wh_model.specs.Format.Syntax.{Module}
+use Rattle.wh_model.specs.Format.{Module}
 use Rattle.wh_model.specs.Execution.Store.{Instance, Store}
-use Rattle.wh_model.specs.Execution.Instance.{Piece, Parameters}
-use Rattle.wh_model.specs.Execution.Replay.{Outcome, returned, stopped, cancelled, dead, pending, Call, Standing, Replays, at_rest, ended, at_work, Replay}
-use Rattle.wh_host_model.specs.Space.Parts.{wants}
-use Rattle.wh_host_model.specs.Host.Worlds.{Rest, Doing, Suspension, for_fuel, journal, journal_calls, store_with, standing_with, standing_in}
-use Rattle.wh_host_model.specs.Owners.{Entry, is_open, first_open}
-use Rattle.wh_host_model.specs.Owners.{given_of}
-use Rattle.wh_host_model.specs.Host.Journals.{HasEnded, IsEnded, IsDeadCall, InOrder, is_starting, has_started, has_died}
-use Rattle.wh_host_model.specs.Host.Suspensions.{WaitsDuly, FirstWaitsDuly}
-use Rattle.wh_script_model.specs.Drains.{AreAtRest, all_ended, used_up, has_run}
-use Rattle.wh_script_model.specs.Served.{ServedAsAlone}
+use Rattle.wh_model.specs.Execution.{Piece, Parameters, Outcome, returned, stopped, cancelled, dead, pending, Call, Standing, Replays, at_rest, ended, at_work}
+use Rattle.wh_model.specs.Execution.Replay.{Replay}
+use Rattle.wh_space_model.specs.{wants}
+use Rattle.wh_host_model.specs.Host.{Rest, Doing, Suspension, for_fuel, journal, journal_calls, store_with, standing_with, standing_in, HasEnded, IsEnded, IsDeadCall, InOrder, is_starting, has_started, has_died, WaitsDuly, FirstWaitsDuly}
+use Rattle.wh_host_model.specs.{Entry, is_open, first_open, given_of}
+use Rattle.wh_script_model.specs.{AreAtRest, all_ended, used_up, has_run, ServedAsAlone}
 use Rattle.wh_host_model.proofs.Host.Holding.{instances_replay, journals_are_in_order, suspensions_are_right}
 use Rattle.wh_script_model.proofs.Once.{end_closed, passes, stops_there}
 

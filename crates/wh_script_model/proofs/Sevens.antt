@@ -5,22 +5,18 @@ use Rattle.std.proofs.lemmas.Option.{none-some, same_Some}
 use Rattle.std.specs.Fmt.{digits}
 use Rattle.wh_model.specs.declared.ValType.TheVariants.{I32}
 use Rattle.wh_model.specs.declared.ExternKind.TheVariants.{Func}
-use Rattle.wh_model.specs.Format.Syntax.{FuncType, Body}
-use Rattle.wh_model.specs.Execution.Numbers.{unsigned, signed}
-use Rattle.wh_model.specs.Execution.Store.{Value, value, own, signature, Instance, Store}
-use Rattle.wh_model.specs.Execution.Replay.{Outcome, returned, stopped, cancelled, dead, pending, Call, idle, ended, has_written, at_rest, Replay}
-use Rattle.wh_model.specs.Focus.Focused.{running, finished, activation}
-use Rattle.wh_model.specs.Focus.FocusSteps.{steps, rests}
-use Rattle.wh_model.specs.Laws.Worked.{invoked, Done}
+use Rattle.wh_model.specs.Format.{FuncType, Body}
+use Rattle.wh_model.specs.Execution.{unsigned, signed, Value, value, own, signature, Outcome, returned, stopped, cancelled, dead, pending, Call, idle, ended, has_written, at_rest}
+use Rattle.wh_model.specs.Execution.Store.{Instance, Store}
+use Rattle.wh_model.specs.Execution.Replay.{Replay}
+use Rattle.wh_model.specs.Focus.{running, finished, activation, steps, rests}
+use Rattle.wh_model.specs.Laws.{invoked, Done}
 use Rattle.wh_model.proofs.Agrees.{after_agrees}
 use Rattle.wh_model.proofs.Journals.{done_replays}
-use Rattle.wh_host_model.specs.Owners.{given_of, InvokeFault, no_export, arguments, queue_full, instance_dead, journal_full, rank, AreArguments}
-use Rattle.wh_script_model.specs.Texts.{CallStatus, call, done, refused, call_is}
-use Rattle.wh_script_model.specs.ScriptState.{NamedInstance, InvokeOutcome, ScriptState, call_accepted, call_rejected, Invoked}
-use Rattle.wh_script_model.specs.Drains.{had_ended, goes_on, all_ended, has_run, Drains, anew, has_none, is_refused, is_taken}
-use Rattle.wh_script_model.specs.Receiving.{MeetsBar, MeetsNoBar, IsFirstBar, is_invoked, isnt_invoked}
-use Rattle.wh_script_model.specs.Answers.{no_call_to_refuel}
-use Rattle.wh_script_model.specs.WorkedScripts.{one_function, seven, some_params, SevenIsAnswered, SevenIsPrinted, RefuelIsRefused}
+use Rattle.wh_host_model.specs.{given_of, InvokeFault, no_export, arguments, queue_full, instance_dead, journal_full, rank, AreArguments}
+use Rattle.wh_script_model.specs.{CallStatus, call, done, refused, call_is, NamedInstance, InvokeOutcome, call_accepted, call_rejected, Invoked, had_ended, goes_on, all_ended, has_run, anew, has_none, is_refused, is_taken, MeetsBar, MeetsNoBar, IsFirstBar, is_invoked, isnt_invoked, no_call_to_refuel, one_function, seven, some_params, SevenIsAnswered, SevenIsPrinted, RefuelIsRefused}
+use Rattle.wh_script_model.specs.ScriptState.{ScriptState}
+use Rattle.wh_script_model.specs.Drains.{Drains}
 use Rattle.wh_script_model.proofs.Beginning.{type_with, body_of, instance_of, no_store, initial, guest_a, with_a, is_admitted_so, exports_f}
 
 -- ---- the run

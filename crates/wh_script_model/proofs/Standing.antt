@@ -1,20 +1,16 @@
--- Where a call of an instance of a host stands for a fault of a device, it needs bytes.
+-- Where a call of an instance of a host is blocked on a fault of a device, it needs bytes.
 use Rattle.std.proofs.Common.{◌≡◌, ℕ, Bool, List, [], ◌∷◌, ◌++◌, Option, Some, None, sym, ap, subst, ◌∙◌}
 use Rattle.std.proofs.lemmas.Option.{none-some, same_Some}
 use Rattle.wh_model.specs.declared.memory.Need.{Need}
-use Rattle.wh_model.specs.Format.Syntax.{Module}
+use Rattle.wh_model.specs.Format.{Module}
 use Rattle.wh_model.specs.Execution.Store.{Instance, Store}
-use Rattle.wh_model.specs.Execution.Replay.{Call, Replay}
-use Rattle.wh_host_model.specs.declared.plain.SwapError.{SwapError}
-use Rattle.wh_host_model.specs.Space.Parts.{view, wants}
-use Rattle.wh_host_model.specs.Host.Worlds.{Rest, Doing, Suspension, for_device, Tenant, World, journal, journal_calls, store_with, standing_with, store_in, standing_in, tenant}
-use Rattle.wh_host_model.specs.Owners.{Entry, given_of, first_open}
-use Rattle.wh_host_model.specs.Host.Journals.{InOrder}
-use Rattle.wh_host_model.specs.Host.Laws.{AfterEvents}
-use Rattle.wh_host_model.specs.Host.Suspensions.{NextAsks, a_piece, a_step, FirstWaitsDuly}
-use Rattle.wh_script_model.specs.ScriptState.{NamedInstance}
-use Rattle.wh_script_model.specs.Served.{IsTenantOf}
-use Rattle.wh_script_model.specs.Failing.{NeedsBytes, for_a_piece, for_a_step}
+use Rattle.wh_model.specs.Execution.Replay.{Replay}
+use Rattle.wh_model.specs.Execution.{Call}
+use Rattle.wh_space_model.specs.declared.plain.SwapError.{SwapError}
+use Rattle.wh_space_model.specs.{view, wants}
+use Rattle.wh_host_model.specs.Host.{Rest, Doing, Suspension, for_device, Tenant, World, journal, journal_calls, store_with, standing_with, store_in, standing_in, tenant, InOrder, AfterEvents, NextAsks, a_piece, a_step, FirstWaitsDuly}
+use Rattle.wh_host_model.specs.{Entry, given_of, first_open}
+use Rattle.wh_script_model.specs.{NamedInstance, IsTenantOf, NeedsBytes, for_a_piece, for_a_step}
 use Rattle.wh_host_model.proofs.Host.Holding.{instances_replay, journals_are_in_order, suspensions_are_right}
 use Rattle.wh_script_model.proofs.Once.{stops_there}
 use Rattle.wh_script_model.proofs.Serving.{ended_closed, first_opened, open_behind_ended}
@@ -56,7 +52,7 @@ is_stuck frames slots tax events w happens i t g fault there stands of_one =
       needs = subst (λ inst. NeedsBytes inst found.0 (standing_in w.space t)) (sym of_one.inst) found.2;
     }
 
--- without an open call it stands for nothing
+-- without an open call it is blocked on nothing
 rests_duly : (inst : Instance) (s : Store) (d : Doing) (os : List Entry) (wanted : Option Need) (o : Option Suspension) → os ≡ []
     → FirstWaitsDuly inst s d os wanted o → o ≡ None
 rests_duly inst s d [] wanted o none duly = duly.1

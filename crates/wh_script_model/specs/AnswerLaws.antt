@@ -28,5 +28,5 @@ DrainsOnce =
 abbrev pub LinesBegin : Type 0
 LinesBegin =
     (may_run_out : Bool) (settings : Settings) (files : Files) (number : ℕ) (lines : List (List ℕ)) (replies : List Reply)
-    (w : ScriptState) → AnswersLines may_run_out settings files empty_script number lines replies w
+    (w : ScriptState) → AnswersLines Drains may_run_out settings files empty_script number lines replies w
     → AllByRecursion HasBegun w.instances

@@ -8,7 +8,7 @@ use Rattle.wh_script_model.specs.Settings.{Settings}
 use Rattle.wh_script_model.specs.Commands.{Command, keep, load, admit, invoke, drain, refuel, cancel, retry, scan, report, release, AsksCommand}
 use Rattle.wh_script_model.specs.Texts.{Reply, error, refuel_ok, refuel_refused, cancel_ok, cancel_refused, retry_ok, retry_refused, scan_ok, release_ok, release_refused, reply_text}
 use Rattle.wh_script_model.specs.ScriptState.{NamedInstance, ScriptState, empty_script, HasModule, NoModule, HasInstance, LacksInstance, with_instance, with_first_open, cancel_first}
-use Rattle.wh_script_model.specs.Drains.{Drains}
+use Rattle.wh_script_model.specs.Drains.{DrainRule}
 use Rattle.wh_script_model.specs.Receiving.{ReceivesModule, ReceivesInstance, ReceivesCall}
 
 -- Whether the file of a path may hold these bytes, or may be none that can be opened and read, by what is known of
@@ -47,9 +47,9 @@ IsForInstance other name = ⊥
 abbrev pub with_fuel : ℕ → Call → Call
 with_fuel n call = record call { fuel = min (call.fuel + n) most_fuel }
 
--- What a command on the line of this number gets, behind a drain. Causes of errors are looked at in the order of their
--- numbers: C2, no such name; C3, the name is taken; C4, no such file. Faults: H1, the instance is released; H8, it has
--- no open call, or none to try again: that is one which stands for a fault of the device.
+-- What a command on the line of this number gets, after a drain. Causes of errors are looked at in the order of their numbers:
+-- C2, no such name; C3, the name is taken; C4, no such file. Faults: H1, the instance is released; H8, it has no open call, or
+-- none to try again: that is one which is blocked on a fault of the device.
 pub data IsObeyed (may_run_out : Bool) (settings : Settings) (files : Files) (w : ScriptState) (number : ℕ)
     : Command → List Reply → ScriptState → Type 0 where
   module_name_is_taken : {command : Command} {name : List ℕ} {m : Module}
@@ -114,44 +114,44 @@ pub data IsObeyed (may_run_out : Bool) (settings : Settings) (files : Files) (w 
 abbrev pub IsRead : List ℕ → Type 0
 IsRead line = (is_skipped line ≡ false) × (length line ≤ longest_line)
 
--- What a line gets. An `invoke` of an instance that there is gets nothing yet; before all else there is a drain. C1: it
--- is too long, or asks for nothing that there is. C5: memory runs out for it.
-pub data AnswersLine (may_run_out : Bool) (settings : Settings) (files : Files) (w : ScriptState) (number : ℕ) (line : List ℕ)
-    : List Reply → ScriptState → Type 0 where
-  skipped : is_skipped line ≡ true → AnswersLine may_run_out settings files w number line [] w
+-- What a line gets, where drains are such. An `invoke` of an instance that there is gets nothing yet; before all else there
+-- is a drain. C1: it is too long, or asks for nothing that there is. C5: memory runs out for it.
+pub data AnswersLine (Drain : DrainRule) (may_run_out : Bool) (settings : Settings) (files : Files) (w : ScriptState) (number : ℕ)
+    (line : List ℕ) : List Reply → ScriptState → Type 0 where
+  skipped : is_skipped line ≡ true → AnswersLine Drain may_run_out settings files w number line [] w
   invoked : {inst export : List ℕ} {fuel : ℕ} {args : List ℤ} (i : ℕ) {g : NamedInstance} {w2 : ScriptState}
       → IsRead line → AsksCommand line (invoke inst export fuel args) → HasInstance w inst i g
-      → ReceivesCall may_run_out w i g export fuel args w2 → AnswersLine may_run_out settings files w number line [] w2
+      → ReceivesCall may_run_out w i g export fuel args w2 → AnswersLine Drain may_run_out settings files w number line [] w2
   obeyed : {command : Command} {lines replies : List Reply} {w1 w2 : ScriptState}
-      → IsRead line → AsksCommand line command → Drains w lines w1
+      → IsRead line → AsksCommand line command → Drain w lines w1
       → IsObeyed may_run_out settings files w1 number command replies w2
-      → AnswersLine may_run_out settings files w number line (lines ++ replies) w2
+      → AnswersLine Drain may_run_out settings files w number line (lines ++ replies) w2
   too_long : {lines : List Reply} {w1 : ScriptState} → is_skipped line ≡ false → longest_line < length line
-      → Drains w lines w1 → AnswersLine may_run_out settings files w number line (lines ++ error 1 number ∷ []) w1
+      → Drain w lines w1 → AnswersLine Drain may_run_out settings files w number line (lines ++ error 1 number ∷ []) w1
   no_command : {lines : List Reply} {w1 : ScriptState} → IsRead line → ((command : Command) → ¬ (AsksCommand line command))
-      → Drains w lines w1 → AnswersLine may_run_out settings files w number line (lines ++ error 1 number ∷ []) w1
+      → Drain w lines w1 → AnswersLine Drain may_run_out settings files w number line (lines ++ error 1 number ∷ []) w1
   line_out_of_memory : {lines : List Reply} {w1 : ScriptState} → may_run_out ≡ true → IsRead line
-      → Drains w lines w1 → AnswersLine may_run_out settings files w number line (lines ++ error 5 number ∷ []) w1
+      → Drain w lines w1 → AnswersLine Drain may_run_out settings files w number line (lines ++ error 5 number ∷ []) w1
 
 -- ---- a script
 
 -- lines one after the other, the first having this number
-abbrev pub AnswersLines : Bool → Settings → Files → ScriptState → ℕ → List (List ℕ) → List Reply → ScriptState → Type 0
-AnswersLines may_run_out settings files w number [] replies w2 = (replies ≡ []) × (w2 ≡ w)
-AnswersLines may_run_out settings files w number (line ∷ lines) replies w2 =
+abbrev pub AnswersLines : DrainRule → Bool → Settings → Files → ScriptState → ℕ → List (List ℕ) → List Reply → ScriptState → Type 0
+AnswersLines Drain may_run_out settings files w number [] replies w2 = (replies ≡ []) × (w2 ≡ w)
+AnswersLines Drain may_run_out settings files w number (line ∷ lines) replies w2 =
     (here rest : List Reply) × (between : ScriptState) × (replies ≡ here ++ rest)
-    × AnswersLine may_run_out settings files w number line here between
-    × AnswersLines may_run_out settings files between (number + 1) lines rest w2
+    × AnswersLine Drain may_run_out settings files w number line here between
+    × AnswersLines Drain may_run_out settings files between (number + 1) lines rest w2
 
--- what the lines of a script get, and behind them the drain at its end
-pub record AnswersScript (may_run_out : Bool) (settings : Settings) (files : Files) (lines : List (List ℕ))
+-- what the lines of a script get, and after them the drain at its end
+pub record AnswersScript (Drain : DrainRule) (may_run_out : Bool) (settings : Settings) (files : Files) (lines : List (List ℕ))
     (replies : List Reply) : Type 0 where
   pub before : ScriptState
   pub after : ScriptState
   pub to_lines : List Reply
   pub last : List Reply
-  pub answers : AnswersLines may_run_out settings files empty_script 1 lines to_lines before
-  pub drains : Drains before last after
+  pub answers : AnswersLines Drain may_run_out settings files empty_script 1 lines to_lines before
+  pub drains : Drain before last after
   pub replies_are : replies ≡ to_lines ++ last
 
 abbrev pub replies_text : List Reply → List ℕ

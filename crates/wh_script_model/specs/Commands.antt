@@ -62,7 +62,7 @@ pub record AreParams (words : List (List ℕ)) (p : Params) : Type 0 where
   pub is_salt : IsBits I64 salt p.salt
   pub are_inputs : AllZip (IsBits I64) inputs p.inputs
 
--- the words behind the first
+-- the words after the first
 abbrev pub Follow : Command → List (List ℕ) → Type 0
 -- NAME HEX
 Follow (keep name bytes) words =

@@ -15,7 +15,7 @@ use Rattle.wh_script_model.specs.ScriptState.{NamedInstance, call_rejected, call
 
 -- ---- calls run alone
 
--- what had ended is as it was, and what was open comes to some outcome, but isn't cancelled
+-- what had ended is as it was, and what was open has some outcome, but isn't cancelled
 pub data ComesTo (c : Call) : Call → Type 0 where
   had_ended : is_open c.outcome ≡ false → ComesTo c c
   goes_on : {outcome : Outcome} {pieces charges : ℕ} → is_open c.outcome ≡ true → ¬ (outcome ≡ cancelled)
@@ -44,8 +44,8 @@ abbrev pub returned_value : List Value → Option ℤ
 returned_value [] = None
 returned_value (v ∷ vs) = Some (signed_result v)
 
--- an open call of an instance that is released, or not; behind an open one, or not; the first one standing for a fault of
--- the device, or not
+-- an open call of an instance that is released, or not; after an open one, or not; the first one standing for a fault of the
+-- device, or not
 abbrev pub open_status : (is_released waits : Bool) (at_fault : Option ℕ) (charges : ℕ) → CallStatus
 open_status true waits at_fault charges = released charges
 open_status false true at_fault charges = queued
@@ -103,15 +103,24 @@ PrintCalls instances number (v ∷ vs) lines after =
     (here rest : List Reply) × (v2 : Invoked) × (vs2 : List Invoked) × (lines ≡ here ++ rest) × (after ≡ v2 ∷ vs2)
     × PrintsCall instances number v here v2 × PrintCalls instances (number + 1) vs rest vs2
 
--- all calls are run; then the starts are said, and then the calls
-pub record Drains (w : ScriptState) (lines : List Reply) (w2 : ScriptState) : Type 0 where
+-- what a drain makes of what a script has made, and the lines that it prints
+abbrev pub DrainRule : Type 1
+DrainRule = ScriptState → List Reply → ScriptState → Type 0
+
+-- all calls are run, in this way, and meet these faults; then the starts are said, and then the calls
+pub record DrainsBy (EachRuns : List NamedInstance → List NamedInstance → Type 0) (faults : List ℕ)
+    (w : ScriptState) (lines : List Reply) (w2 : ScriptState) : Type 0 where
   pub run : List NamedInstance
   pub instances : List NamedInstance
   pub invoked : List Invoked
   pub starts : List Reply
   pub calls : List Reply
-  pub each_runs : AllZip RunsAlone w.instances run
+  pub each_runs : EachRuns w.instances run
   pub print_starts : PrintStarts run starts instances
   pub print_calls : PrintCalls instances 1 w.invoked calls invoked
   pub lines_are : lines ≡ starts ++ calls
-  pub after : w2 ≡ record w { instances = instances; invoked = invoked }
+  pub after : w2 ≡ record w { instances = instances; invoked = invoked; faults_met = faults ++ w.faults_met }
+
+-- each instance's alone, and none meets a fault
+abbrev pub Drains : DrainRule
+Drains = DrainsBy (AllZip RunsAlone) []

@@ -38,15 +38,16 @@ pub record Invoked : Type 0 where
   pub outcome : InvokeOutcome
   pub last_printed : Option CallStatus
 
--- Modules in the order in which they were kept, instances by their numbers, and each `invoke` that has a number, the
--- first being number 1.
+-- Modules in the order in which they were kept, instances by their numbers, each `invoke` that has a number, the first
+-- being number 1, and the faults of calls of a swap device that drains have met, the last one first.
 pub record ScriptState : Type 0 where
   pub modules : List NamedModule
   pub instances : List NamedInstance
   pub invoked : List Invoked
+  pub faults_met : List ℕ
 
 abbrev pub empty_script : ScriptState
-empty_script = record { modules = []; instances = []; invoked = [] }
+empty_script = record { modules = []; instances = []; invoked = []; faults_met = [] }
 
 -- ---- by name
 
@@ -116,7 +117,7 @@ SomeCallIsOpen m =
 abbrev pub MayUseFuel : Call → Type 0
 MayUseFuel c = (c.charges < c.fuel) ⊎ (c.charges ≡ 0)
 
--- and the call may go on: it stands for no fault of a device, and has fuel left or took no charge
+-- and the call may go on: it isn't blocked on a fault of a device, and has fuel left or took no charge
 abbrev pub SomeCallMayGo : ScriptState → Type 0
 SomeCallMayGo m =
     (i : ℕ) × (g : NamedInstance) × (c : Call) × (slice_get m.instances i ≡ Some g) × (g.is_released ≡ false)

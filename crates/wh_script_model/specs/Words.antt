@@ -6,7 +6,7 @@ use Rattle.wh_model.specs.Execution.Store.{value}
 use Rattle.wh_script_model.specs.Lines.{onto_first}
 use Rattle.wh_host_model.specs.Owners.{IsArgument, most_fuel}
 
--- the words of a line: its bytes up to each space, and those behind the last one
+-- the words of a line: its bytes up to each space, and those after the last one
 abbrev pub words_of : List ℕ → List (List ℕ)
 words_of [] = [] ∷ []
 words_of (b ∷ bs) = if b == 32 then [] ∷ words_of bs else onto_first b (words_of bs)
@@ -28,6 +28,6 @@ pub record IsNumber (word : List ℕ) (n : ℤ) : Type 0 where
 abbrev pub IsCount : List ℕ → ℕ → Type 0
 IsCount word n = IsNumber word (pos n) × (n ≤ most_fuel)
 
--- a number in the range of an argument of the type, signed or unsigned, and the unsigned integer that it stands for
+-- a number in the range of an argument of the type, signed or unsigned, and the unsigned integer that represents it
 abbrev pub IsBits : ValType → List ℕ → ℕ → Type 0
 IsBits t word bits = (n : ℤ) × IsNumber word n × IsArgument t n (value t bits)

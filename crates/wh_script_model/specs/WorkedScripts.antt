@@ -41,7 +41,7 @@ round_and_round = loop None (plain (br 0) nothing) nothing
 
 -- it is kept as `m`, and no instance is there
 abbrev pub only_module : Module → ScriptState
-only_module m = record { modules = record { name = codes "m"; m = m } ∷ []; instances = []; invoked = [] }
+only_module m = record { modules = record { name = codes "m"; m = m } ∷ []; instances = []; invoked = []; faults_met = [] }
 
 -- `100 2 16 0 0 0`
 abbrev pub some_params : Params
@@ -49,7 +49,7 @@ some_params = record { shares = 100; min = 2; max = 16; fuel = 0; base = 0; salt
 
 -- ---- commands
 
--- a command on a line of this number, behind a drain, with the default settings and no files
+-- a command on a line of this number, after a drain, with the default settings and no files
 abbrev pub IsObeyedHere : ScriptState → ℕ → Command → List Reply → ScriptState → Type 0
 IsObeyedHere w number command replies w2 = IsObeyed false default_settings no_files w number command replies w2
 

@@ -7,9 +7,9 @@ ghost use Rattle.wh_script_model.specs.AnswerLaws.{RunsOnce, DrainsOnce, LinesBe
 ghost use Rattle.wh_script_model.specs.Served.{ServedAsAlone};
 ghost use Rattle.wh_script_model.specs.WorkedScripts.{SevenIsAnswered, SevenIsPrinted, LoopIsAnswered, RefuelIsRefused};
 
-/// What holds of the definition of the answers to a script: what a drain prints is determined, an instance of a host that has
-/// been served has come as far as alone, and what the commands of three scripts get. The function does nothing; what it ensures
-/// are the laws and the examples.
+/// States what holds of the definition of the answers to a script: what a drain prints is determined, an instance of a
+/// host that has been served has come as far as alone, and what the commands of three scripts get. Does nothing when
+/// run: its contract is the laws and the examples.
 pub fn answers_hold()
     ensures runs_once { RunsOnce }
     ensures drains_once { DrainsOnce }

@@ -3,7 +3,8 @@ use Rattle.std.proofs.Common.{◌≡◌, ℕ, ◌⊎◌, inl, inr, List, Option,
 use Rattle.std.proofs.lemmas.Option.{none-some, same_Some}
 use Rattle.toml.specs.Data.{Data, string, integer, Members, get_member}
 use Rattle.toml.specs.Parse.{parse_document}
-use Rattle.wh_script_model.specs.Settings.{PageHashing, by_fnv64, by_constant, Settings}
+use Rattle.wh_script_model.specs.Settings.{Settings}
+use Rattle.wh_script_model.specs.{PageHashing, by_fnv64, by_constant}
 use Rattle.wh_settings.specs.declared.error.SettingsError.{SettingsError}
 use Rattle.wh_settings.specs.declared.error.SettingsError.TheVariants.{Invalid}
 use Rattle.wh_settings.specs.declared.settings.Settings as code
@@ -69,9 +70,9 @@ one_hash o otherwise a b (inr p) (inr q) = p.1 ∙ sym q.1
 one_path : (document : Members) (key : List ℕ) (a b : Option (List ℕ))
     → SetsPath document key a → SetsPath document key b → a ≡ b
 one_path document key None None p q = refl
-one_path document key None (Some b) p q = absurd (some_or_none (get_member key document) _ q p)
-one_path document key (Some a) None p q = absurd (some_or_none (get_member key document) _ p q)
-one_path document key (Some a) (Some b) p q = ap path_in (sym p ∙ q)
+one_path document key None (Some b) p q = absurd (some_or_none (get_member key document) _ q.0 p)
+one_path document key (Some a) None p q = absurd (some_or_none (get_member key document) _ p.0 q)
+one_path document key (Some a) (Some b) p q = ap path_in (sym p.0 ∙ q.0)
 
 -- settings of these parts
 abbrev made : ℕ → ℕ → ℕ → ℕ → ℕ → PageHashing → Option (List ℕ) → Settings

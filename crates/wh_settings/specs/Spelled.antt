@@ -1,5 +1,5 @@
 -- Which settings a document in TOML spells.
-use Rattle.std.specs.Prelude.{◌≡◌, ℕ, ◌<◌, ◌≤◌, ◌⊎◌, List, Option, Some, None, codes, pos, IsUtf8}
+use Rattle.std.specs.Prelude.{◌≡◌, ℕ, ◌<◌, ◌≤◌, ◌⊎◌, List, length, Option, Some, None, codes, pos, IsUtf8}
 use Rattle.toml.specs.Data.{string, integer, Members, no_members, member, get_member}
 use Rattle.toml.specs.Parse.{parse_document}
 use Rattle.wh_script_model.specs.Settings.{PageHashing, by_fnv64, by_constant, Settings, default_settings}
@@ -42,9 +42,9 @@ SetsHash document key otherwise hash =
     (get_member key document ≡ Some (string (hash_word hash)))
     ⊎ ((get_member key document ≡ None) × (hash ≡ otherwise))
 
--- a path: a text, or none where the key isn't there
+-- a path: a text that isn't empty, or none where the key isn't there
 abbrev pub SetsPath : Members → List ℕ → Option (List ℕ) → Type 0
-SetsPath document key (Some path) = get_member key document ≡ Some (string path)
+SetsPath document key (Some path) = (get_member key document ≡ Some (string path)) × (0 < length path)
 SetsPath document key None = get_member key document ≡ None
 
 -- A document has no other keys, and a value of its type and within its range at each key that it has; what it doesn't

@@ -2,7 +2,7 @@
 
 ghost use Rattle.wh_settings.specs.Laws.{SpellsOnce};
 
-/// A document spells settings in one way at most. The function does nothing; what it ensures is the law.
+/// States that a document spells settings in at most one way. Does nothing when run: its contract is the law.
 pub fn one_reading()
     ensures { SpellsOnce }
 {}

@@ -6,10 +6,10 @@ ghost use Rattle.wh_settings.specs.Spelled.{HasNumber, SetsNumber, SetsTax};
 
 use crate::words::value_at;
 use toml::Table;
-use wh_host_model::Tax;
+use wh_space_model::Tax;
 
-/// The number at a key, or `otherwise` where the key isn't there; none where it isn't `least` to `most`, or is no
-/// number.
+/// Returns the number at a key, or `otherwise` if there is no such key; `None` if the value is no number, or not from
+/// `least` to `most`.
 pub fn number_at(table: &Table, key: &str, otherwise: u64, least: u64, most: u64) -> Option<u64>
     ensures some { IfSome result
         (SetsNumber (table_view table.now) key.now otherwise least most) }
@@ -40,7 +40,7 @@ fn spelled(table: &Table, key: &str, otherwise: u64) -> Option<u64>
     }
 }
 
-/// The tax; none where it isn't below 1, or its parts aren't in their ranges.
+/// Returns the tax; `None` if it isn't below 1, or a part of it is out of range.
 pub fn tax_at(table: &Table) -> Option<Tax>
     ensures some { IfSome result (λ tax. SetsTax (table_view table.now) tax.num tax.den) }
     ensures none { IfNone result

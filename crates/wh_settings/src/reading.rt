@@ -13,7 +13,7 @@ use crate::words::{has_known_keys, hash_at, value_at};
 use std::alloc::Global;
 use toml::Table;
 
-/// The path at a key, if the key is there.
+/// The path at a key, if the key is there. It isn't empty.
 fn path_at(alloc: Global, table: &Table, key: &str) -> Result<Option<String>, SettingsError>
     ensures ok { IfOk result
         (λ path. SetsPath (table_view table.now) key.now (option_map string_bytes path)) }
@@ -26,6 +26,9 @@ fn path_at(alloc: Global, table: &Table, key: &str) -> Result<Option<String>, Se
     let Some(path) = value.as_str() else {
         return Err(SettingsError::Invalid);
     };
+    if path.is_empty() {
+        return Err(SettingsError::Invalid);
+    }
     match String::from_str(alloc, path) {
         Ok(path) => Ok(Some(path)),
         Err(_) => Err(SettingsError::Memory),
@@ -67,12 +70,12 @@ fn settings_in(alloc: Global, table: &Table) -> Result<Settings, SettingsError>
     })
 }
 
-/// The settings that a document in TOML spells: the keys are `frames`, `slots`, `tax_num`, `tax_den`, `quantum`, `hash`
-/// and `swap`, and what isn't there is as in [`Settings::default`].
+/// Parses settings from a document in TOML: the keys are `frames`, `slots`, `tax_num`, `tax_den`, `quantum`, `hash` and
+/// `swap`, whose path isn't empty; what isn't there is as in [`Settings::default`].
 ///
 /// # Errors
-/// `Invalid` where it spells none: it is no UTF-8 or no TOML, has another key, or a value of another type or out of its
-/// range. Else `Memory` where a growth was refused.
+/// `Invalid` if the document spells none: it is no UTF-8 or no TOML, has another key, or a value of another type or out
+/// of its range. Else `Memory` if an allocation fails.
 pub fn read_settings(alloc: Global, bytes: &[u8]) -> Result<Settings, SettingsError>
     ensures ok { IfOk result (λ s. SpellsSettings bytes.now (settings_of s)) }
     ensures err { IfErr result (λ e. e ≡ SettingsError.Invalid

@@ -2,7 +2,7 @@
 
 ghost use Rattle.std.specs.Prelude.{◌≤◌};
 
-use wh_host_model::Tax;
+use wh_space_model::Tax;
 
 /// By which hash equal pages are looked for.
 #[derive(Clone, Copy, Debug, PartialEq, Eq)]
@@ -41,7 +41,7 @@ impl Settings {
     ghost use Rattle.wh_script_model.specs.Settings.{default_settings};
     ghost use Rattle.wh_settings.specs.View.{settings_of};
 
-    /// The settings where nothing is said: 1024 frames, 4096 slots, a tax of 3/4, turns of 1000 charges, FNV-1a, and no
+    /// Returns the default settings: 1024 frames, 4096 slots, a tax of 3/4, turns of 1000 charges, FNV-1a, and no swap
     /// file.
     pub fn default() -> Settings
         ensures { settings_of result ≡ default_settings }

@@ -11,7 +11,7 @@ ghost use Rattle.wh_settings.specs.View.{hashing_of};
 use crate::settings::HashKind;
 use toml::{Table, Value};
 
-/// What a document has at a key.
+/// Returns what a document has at a key, if anything.
 pub fn value_at<'a>(table: &'a Table, key: &str) -> Option<&'a Value>
     ensures { option_map (λ v. view v.now) result ≡ get_member key.now (table_view table.now) }
 {
@@ -28,7 +28,7 @@ fn is_known(key: &str) -> bool
     )
 }
 
-/// Whether the document has no other keys.
+/// Tells whether the document has no keys but those of settings.
 pub fn has_known_keys(table: &Table) -> bool
     ensures { let document = table_view table.now in
         MatchBool result (HasKnownKeys document) (¬ (HasKnownKeys document)) }
@@ -41,7 +41,7 @@ pub fn has_known_keys(table: &Table) -> bool
     true
 }
 
-/// The hash that the document names, FNV-1a where it names none; none where it names another.
+/// Returns the hash that the document names, or FNV-1a if it names none; `None` if it names an unknown one.
 pub fn hash_at(table: &Table, key: &str) -> Option<HashKind>
     ensures some { IfSome result
         (λ hash. SetsHash (table_view table.now) key.now by_fnv64 (hashing_of hash)) }

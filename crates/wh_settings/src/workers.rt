@@ -11,7 +11,7 @@ pub struct Workers {
 }
 
 impl Workers {
-    /// So many, where that is 1 to 64.
+    /// Returns this number of workers, if it is 1 to 64.
     pub fn new(number: u8) -> Option<Workers>
         ensures some { IfSome result (λ workers. workers.number ≡ number) }
         ensures none { IfNone result (¬ ((1 ≤ number) × (number ≤ 64))) }
@@ -22,14 +22,14 @@ impl Workers {
         Some(Workers { number })
     }
 
-    /// How many they are where nothing is said: 4.
+    /// Returns the default number of workers, 4.
     pub fn default() -> Workers
         ensures { result.number ≡ 4 }
     {
         Workers { number: 4 }
     }
 
-    /// How many they are.
+    /// Returns the number of workers, 1 to 64.
     pub fn count(self) -> usize
         ensures number { result ≡ self.number }
         ensures above { 1 ≤ result }

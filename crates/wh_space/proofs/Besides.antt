@@ -1,16 +1,10 @@
 -- The greatest sharer of a frame that can leave for a step, looked for from the last page there on.
-use Rattle.std.proofs.Common.{◌≡◌, ◌≢◌, ◌/◌, ◌%◌, ◌∷◌, zero, suc, cond, nat_lt, Bool, true, false, ℕ, ◌+◌, ◌<◌, ◌≤◌, ◌⊎◌, inl, inr, List, [], Option, Some, None, length, get_or, refl, sym, ap, ◌∙◌, subst, arith}
+use Rattle.std.proofs.Common.{◌≡◌, ◌≢◌, ◌/◌, ◌%◌, ◌∷◌, zero, suc, cond, nat_lt, Bool, true, false, ℕ, ◌+◌, ◌<◌, ◌≤◌, ◌⊎◌, inl, inr, List, [], Option, Some, None, length, get_or, sym, ap, ◌∙◌, subst, arith}
 use Rattle.wh_model.specs.declared.memory.Need.{Need}
-use Rattle.wh_host_model.specs.declared.states.Page.{Page}
-use Rattle.wh_host_model.specs.Frames.{one_if, tally}
-use Rattle.wh_host_model.proofs.Tally.{one_other}
-use Rattle.wh_host_model.specs.Space.Charges.{IsOnFrame, frame_charge, occupant_number, stands_on}
-use Rattle.wh_host_model.specs.Space.Moves.{frame_of}
-use Rattle.wh_host_model.specs.Space.Ready.{among, pages_from, pages_of_need}
-use Rattle.wh_host_model.specs.Space.Claims.{CanShed, IsBeside, IsShed, NobodyIsShed}
-use Rattle.wh_host_model.specs.Space.Parts.{Occupant, Space, occupant_at, sharers}
-use Rattle.wh_host_model.specs.Space.States.{at, page_at, shares}
-use Rattle.wh_host_model.proofs.Space.Charging.{in_row, number_is, occupied, on_once}
+use Rattle.wh_space_model.specs.declared.states.Page.{Page}
+use Rattle.wh_space_model.specs.{one_if, tally, IsOnFrame, occupant_number, stands_on, frame_of, among, pages_from, pages_of_need, CanShed, IsBeside, IsShed, NobodyIsShed, Occupant, Space, occupant_at, sharers, at, page_at, shares}
+use Rattle.wh_space_model.proofs.Tally.{one_other}
+use Rattle.wh_space_model.proofs.Charging.{in_row, number_is, occupied, on_once}
 use Rattle.wh_tables.specs.declared.page_id.PageId.{PageId}
 use Rattle.wh_tables.specs.PageLinks.{IsEarlierStop, IsStop}
 use Rattle.wh_tables.specs.Order.{ComesBefore, StandsOn}
@@ -19,12 +13,11 @@ use Rattle.wh_tables.proofs.InOrder.{order_of_pages}
 use Rattle.wh_space.specs.declared.memory.Memory.TheInside.{Inside}
 use Rattle.wh_space.specs.Parts.{IsWell, space_of}
 use Rattle.std.specs.Prelude.{MatchOption}
-use Rattle.wh_host_model.specs.declared.states.Page.TheVariants.{Untouched, Private, Shared, Leaving, LeavingShared, Coming, Swapped}
-use Rattle.wh_host_model.proofs.Space.Putting.{here_or}
-use Rattle.wh_host_model.proofs.Space.Reading.{taken_under}
+use Rattle.wh_space_model.specs.declared.states.Page.TheVariants.{Untouched, Private, Shared, Leaving, LeavingShared, Coming, Swapped}
+use Rattle.wh_space_model.proofs.Putting.{here_or}
+use Rattle.wh_space_model.proofs.Reading.{taken_under}
 use Rattle.wh_space.specs.Shedding.{IsLastBeside, IsNoneBeside, IsShedOf, ShedsNone}
 use Rattle.wh_space.specs.Steps.{frame_shared}
-use Rattle.wh_space.proofs.Wants.{shares_frame}
 use Rattle.wh_space.proofs.Charged.{has_row, number_same}
 
 -- a sharer stands on its frame
@@ -119,52 +112,11 @@ shed_frame s i need q f g page there is can =
     let on : shares g page ≡ 1 = sym (ap (at (shares g)) there) ∙ can.on in
     sharing_is f g page is on
 
-not_sharing : (g : ℕ) (page : Page) → frame_shared page ≡ None → shares g page ≡ 0
-not_sharing g Untouched is = refl
-not_sharing g (Private h) is = refl
-not_sharing g (Shared h) is = absurd (cc is)
-not_sharing g (Leaving h) is = refl
-not_sharing g (LeavingShared h) is = absurd (cc is)
-not_sharing g (Coming k) is = refl
-not_sharing g (Swapped k) is = refl
-
-pub sheds_nowhere : (s : Space) (i : ℕ) (need : Need) (q : ℕ) (page : Page) → page_at s.tables i q ≡ Some page → frame_shared page ≡ None → ShedsNone s i need q
-sheds_nowhere s i need q page there is = λ g can. absurd (
-    let on : shares g page ≡ 1 = sym (ap (at (shares g)) there) ∙ can.on in
-    let off = not_sharing g page is in
-    omega arith)
-
-pub sheds_uncharged : (s : Space) (i : ℕ) (need : Need) (q f : ℕ) (page : Page) → page_at s.tables i q ≡ Some page → frame_shared page ≡ Some f → frame_charge s i f ≡ 0 → ShedsNone s i need q
-sheds_uncharged s i need q f page there is none = λ g can. absurd (
-    let same = shed_frame s i need q f g page there is can in
-    let one : frame_charge s i f ≡ 1 = subst (λ h. frame_charge s i h ≡ 1) same can.charged in
-    omega arith)
-
 pub sheds_few : (s : Space) (i : ℕ) (need : Need) (q f : ℕ) (page : Page) → page_at s.tables i q ≡ Some page → frame_shared page ≡ Some f → sharers s f ≤ among (shares f) s i (pages_of_need need) → ShedsNone s i need q
 sheds_few s i need q f page there is few = λ g can. absurd (
     let same = shed_frame s i need q f g page there is can in
     let more : among (shares f) s i (pages_of_need need) < sharers s f = subst (λ h. among (shares h) s i (pages_of_need need) < sharers s h) same can.more in
     omega arith)
-
-pub sheds_for : (s : Space) (i : ℕ) (need : Need) (q f : ℕ) (page : Page) (found : Option PageId) → page_at s.tables i q ≡ Some page → frame_shared page ≡ Some f → need.writes ≡ true → 1 ≤ tally (one_if q) (pages_of_need need)
-    → frame_charge s i f ≡ 1 → among (shares f) s i (pages_of_need need) < sharers s f → MatchOption found (IsNoneBeside s i need f) (λ id. IsLastBeside s i need f id.place id.page)
-    → MatchOption found (ShedsNone s i need q) (λ id. IsShedOf s i need q id.place id.page)
-sheds_for s i need q f page None there is writes of charged more none = λ g can. (
-    let same = shed_frame s i need q f g page there is can in
-    let beside = subst (λ h. (j p : ℕ) × IsBeside s i need h j p) same can.beside in
-    none beside.0 beside.1 beside.2)
-sheds_for s i need q f page (Some id) there is writes of charged more last = record {
-  frame = f;
-  sheds = record {
-    writes = writes;
-    page = of;
-    on = ap (at (shares f)) there ∙ (shares_frame page f is).0;
-    charged = charged;
-    more = more;
-    beside = (id.place, id.page, last.beside);
-  };
-  last = last;
-}
 
 -- ---- for the step
 

@@ -1,11 +1,8 @@
 -- Pages that stand alone.
 use Rattle.std.proofs.Common.{◌≡◌, ◌∙◌, ℕ, ◌+◌, [], ◌∷◌, Some, refl, arith}
-use Rattle.wh_host_model.specs.declared.states.Page.TheVariants.{Private}
-use Rattle.wh_host_model.specs.Space.Parts.{Space}
-use Rattle.wh_host_model.specs.Space.Ready.{frames_for}
-use Rattle.wh_host_model.specs.Space.Sound.{IsSound}
-use Rattle.wh_host_model.specs.Space.States.{page_at, untouched}
-use Rattle.wh_host_model.proofs.Space.Counting.{frames_one_page, shared_frame, single}
+use Rattle.wh_space_model.specs.declared.states.Page.TheVariants.{Private}
+use Rattle.wh_space_model.specs.{Space, frames_for, IsSound, page_at, untouched}
+use Rattle.wh_space_model.proofs.Counting.{frames_one_page, shared_frame, single}
 use Rattle.wh_space.specs.Steps.{CanBreak}
 
 -- a page that stands alone can be written at once

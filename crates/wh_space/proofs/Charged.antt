@@ -4,14 +4,11 @@ use Rattle.std.specs.Prelude.{MatchBool}
 use Rattle.std.proofs.lemmas.Bool.Decides.{nat_tests}
 use Rattle.std.proofs.lemmas.Bool.{cases_lt}
 use Rattle.std.proofs.lemmas.List.{length-map}
-use Rattle.wh_host_model.specs.declared.states.Page.{Page}
-use Rattle.wh_host_model.specs.Space.Charges.{IsChargedPage, IsChargedFor, frame_charge, IsFirstOn, IsOnFrame, IsOnTouched, active_in, active_of, before_in, charge_in, charged_in, charged_of, occupant_number, standing_at, stands_on, touchers_in}
-use Rattle.wh_host_model.specs.Space.Moves.{frame_of}
-use Rattle.wh_host_model.specs.Space.Parts.{Occupant, Space, occupant_at}
-use Rattle.wh_host_model.specs.Space.States.{page_at}
-use Rattle.wh_host_model.proofs.Space.Changing.{below_each}
-use Rattle.wh_host_model.proofs.Space.Charging.{charged_alone, charged_page, charged_to, in_row, occupied, on_once, first_of}
-use Rattle.wh_host_model.proofs.Space.Putting.{here_or, is_page}
+use Rattle.wh_space_model.specs.declared.states.Page.{Page}
+use Rattle.wh_space_model.specs.{IsChargedPage, IsChargedFor, frame_charge, IsFirstOn, IsOnFrame, active_in, active_of, before_in, charge_in, charged_in, charged_of, occupant_number, standing_at, stands_on, touchers_in, frame_of, Occupant, Space, occupant_at, page_at}
+use Rattle.wh_space_model.proofs.Changing.{below_each}
+use Rattle.wh_space_model.proofs.Charging.{charged_alone, charged_page, charged_to, in_row, occupied, on_once, first_of}
+use Rattle.wh_space_model.proofs.Putting.{here_or, is_page}
 use Rattle.wh_tables.specs.declared.page_id.PageId.{PageId}
 use Rattle.wh_tables.specs.Index.{number_in}
 use Rattle.wh_tables.proofs.Keeping.{frame_stands}
@@ -140,20 +137,6 @@ not_charged a i p f j q page was there on first other charged =
     elim other [ inl away ↦ away alone.0 | inr apart ↦ apart alone.1 ] where
       owner_of : (k r : ℕ) → IsChargedFor (space_of a) k r f → (t : Occupant) × occupant_at (space_of a) k t
       owner_of k r charged = (let row = in_row (stands_on f) (get_or a.tables.pages k []) r in let on = charged.on in occupied (stands_on f) (space_of a) k was.sound.occupants (omega arith))
-
--- whether a touched page stands on its frame
-pub on_touched : (s : Space) (i p f : ℕ) (page : Page) → page_at s.tables i p ≡ Some page → frame_of page ≡ Some f → 1 ≤ touchers_in s.tables s.touched f → IsOnTouched s i p
-on_touched s i p f page there on some = (f, rw there (frame_stands f page on), some)
-
-pub not_on_touched : (s : Space) (i p f : ℕ) (page : Page) → page_at s.tables i p ≡ Some page → frame_of page ≡ Some f → touchers_in s.tables s.touched f ≡ 0 → ¬ IsOnTouched s i p
-not_on_touched s i p f page there on none touched =
-    let its = page_of_standing s.tables touched.0 (record { place = i; page = p }) touched.1 in
-    let both : Some page ≡ Some its.0 = sym there ∙ its.1 in
-    let one : page ≡ its.0 = cc in
-    let same : touched.0 ≡ f = one_frame touched.0 f page (subst (λ (x : Page). stands_on touched.0 x ≡ 1) (sym one) its.2) (frame_stands f page on) in
-    let some = touched.2 in
-    let zeros : touchers_in s.tables s.touched touched.0 ≡ 0 = rw same none in
-    absurd (omega arith)
 
 -- an instance has few pages
 pub row_few : (a : Inside) (i : ℕ) → IsWell a → length (get_or a.tables.pages i []) ≤ 65536

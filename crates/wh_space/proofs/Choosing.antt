@@ -1,21 +1,16 @@
 -- What each instance brings to the choice of the page that leaves.
 use Rattle.std.proofs.Common.{◌≡◌, ◌∙◌, inl, inr, ℕ, ◌+◌, ◌<◌, ◌≤◌, ◌⊎◌, is_some, not, Bool, true, false, List, [], ◌∷◌, Option, Some, None, length, get_or, map, slice_get, zero, suc, refl, sym, ap, subst, arith}
-use Rattle.std.specs.Prelude.{MatchBool, MatchOption}
-use Rattle.wh_host_model.specs.declared.states.Page.{Page}
-use Rattle.wh_host_model.specs.declared.states.Page.TheVariants.{Untouched, Private, Shared, Leaving, LeavingShared, Coming, Swapped}
-use Rattle.wh_host_model.specs.Space.Charges.{IsOnTouched, IsTouched, touchers_in}
-use Rattle.wh_host_model.specs.Space.Claims.{CanBeTaken, CanLeave, IsTakenFrom, stays}
-use Rattle.wh_host_model.specs.Space.Parts.{Occupant, Space, occupant_at}
-use Rattle.wh_host_model.specs.Space.States.{at, page_at, resident}
-use Rattle.wh_host_model.proofs.Space.Putting.{there_of}
+use Rattle.std.specs.Prelude.{MatchBool}
+use Rattle.wh_space_model.specs.declared.states.Page.{Page}
+use Rattle.wh_space_model.specs.declared.states.Page.TheVariants.{Untouched, Private, Shared, Leaving, LeavingShared, Coming, Swapped}
+use Rattle.wh_space_model.specs.{IsTouched, touchers_in, CanBeTaken, CanLeave, stays, Occupant, Space, occupant_at, at, page_at, resident, frame_of}
+use Rattle.wh_space_model.proofs.Putting.{there_of}
 use Rattle.wh_space.specs.declared.occupant_entry.OccupantEntry.{OccupantEntry}
 use Rattle.wh_pages.specs.Seeking.{IsFirstFrom}
 use Rattle.wh_tables.specs.Tables.{IsSoughtAt}
-use Rattle.wh_host_model.specs.Space.Moves.{frame_of}
 use Rattle.wh_tables.proofs.Keeping.{frame_stands}
 use Rattle.wh_tables.proofs.Touching.{touchers_with_page}
-use Rattle.wh_space.proofs.Charged.{not_on_touched, on_touched}
-use Rattle.wh_space.specs.Claiming.{MightBeTaken, MightLeave, TakesNoPage}
+use Rattle.wh_space.specs.Claiming.{MightBeTaken, MightLeave}
 use Rattle.wh_space.specs.Parts.{occupant_of}
 
 -- ---- pages that are counted
@@ -162,25 +157,3 @@ taking_within s i q can = leaving_within s i q can.0
 
 pub all_taken : (s : Space) (i : ℕ) (idle : Bool) (from : ℕ) → length (get_or s.tables i []) ≤ from → ((q : ℕ) → q < from → ¬ MightBeTaken s i idle q) → IsFirstFrom (MightBeTaken s i idle) 0 None
 all_taken s i idle from far passed = λ q at might. (let less = taking_within s i q might.0 in passed q (omega arith) might)
-
--- a frame on which some page was touched or none
-on_touched_or : (s : Space) (i q : ℕ) → CanBeTaken s i q → IsOnTouched s i q ⊎ (¬ IsOnTouched s i q)
-on_touched_or s i q can = go (page_at s.tables i q) refl can.0.0 where
-  go : (o : Option Page) → page_at s.tables i q ≡ o → at stays o ≡ 1 → IsOnTouched s i q ⊎ (¬ IsOnTouched s i q)
-  go None e one = absurd (omega (arith, one))
-  go (Some x) e one =
-      let on = stays_on x one in
-      elim (either 0 (touchers_in s.tables s.touched on.0)) [
-        | inl some ↦ inl (on_touched s i q on.0 x e on.1 some)
-        | inr most ↦ inr (not_on_touched s i q on.0 x e on.1 (omega arith))
-      ]
-
-all_busy : (s : Space) (i q : ℕ) → ¬ MightBeTaken s i true q → CanBeTaken s i q → IsOnTouched s i q
-all_busy s i q none can = elim (on_touched_or s i q can) [ inl touched ↦ touched | inr idle ↦ absurd (none (can, λ so. idle)) ]
-
-pub takes_first : (s : Space) (i : ℕ) (first : Option ℕ) → IsFirstFrom (MightBeTaken s i true) 0 None → IsFirstFrom (MightBeTaken s i false) 0 first → MatchOption first (TakesNoPage s i) (λ p. IsTakenFrom s i p)
-takes_first s i None idle none = λ q can. none q (omega arith) (can, λ so. (let bad : false ≡ true = so in absurd (cc bad)))
-takes_first s i (Some p) idle next =
-    (next.0.0.0, inr (λ q can. (all_busy s i q (idle q (omega arith)) can, least q can))) where
-      least : (q : ℕ) → CanBeTaken s i q → p ≤ q
-      least q can = elim (either q p) [ inl below ↦ absurd (next.1 q (omega arith) below (can, λ so. (let bad : false ≡ true = so in absurd (cc bad)))) | inr most ↦ most ]

@@ -1,20 +1,14 @@
 -- Pages that are lent, one after the other.
 use Rattle.std.proofs.Common.{◌≡◌, ◌≢◌, ℕ, zero, suc, ◌+◌, ◌*◌, ◌/◌, ◌<◌, ◌≤◌, ◌^◌, inl, inr, List, [], ◌∷◌, replicate, Option, Some, None, length, get_or, slice_get, refl, sym, ap, subst, ◌∙◌, arith}
 use Rattle.std.proofs.lemmas.Bool.{cases_lt}
-use Rattle.wh_host_model.specs.declared.states.Page.{Page}
-use Rattle.wh_host_model.specs.declared.states.Page.TheVariants.{Untouched, Private, Shared, Leaving, LeavingShared, Coming, Swapped}
-use Rattle.wh_host_model.specs.Host.Forking.{IsAway}
-use Rattle.wh_host_model.specs.Space.Claims.{stays}
-use Rattle.wh_host_model.specs.Space.Forks.{Lends, LendsFirst, LendsPage}
-use Rattle.wh_host_model.specs.Space.Parts.{Claimed, Occupant, Slots, Space}
-use Rattle.wh_host_model.specs.Space.Places.{Enters}
-use Rattle.wh_host_model.specs.Space.Sound.{IsSound}
-use Rattle.wh_host_model.specs.Space.States.{page_at, put, untouched}
-use Rattle.wh_host_model.proofs.Space.Forked.{entered_row}
-use Rattle.wh_host_model.proofs.Space.Putting.{here_or, put_other, put_other_row}
-use Rattle.wh_host_model.proofs.Space.Rooms.{get_there}
-use Rattle.wh_host_model.proofs.Space.Rows.{past_there}
-use Rattle.wh_space.specs.Lendable.{IsHere, MayLend}
+use Rattle.wh_space_model.specs.declared.states.Page.{Page}
+use Rattle.wh_space_model.specs.declared.states.Page.TheVariants.{Untouched, Private, Shared, Leaving, LeavingShared, Coming, Swapped}
+use Rattle.wh_space_model.specs.{stays, IsAway, Lends, LendsFirst, LendsPage, Claimed, Occupant, Space, Enters, IsSound, page_at, put, untouched}
+use Rattle.wh_space_model.proofs.Forked.{entered_row}
+use Rattle.wh_space_model.proofs.Putting.{here_or, put_other, put_other_row}
+use Rattle.wh_space_model.proofs.Rooms.{get_there}
+use Rattle.wh_space_model.proofs.Rows.{past_there}
+use Rattle.wh_space.specs.Lendable.{MayLend}
 use Rattle.wh_space.specs.Merges.{HasFewPages}
 
 put_apart : (t : List (List Page)) (i p k q : ℕ) (x : Page) → q ≢ p → page_at (put t i p x) k q ≡ page_at t k q
@@ -72,7 +66,7 @@ whole_table s i sound = elim (cases_lt i (length s.occupants)) [
   | inl within ↦ (let o = get_there s.occupants i within in of o.0 (sound.occupants.have i o.0 o.1))
   | inr past ↦ (0, ap length (past_there s.tables i (let l = sound.occupants.tables in omega (arith, past, l))))
 ] where
-  of : (o : Option Occupant) → Rattle.wh_host_model.specs.Space.Sound.HasTable o (get_or s.tables i []) → (n : ℕ) × (length (get_or s.tables i []) ≡ 16 * n)
+  of : (o : Option Occupant) → Rattle.wh_space_model.specs.Sound.HasTable o (get_or s.tables i []) → (n : ℕ) × (length (get_or s.tables i []) ≡ 16 * n)
   of None empty = (0, ap length empty)
   of (Some t) has = has.7
 

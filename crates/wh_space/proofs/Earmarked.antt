@@ -2,16 +2,11 @@
 use Rattle.std.proofs.Common.{◌≡◌, ℕ, ◌+◌, ◌<◌, ◌≤◌, ◌++◌, ◌==◌, inl, inr, cond, Bool, true, false, List, [], ◌∷◌, Option, Some, None, length, slice_set, refl, sym, ◌∙◌, ap, arith, length-append}
 use Rattle.std.proofs.lemmas.Bool.{cases_lt}
 use Rattle.std.proofs.lemmas.List.{append-nil}
-use Rattle.wh_host_model.specs.Frames.{IsTaken, Pool, one_if, tally}
-use Rattle.wh_host_model.specs.declared.states.Mark.{Mark}
-use Rattle.wh_host_model.specs.Space.Breaks.{TakesFrame}
-use Rattle.wh_host_model.specs.Space.Moves.{Earmarks, has_pins, pinned, residents, unpinned_of}
-use Rattle.wh_host_model.specs.Space.Parts.{Pins, Space, kept, kept_by, pinned_by}
-use Rattle.wh_host_model.specs.Space.Ready.{may_take, pages_of_need}
+use Rattle.wh_space_model.specs.{IsTaken, Pool, one_if, tally, TakesFrame, Earmarks, has_pins, pinned, residents, unpinned_of, Pins, Space, kept, kept_by, pinned_by, may_take, pages_of_need, FramesAreSound}
+use Rattle.wh_space_model.specs.declared.states.Mark.{Mark}
 use Rattle.wh_model.specs.declared.memory.Need.{Need}
-use Rattle.wh_host_model.specs.Space.Sound.{FramesAreSound}
-use Rattle.wh_host_model.proofs.Tally.{one_same, tally-append}
-use Rattle.wh_host_model.proofs.Space.Putting.{cond_here}
+use Rattle.wh_space_model.proofs.Tally.{one_same, tally-append}
+use Rattle.wh_space_model.proofs.Putting.{cond_here}
 use Rattle.wh_space.specs.declared.pins.Few.{Few}
 use Rattle.wh_space.specs.declared.pins.Few.TheVariants.{Zero}
 use Rattle.wh_space.specs.declared.pins.Pinned.{Pinned}

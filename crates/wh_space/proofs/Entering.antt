@@ -3,21 +3,16 @@ use Rattle.std.proofs.Common.{◌≡◌, ◌≢◌, ◌⊎◌, inl, inr, ℕ, �
 use Rattle.std.proofs.lemmas.Bool.{cases_lt}
 use Rattle.std.proofs.lemmas.Bool.Decides.{nat_tests}
 use Rattle.std.proofs.lemmas.List.{length-map}
-use Rattle.wh_host_model.specs.Frames.{Pool, tally}
+use Rattle.wh_space_model.specs.{Pool, tally, ticket_of, IsSound, IsUsed, LeavesBy, page_at, Occupant, Slots, Space, occupant_at, Enters, HasRoomFor, IsFreePlace, newcomer, with_row}
 use Rattle.wh_tables.specs.Tables.{TablesState}
-use Rattle.wh_host_model.specs.declared.states.Page.{Page}
-use Rattle.wh_host_model.specs.declared.states.Page.TheVariants.{Coming, Untouched}
-use Rattle.wh_host_model.specs.declared.states.Slot.{Slot}
-use Rattle.wh_host_model.specs.declared.states.Slot.TheVariants.{Vacant, Taken, Evicting, EvictVoid, Fetching, FetchVoid}
-use Rattle.wh_host_model.specs.Space.Errands.{ticket_of}
-use Rattle.wh_host_model.specs.Space.Sound.{IsSound, IsUsed, LeavesBy}
-use Rattle.wh_host_model.specs.Space.States.{page_at}
-use Rattle.wh_host_model.proofs.Tally.{one_other}
-use Rattle.wh_host_model.specs.Space.Parts.{Occupant, Slots, Space, occupant_at}
-use Rattle.wh_host_model.specs.Space.Places.{Enters, HasRoomFor, IsFreePlace, newcomer, with_row}
-use Rattle.wh_host_model.proofs.Space.Entered.{enters_soundly, free_within}
-use Rattle.wh_host_model.proofs.Space.Putting.{get_or_is, here_or, there_of}
-use Rattle.wh_host_model.proofs.Space.Rows.{past_there, row_other, row_same}
+use Rattle.wh_space_model.specs.declared.states.Page.{Page}
+use Rattle.wh_space_model.specs.declared.states.Page.TheVariants.{Coming, Untouched}
+use Rattle.wh_space_model.specs.declared.states.Slot.{Slot}
+use Rattle.wh_space_model.specs.declared.states.Slot.TheVariants.{Vacant, Taken, Evicting, EvictVoid, Fetching, FetchVoid}
+use Rattle.wh_space_model.proofs.Tally.{one_other}
+use Rattle.wh_space_model.proofs.Entered.{enters_soundly, free_within}
+use Rattle.wh_space_model.proofs.Putting.{get_or_is, here_or, there_of}
+use Rattle.wh_space_model.proofs.Rows.{past_there, row_other, row_same}
 use Rattle.wh_space.specs.Arrivals.{claimed}
 use Rattle.wh_space.specs.declared.occupant_entry.OccupantEntry.{OccupantEntry}
 use Rattle.wh_space.specs.declared.occupant_entry.Promise.{Promise}

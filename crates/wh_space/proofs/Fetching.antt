@@ -1,18 +1,14 @@
 -- A page that comes in one go; how many pages there are.
 use Rattle.std.proofs.Common.{length-set, ◌≡◌, ◌∙◌, inl, inr, ℕ, ◌*◌, ◌<◌, ◌≤◌, ◌^◌, ◌++◌, List, [], ◌∷◌, Option, Some, None, length, get_or, slice_get, slice_set, zero, suc, refl, sym, ap, subst, arith}
 use Rattle.std.proofs.lemmas.Bool.{cases_lt}
-use Rattle.wh_host_model.specs.Frames.{Pool, TakesFrame, one_if, tally}
-use Rattle.wh_host_model.specs.declared.states.Page.{Page}
-use Rattle.wh_host_model.specs.declared.states.Page.TheVariants.{Untouched, Private, Shared, Leaving, LeavingShared, Coming, Swapped}
-use Rattle.wh_host_model.specs.declared.states.Slot.TheVariants.{Taken, Vacant}
-use Rattle.wh_host_model.specs.Space.Moves.{Fetches, fetched}
-use Rattle.wh_host_model.specs.Space.Parts.{Occupant, Space, kept, pinned_by}
-use Rattle.wh_host_model.specs.Space.Sound.{HasTable, IsSound, IsUsed}
-use Rattle.wh_host_model.specs.Space.States.{count, page_at, put, resident}
-use Rattle.wh_host_model.proofs.Space.Fetched.{is_sound_fetched}
-use Rattle.wh_host_model.proofs.Space.Putting.{there_of}
-use Rattle.wh_host_model.proofs.Space.Rooms.{get_there}
-use Rattle.wh_host_model.proofs.Space.Slotting.{slot_taken}
+use Rattle.wh_space_model.specs.{Pool, TakesFreeFrame, one_if, tally, Fetches, fetched, Occupant, Space, kept, pinned_by, HasTable, IsSound, IsUsed, count, page_at, put, resident}
+use Rattle.wh_space_model.specs.declared.states.Page.{Page}
+use Rattle.wh_space_model.specs.declared.states.Page.TheVariants.{Untouched, Private, Shared, Leaving, LeavingShared, Coming, Swapped}
+use Rattle.wh_space_model.specs.declared.states.Slot.TheVariants.{Taken, Vacant}
+use Rattle.wh_space_model.proofs.Fetched.{is_sound_fetched}
+use Rattle.wh_space_model.proofs.Putting.{there_of}
+use Rattle.wh_space_model.proofs.Rooms.{get_there}
+use Rattle.wh_space_model.proofs.Slotting.{slot_taken}
 use Rattle.wh_space.specs.declared.memory.Memory.TheInside.{Inside}
 use Rattle.wh_space.specs.UnchangedTables.{fixed_in}
 use Rattle.wh_space.specs.Parts.{IsWell, space_of}
@@ -78,7 +74,7 @@ lies_there s i p k sound there =
     record { taken = taken; slot = there_of s.slots.uses k Taken taken; away = used.2 }
 
 pub fetched_now : (a b : Inside) (i p k f : ℕ) (bytes : List ℕ) (taken : Pool) → IsWell a → page_at (space_of a).tables i p ≡ Some (Swapped k) → length bytes ≡ 4096 → kept (pins_of a.pins) ≡ []
-    → TakesFrame a.pool f taken → b.pool ≡ record taken { frames = slice_set taken.frames f bytes }
+    → TakesFreeFrame a.pool f taken → b.pool ≡ record taken { frames = slice_set taken.frames f bytes }
     → b.slots ≡ record a.slots { uses = slice_set a.slots.uses k Vacant; vacant = a.slots.vacant ++ k ∷ [] }
     → b.tables.pages ≡ put a.tables.pages i p (Private f) → b.tables.marks ≡ a.tables.marks → fixed_in b.tables ≡ fixed_in a.tables
     → pins_of b.pins ≡ Some (record { place = i; pages = p ∷ pinned_by (pins_of a.pins) i; frames = [] })

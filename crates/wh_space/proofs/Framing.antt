@@ -1,16 +1,13 @@
 -- Frames of which the page tables know.
 use Rattle.std.proofs.Common.{◌≡◌, ℕ, ◌<◌, inl, inr, Option, Some, None, IfSome, length, refl, sym, ap, arith}
-use Rattle.wh_host_model.specs.Frames.{one_if}
-use Rattle.wh_host_model.proofs.Tally.{one_other}
-use Rattle.wh_host_model.specs.declared.states.Page.{Page}
-use Rattle.wh_host_model.specs.declared.states.Page.TheVariants.{Untouched, Private, Shared, Leaving, LeavingShared, Coming, Swapped}
-use Rattle.wh_host_model.specs.Space.Moves.{frame_of}
-use Rattle.wh_host_model.specs.Space.States.{owns, page_at}
-use Rattle.wh_host_model.proofs.Space.Putting.{here_or}
-use Rattle.wh_host_model.proofs.Space.Reading.{taken_under}
+use Rattle.wh_space_model.specs.{one_if, frame_of, owns, page_at, as_leaving}
+use Rattle.wh_space_model.proofs.Tally.{one_other}
+use Rattle.wh_space_model.specs.declared.states.Page.{Page}
+use Rattle.wh_space_model.specs.declared.states.Page.TheVariants.{Untouched, Private, Shared, Leaving, LeavingShared, Coming, Swapped}
+use Rattle.wh_space_model.proofs.Putting.{here_or}
+use Rattle.wh_space_model.proofs.Reading.{taken_under}
 use Rattle.wh_space.specs.declared.memory.Memory.TheInside.{Inside}
 use Rattle.wh_space.specs.Parts.{IsWell, space_of}
-use Rattle.wh_host_model.specs.Space.Tickets.{as_leaving}
 use Rattle.wh_space.specs.Transits.{back_again}
 
 -- a frame that is there

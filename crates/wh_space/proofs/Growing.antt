@@ -1,13 +1,11 @@
 -- How long tables are, and may be.
 use Rattle.std.proofs.Common.{◌≡◌, ℕ, ◌+◌, ◌*◌, ◌/◌, ◌≤◌, ◌⊎◌, inl, inr, List, [], ◌∷◌, Option, Some, None, Bool, true, false, length, get_or, slice_get, map, zero, suc, refl, sym, ◌∙◌, ap, arith}
 use Rattle.std.proofs.lemmas.Bool.{cases_lt}
-use Rattle.wh_host_model.specs.Space.Parts.{Occupant, Space, claim_of}
-use Rattle.wh_host_model.specs.Space.Sound.{HasTable, IsSound}
-use Rattle.wh_host_model.specs.Space.Stores.{Grew}
-use Rattle.wh_host_model.proofs.Space.Enlarged.{grows_soundly}
-use Rattle.wh_host_model.proofs.Space.Putting.{get_or_is}
-use Rattle.wh_host_model.proofs.Space.Rooms.{get_there}
-use Rattle.wh_host_model.proofs.Space.Rows.{past_there}
+use Rattle.wh_space_model.specs.{Occupant, Space, claim_of, HasTable, IsSound, Grew}
+use Rattle.wh_space_model.proofs.Enlarged.{grows_soundly}
+use Rattle.wh_space_model.proofs.Putting.{get_or_is}
+use Rattle.wh_space_model.proofs.Rooms.{get_there}
+use Rattle.wh_space_model.proofs.Rows.{past_there}
 use Rattle.wh_space.specs.declared.memory.Memory.TheInside.{Inside}
 use Rattle.wh_space.specs.declared.occupant_entry.OccupantEntry.{OccupantEntry}
 use Rattle.wh_space.specs.UnchangedTables.{fixed_in}
@@ -15,7 +13,7 @@ use Rattle.wh_space.specs.Parts.{IsWell, occupant_of, space_of}
 use Rattle.wh_space.specs.Steps.{limit_by, page_limit}
 use Rattle.wh_space.proofs.Wellness.{well}
 
--- the occupant who an occupant stands for
+-- the occupant who an occupant represents
 abbrev pub occupant : OccupantEntry → Occupant
 occupant t = record { number = t.number; live = t.live; shares = t.shares; min = t.min; max = t.max; stands = t.stands; leaves = t.leaves }
 
@@ -107,7 +105,7 @@ pub grew_well : (a b : Inside) (i n : ℕ) (here : IsThere a.occupant_entries.it
     → length (get_or a.tables.pages i []) + 16 * n ≤ here.occupant_entry.max → IsWell b
 grew_well a b i n here live was occupant_entries limits frames slots grew fits = well a b was occupant_entries limits frames slots (grows_soundly (space_of a) i n (occupant here.occupant_entry) (space_of b) was.sound here.occupies live fits grew)
 
--- there is somebody, and room for so many pages more
+-- there is somebody, and room for n pages more
 pub record CanGrow (a : Inside) (i n : ℕ) : Type 0 where
   pub here : IsThere a.occupant_entries.items i
   pub live : here.occupant_entry.live ≡ true

@@ -5,19 +5,13 @@ use Rattle.wh_model.specs.declared.memory.Got.{Got}
 use Rattle.wh_model.specs.declared.memory.Got.TheVariants.{Value, Trap, NotReady}
 use Rattle.wh_model.specs.declared.memory.Grown.{Grown}
 use Rattle.wh_model.specs.declared.memory.Grown.TheVariants.{Done, Refused}
-use Rattle.wh_model.specs.Execution.Memory.{IsWaiting}
-use Rattle.wh_host_model.specs.declared.states.Slot.{Slot}
-use Rattle.wh_host_model.specs.declared.states.Slot.TheVariants.{Vacant, Taken, Evicting, EvictVoid, Fetching, FetchVoid}
-use Rattle.wh_host_model.specs.Frames.{tally, one_if}
-use Rattle.wh_host_model.specs.Space.Breaks.{voided}
-use Rattle.wh_host_model.specs.Space.Errands.{Errand, errand_for, pass_of}
-use Rattle.wh_host_model.specs.Space.Parts.{Slots, Space, kept_by, pinned_by, view}
-use Rattle.wh_host_model.specs.Space.Sound.{IsSound}
-use Rattle.wh_host_model.specs.Space.States.{joined}
-use Rattle.wh_host_model.specs.Space.Stores.{Overwrites, Touches}
-use Rattle.wh_host_model.proofs.Space.Filled.{stores_are_right, stores_soundly}
-use Rattle.wh_host_model.proofs.Space.Quiet.{grew_own, steps_quiet}
-use Rattle.wh_host_model.proofs.Space.Steady.{touches_soundly}
+use Rattle.wh_model.specs.Execution.{IsWaiting}
+use Rattle.wh_space_model.specs.declared.states.Slot.{Slot}
+use Rattle.wh_space_model.specs.declared.states.Slot.TheVariants.{Vacant, Taken, Evicting, EvictVoid, Fetching, FetchVoid}
+use Rattle.wh_space_model.specs.{tally, one_if, voided, Errand, errand_for, pass_of, Slots, Space, kept_by, pinned_by, view, IsSound, joined, Overwrites, Touches}
+use Rattle.wh_space_model.proofs.Filled.{stores_are_right, stores_soundly}
+use Rattle.wh_space_model.proofs.Quiet.{grew_own, steps_quiet}
+use Rattle.wh_space_model.proofs.Steady.{touches_soundly}
 use Rattle.wh_space.specs.Steps.{LeavesGrowth, LeavesLoad, LeavesStore}
 use Rattle.wh_space.specs.InstanceSteps.{takes_none, loads_first, stores_first, grows_first}
 use Rattle.wh_space.specs.StepViews.{KeepsRest, keeps_all}

@@ -2,24 +2,17 @@
 use Rattle.std.proofs.Common.{◌≡◌, ◌≢◌, ◌==◌, ◌&&◌, inl, inr, ℕ, ◌+◌, ◌<◌, ◌≤◌, cond, nat_lt, Bool, List, [], ◌∷◌, Option, Some, None, true, false, length, length-set, get_or, map, slice_get, slice_set, zero, suc, refl, sym, ◌∙◌, ap, subst, arith}
 use Rattle.std.proofs.lemmas.Bool.Decides.{nat_tests}
 use Rattle.std.proofs.lemmas.List.{get_or-set_other, length-map, map-set}
-use Rattle.wh_host_model.specs.Frames.{Pool, one_if, tally}
-use Rattle.wh_host_model.specs.declared.states.Mark.{Mark}
-use Rattle.wh_host_model.specs.declared.states.Mark.TheVariants.{Plain, Hint, Sharers, Unlisted}
-use Rattle.wh_host_model.specs.declared.states.Page.{Page}
-use Rattle.wh_host_model.specs.Space.Errands.{ticket_of}
-use Rattle.wh_host_model.specs.Space.Parts.{Occupant, Pins, Space, has_number, occupant_at, sharers}
-use Rattle.wh_host_model.specs.Space.Moves.{has_pins, unpinned, unpinned_of}
-use Rattle.wh_host_model.specs.Space.Tickets.{stays_occupant}
-use Rattle.wh_host_model.specs.Space.Places.{Exits, freed_by, released_mark}
-use Rattle.wh_host_model.specs.Space.Sound.{IsSound, Names}
-use Rattle.wh_host_model.specs.Space.States.{count, count_of, owns, page_at, shares}
-use Rattle.wh_host_model.proofs.Space.Exited.{exits_soundly}
-use Rattle.wh_host_model.proofs.Space.Putting.{cond_here, cond_other, get_or_is, get_pages, here_or, set_other, set_same, there_of}
-use Rattle.wh_host_model.proofs.Space.Reading.{owned_taken}
-use Rattle.wh_host_model.proofs.Space.Reserved.{is_sound_unpinned}
-use Rattle.wh_host_model.proofs.Space.Rooms.{get_there}
-use Rattle.wh_host_model.proofs.Space.Rows.{rows_sum}
-use Rattle.wh_host_model.proofs.Space.Sums.{get_tally}
+use Rattle.wh_space_model.specs.{Pool, one_if, tally, ticket_of, Occupant, Pins, Space, has_number, occupant_at, sharers, has_pins, unpinned, unpinned_of, stays_occupant, Exits, freed_by, released_mark, IsSound, Names, count, count_of, owns, page_at, shares}
+use Rattle.wh_space_model.specs.declared.states.Mark.{Mark}
+use Rattle.wh_space_model.specs.declared.states.Mark.TheVariants.{Plain, Hint, Sharers, Unlisted}
+use Rattle.wh_space_model.specs.declared.states.Page.{Page}
+use Rattle.wh_space_model.proofs.Exited.{exits_soundly}
+use Rattle.wh_space_model.proofs.Putting.{cond_here, cond_other, get_or_is, get_pages, here_or, set_other, set_same, there_of}
+use Rattle.wh_space_model.proofs.Reading.{owned_taken}
+use Rattle.wh_space_model.proofs.Reserved.{is_sound_unpinned}
+use Rattle.wh_space_model.proofs.Rooms.{get_there}
+use Rattle.wh_space_model.proofs.Rows.{rows_sum}
+use Rattle.wh_space_model.proofs.Sums.{get_tally}
 use Rattle.wh_space.specs.declared.occupant_entry.OccupantEntry.{OccupantEntry}
 use Rattle.wh_space.specs.declared.memory.Memory.TheInside.{Inside}
 use Rattle.wh_space.specs.OccupantEntries.{occupant_gone}

@@ -2,21 +2,16 @@
 use Rattle.std.proofs.Common.{◌≡◌, inl, inr, ℕ, ◌+◌, ◌-◌, ◌<◌, ◌≤◌, cond, nat_lt, false, List, [], ◌∷◌, Option, Some, None, length, drop, get_or, slice_get, slice_set, zero, suc, refl, sym, ◌∙◌, ap, subst, arith, length-set}
 use Rattle.std.proofs.lemmas.Bool.{cases_lt}
 use Rattle.std.proofs.lemmas.Bool.Decides.{nat_tests}
-use Rattle.wh_host_model.specs.Frames.{IsTaken, one_if, tally}
-use Rattle.wh_host_model.specs.declared.states.Mark.{Mark}
-use Rattle.wh_host_model.specs.declared.states.Mark.TheVariants.{Plain, Hint, Sharers, Unlisted}
-use Rattle.wh_host_model.specs.declared.states.Page.{Page}
-use Rattle.wh_host_model.specs.declared.states.Page.TheVariants.{Untouched, Private, Shared, Leaving, LeavingShared, Coming, Swapped}
-use Rattle.wh_host_model.specs.Space.Breaks.{fewer_sharers}
-use Rattle.wh_host_model.specs.Space.Parts.{Space, sharers}
-use Rattle.wh_host_model.specs.Space.Places.{freed_by}
-use Rattle.wh_host_model.specs.Space.Sound.{FramesAreSound, Names}
-use Rattle.wh_host_model.specs.Space.States.{count, owns, shares}
-use Rattle.wh_host_model.proofs.Tally.{one_other, one_same, tally-append}
-use Rattle.wh_host_model.proofs.Space.Exited.{freed_less}
-use Rattle.wh_host_model.proofs.Space.Putting.{get_or_is, here_or, set_other, set_same}
-use Rattle.wh_host_model.proofs.Space.Reading.{owned_taken, shared_taken}
-use Rattle.wh_host_model.proofs.Space.Rooms.{get_there}
+use Rattle.wh_space_model.specs.{IsTaken, one_if, tally, fewer_sharers, Space, sharers, freed_by, FramesAreSound, Names, count, owns, shares}
+use Rattle.wh_space_model.specs.declared.states.Mark.{Mark}
+use Rattle.wh_space_model.specs.declared.states.Mark.TheVariants.{Plain, Hint, Sharers, Unlisted}
+use Rattle.wh_space_model.specs.declared.states.Page.{Page}
+use Rattle.wh_space_model.specs.declared.states.Page.TheVariants.{Untouched, Private, Shared, Leaving, LeavingShared, Coming, Swapped}
+use Rattle.wh_space_model.proofs.Tally.{one_other, one_same, tally-append}
+use Rattle.wh_space_model.proofs.Exited.{freed_less}
+use Rattle.wh_space_model.proofs.Putting.{get_or_is, here_or, set_other, set_same}
+use Rattle.wh_space_model.proofs.Reading.{owned_taken, shared_taken}
+use Rattle.wh_space_model.proofs.Rooms.{get_there}
 use Rattle.wh_space.specs.Leaving.{CanAllGo, CanGo, Holdings, IsHeld, freed, is_plain, owner_gone, page_gone, pages_gone, sharer_gone}
 
 -- ---- the next page of a table
@@ -26,7 +21,7 @@ next_page [] k x is = absurd (cc is)
 next_page (y ∷ xs) zero x is = let e : y ≡ x = cc in cc
 next_page (y ∷ xs) (suc k) x is = let e : suc k + 1 ≡ suc (k + 1) = omega arith in rw e (next_page xs k x is)
 
--- ---- the entry of a frame when so many owners and sharers of it have gone
+-- ---- the entry of a frame when n owners and sharers of it have gone
 
 abbrev pub mark_after : ℕ → ℕ → Mark → Mark
 mark_after owners sharing Plain = Plain
@@ -41,7 +36,7 @@ no_owner s f t (Hint hash j p) names none = refl
 no_owner s f t (Sharers hash n) names none = absurd (let a = names.0 in let b = names.1 in omega arith)
 no_owner s f t (Unlisted n) names none = absurd (let a = names.0 in let b = names.1 in omega arith)
 
--- so many sharers, with this hash or without one
+-- n sharers, with this hash or without one
 abbrev pub counting : Option ℕ → ℕ → Mark
 counting None n = Unlisted n
 counting (Some hash) n = Sharers hash n
@@ -91,7 +86,7 @@ pub record IsLeft (s : Space) (gone : List Page) (a : Holdings) : Type 0 where
   pub entries : length a.marks ≡ length s.marks
   pub marks : (f : ℕ) (m : Mark) → slice_get s.marks f ≡ Some m → slice_get a.marks f ≡ Some (mark_after (tally (owns f) gone) (tally (shares f) gone) m)
 
--- these pages have gone, and so many of each kind are left: together they are no more than all pages
+-- these pages have gone, and n of each kind are left: together they are no more than all pages
 abbrev pub AreWithin : Space → List Page → List Page → Type 0
 AreWithin s gone left = (w : Page → ℕ) → tally w gone + tally w left ≤ count w s.tables
 

@@ -1,26 +1,21 @@
 -- Pages that go with their instance: what of the slots is left.
 use Rattle.std.proofs.Common.{◌≡◌, ◌≢◌, ◌==◌, ◌⊎◌, inl, inr, ℕ, ◌+◌, ◌<◌, ◌≤◌, cond, nat_lt, Bool, true, false, List, [], ◌∷◌, Option, Some, None, length, get_or, slice_get, slice_set, refl, sym, ◌∙◌, ap, subst, arith, length-set}
 use Rattle.std.proofs.lemmas.Bool.Decides.{nat_tests}
-use Rattle.wh_host_model.specs.Frames.{one_if, tally}
-use Rattle.wh_host_model.specs.declared.states.Page.{Page}
-use Rattle.wh_host_model.specs.declared.states.Page.TheVariants.{Untouched, Private, Shared, Leaving, LeavingShared, Coming, Swapped}
-use Rattle.wh_host_model.specs.declared.states.Slot.{Slot}
-use Rattle.wh_host_model.specs.declared.states.Slot.TheVariants.{Vacant, Taken, Evicting, EvictVoid, Fetching, FetchVoid}
-use Rattle.wh_host_model.specs.Space.Errands.{ticket_of}
-use Rattle.wh_host_model.specs.Space.Parts.{Occupant, Slots, Space, occupant_at}
-use Rattle.wh_host_model.specs.Space.Places.{released_use}
-use Rattle.wh_host_model.specs.Space.Sound.{IsUsed, LeavesBy, SlotsAreSound}
-use Rattle.wh_host_model.specs.Space.States.{comes_from, count, count_of, lies_in, page_at}
-use Rattle.wh_host_model.proofs.Tally.{one_other, one_same, tally-append}
-use Rattle.wh_host_model.proofs.Space.Exited.{pointwise}
-use Rattle.wh_host_model.proofs.Space.Putting.{cond_here, cond_other, get_or_is, get_pages, here_or, set_other, set_same, there_of}
-use Rattle.wh_host_model.proofs.Space.Rows.{rows_sum}
-use Rattle.wh_host_model.proofs.Space.Sums.{get_tally}
+use Rattle.wh_space_model.specs.{one_if, tally, ticket_of, Occupant, Slots, Space, occupant_at, released_use, IsUsed, LeavesBy, SlotsAreSound, comes_from, count, count_of, lies_in, page_at}
+use Rattle.wh_space_model.specs.declared.states.Page.{Page}
+use Rattle.wh_space_model.specs.declared.states.Page.TheVariants.{Untouched, Private, Shared, Leaving, LeavingShared, Coming, Swapped}
+use Rattle.wh_space_model.specs.declared.states.Slot.{Slot}
+use Rattle.wh_space_model.specs.declared.states.Slot.TheVariants.{Vacant, Taken, Evicting, EvictVoid, Fetching, FetchVoid}
+use Rattle.wh_space_model.proofs.Tally.{one_other, one_same, tally-append}
+use Rattle.wh_space_model.proofs.Exited.{pointwise}
+use Rattle.wh_space_model.proofs.Putting.{cond_here, cond_other, get_or_is, get_pages, here_or, set_other, set_same, there_of}
+use Rattle.wh_space_model.proofs.Rows.{rows_sum}
+use Rattle.wh_space_model.proofs.Sums.{get_tally}
 use Rattle.std.proofs.lemmas.List.{get_or-set_other}
 use Rattle.wh_space.specs.Slotting.{CanLeaveSlot, CanLeaveSlots, slot_gone, slots_gone, void_use, voids_slot}
 use Rattle.wh_space.proofs.LeavingPages.{AreWithin}
 
--- ---- the use of a slot when so many pages have gone that lay in it, and that were coming from it
+-- ---- the use of a slot when n pages have gone that lay in it, and that were coming from it
 
 abbrev pub use_after : ℕ → ℕ → Slot → Slot
 use_after lying coming Vacant = Vacant
@@ -266,7 +261,6 @@ leaves_by s i k t x sound there is at_it = subst (LeavesBy i) is (sound.by_this 
 by_leaves : (s : Space) (i k : ℕ) (t : Occupant) (x : Slot) → SlotsAreSound s → occupant_at s i t → slice_get s.slots.uses k ≡ Some x → LeavesBy i (Some x) → t.leaves ≡ Some k
 by_leaves s i k t x sound there is by =
     let found = sound.by_one i k (subst (LeavesBy i) (sym is) by) in
-    let both : Some (Some found.0) ≡ Some (Some t) = sym found.1 ∙ there in
     let one : found.0 ≡ t = cc in
     sym (ap (λ (a : Occupant). a.leaves) one) ∙ found.2
 

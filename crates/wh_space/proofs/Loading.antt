@@ -4,13 +4,10 @@ use Rattle.std.specs.Bool.{MatchBool}
 use Rattle.std.specs.List.{All}
 use Rattle.std.proofs.lemmas.List.Elements.{All-cons, All-head, All-nil, All-tail}
 use Rattle.wh_model.specs.declared.memory.Got.TheVariants.{Value, NotReady}
-use Rattle.wh_model.specs.Execution.Memory.{Loads, reading}
-use Rattle.wh_model.specs.Execution.Store.{bytes_at}
-use Rattle.wh_host_model.specs.Space.Parts.{Space, view}
-use Rattle.wh_host_model.specs.Space.Ready.{IsAtHand, Ready, pages_of_need}
-use Rattle.wh_host_model.specs.Space.Sound.{IsSound}
-use Rattle.wh_host_model.specs.Space.States.{page_at}
-use Rattle.wh_host_model.proofs.Space.Reading.{read_parts, view_length}
+use Rattle.wh_model.specs.Execution.{Loads, reading, bytes_at}
+use Rattle.wh_space_model.specs.{Space, view, IsAtHand, pages_of_need, IsSound, page_at}
+use Rattle.wh_space_model.specs.Ready.{Ready}
+use Rattle.wh_space_model.proofs.Reading.{read_parts, view_length}
 
 abbrev pub Hand : Space → ℕ → ℕ → Type 0
 Hand s i p = IsAtHand (page_at s.tables i p)

@@ -1,9 +1,8 @@
 -- Pages on frames that were touched in this epoch.
 use Rattle.std.proofs.Common.{◌≡◌, ℕ, Bool, Option, Some, None, cond, true, false, refl, sym}
-use Rattle.wh_host_model.specs.declared.states.Page.{Page}
-use Rattle.wh_host_model.specs.Space.Moves.{frame_of}
-use Rattle.wh_host_model.specs.Space.Ready.{IsAtHand}
-use Rattle.wh_host_model.specs.declared.states.Page.TheVariants.{Coming, Leaving, LeavingShared, Private, Shared, Swapped, Untouched}
+use Rattle.wh_space_model.specs.declared.states.Page.{Page}
+use Rattle.wh_space_model.specs.{frame_of, IsAtHand}
+use Rattle.wh_space_model.specs.declared.states.Page.TheVariants.{Coming, Leaving, LeavingShared, Private, Shared, Swapped, Untouched}
 use Rattle.wh_pages.specs.Table.{IsFrameIfTouched, own_frame_of}
 
 -- what was found was found on a page that was touched

@@ -4,22 +4,17 @@ use Rattle.std.proofs.lemmas.Bool.Decides.{nat_tests}
 use Rattle.wh_content.specs.declared.entry.ContentEntry.{ContentEntry}
 use Rattle.wh_content.specs.declared.entry.ContentEntry.TheVariants as entry
 use Rattle.wh_content.specs.Marks.{IsOnlyWith, frame_of_entry, mark_of_entry}
-use Rattle.wh_host_model.specs.Frames.{IsTaken, Pool, one_if, tally}
-use Rattle.wh_host_model.specs.Pages.{zero_page}
-use Rattle.wh_host_model.specs.declared.states.Mark.{Mark}
-use Rattle.wh_host_model.specs.declared.states.Mark.TheVariants.{Plain, Hint, Sharers}
-use Rattle.wh_host_model.specs.declared.states.Offer.TheVariants.{Merged}
-use Rattle.wh_host_model.specs.declared.states.Page.{Page}
-use Rattle.wh_host_model.specs.declared.states.Page.TheVariants.{Untouched, Private, Shared, Leaving, LeavingShared, Coming, Swapped}
-use Rattle.wh_host_model.specs.Space.Offers.{FindsHint, FindsShared, IsOffered, joined_to, paired_with, gives_up}
-use Rattle.wh_host_model.specs.Space.Parts.{Occupant, Space, frame_bytes, of_occupant, sharers}
-use Rattle.wh_host_model.specs.Space.Sound.{HasHash, HasTable, IsSound, Names}
-use Rattle.wh_host_model.specs.Space.States.{count, owns, page_at, shares, untouched}
-use Rattle.wh_host_model.proofs.Space.Merging.{alone_soundly}
-use Rattle.wh_host_model.proofs.Space.Offered.{owned as owned_frame, plain_before, zeroed_sound}
-use Rattle.wh_host_model.proofs.Space.Putting.{get_pages, is_page, set_same, there_of}
-use Rattle.wh_host_model.proofs.Space.Reading.{owned_taken, shared_taken, taken_under}
-use Rattle.wh_host_model.proofs.Space.Steady.{untouched_soundly}
+use Rattle.wh_space_model.specs.{IsTaken, Pool, one_if, tally, zero_page, FindsHint, FindsShared, IsOffered, joined_to, paired_with, gives_up, Occupant, Space, frame_bytes, of_occupant, sharers, HasHash, HasTable, IsSound, Names, count, owns, page_at, shares, untouched}
+use Rattle.wh_space_model.specs.declared.states.Mark.{Mark}
+use Rattle.wh_space_model.specs.declared.states.Mark.TheVariants.{Plain, Hint, Sharers}
+use Rattle.wh_space_model.specs.declared.states.Offer.TheVariants.{Merged}
+use Rattle.wh_space_model.specs.declared.states.Page.{Page}
+use Rattle.wh_space_model.specs.declared.states.Page.TheVariants.{Untouched, Private, Shared, Leaving, LeavingShared, Coming, Swapped}
+use Rattle.wh_space_model.proofs.Merging.{alone_soundly}
+use Rattle.wh_space_model.proofs.Offered.{owned as owned_frame, plain_before, zeroed_sound}
+use Rattle.wh_space_model.proofs.Putting.{get_pages, is_page, set_same, there_of}
+use Rattle.wh_space_model.proofs.Reading.{owned_taken, shared_taken, taken_under}
+use Rattle.wh_space_model.proofs.Steady.{untouched_soundly}
 use Rattle.wh_space.specs.declared.memory.Memory.TheInside.{Inside}
 use Rattle.wh_space.specs.Merges.{HasFewPages, emptied}
 use Rattle.wh_space.specs.Parts.{space_of}

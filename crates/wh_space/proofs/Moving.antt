@@ -2,27 +2,19 @@
 use Rattle.std.proofs.Common.{◌≡◌, ◌≢◌, inl, inr, ℕ, ◌+◌, ◌-◌, ◌<◌, ◌≤◌, ◌++◌, cond, nat_lt, Bool, true, false, List, [], ◌∷◌, Option, Some, None, IfSome, length, length-set, get_or, slice_get, slice_set, refl, sym, ◌∙◌, ap, subst, arith}
 use Rattle.std.proofs.lemmas.Bool.{cases_lt}
 use Rattle.std.proofs.lemmas.Bool.Decides.{nat_tests}
-use Rattle.wh_host_model.specs.Frames.{Pool, IsTaken, one_if, tally}
-use Rattle.wh_host_model.specs.declared.states.EvictEnd.TheVariants.{Evicted, Failed, Void}
-use Rattle.wh_host_model.specs.declared.states.Mark.{Mark}
-use Rattle.wh_host_model.specs.declared.states.Mark.TheVariants.{Plain, Sharers}
-use Rattle.wh_host_model.specs.Space.Breaks.{fewer_sharers}
-use Rattle.wh_host_model.specs.Space.Moves.{frame_of, one_fewer}
-use Rattle.wh_host_model.proofs.Space.Sent.{is_sound_sent}
-use Rattle.wh_host_model.proofs.Space.Reading.{taken_under}
+use Rattle.wh_space_model.specs.{Pool, IsTaken, one_if, tally, fewer_sharers, frame_of, one_fewer, CanLeave, stays, fetches_into, ticket_of, Occupant, Slots, Space, frame_bytes, occupant_at, pinned_by, sharers, FramesAreSound, IsSound, IsUsed, LeavesBy, at, leaving, page_at, put, CommitsEvict, as_before, as_leaving, departing, sent_off, unpinned_page, leaving_by, not_sent, sent_for, settled, with_free, with_leaving, without_slot, has_come, not_come}
+use Rattle.wh_space_model.specs.declared.states.EvictEnd.TheVariants.{Evicted, Failed, Void}
+use Rattle.wh_space_model.specs.declared.states.Mark.{Mark}
+use Rattle.wh_space_model.specs.declared.states.Mark.TheVariants.{Plain}
+use Rattle.wh_space_model.proofs.Sent.{is_sound_sent}
+use Rattle.wh_space_model.proofs.Reading.{taken_under}
 use Rattle.wh_space.proofs.LeavingPages.{counting, shared_entry, some_left}
-use Rattle.wh_host_model.specs.declared.states.Page.{Page}
-use Rattle.wh_host_model.specs.declared.states.Page.TheVariants.{Untouched, Private, Shared, Leaving, LeavingShared, Coming, Swapped}
-use Rattle.wh_host_model.specs.declared.states.Slot.{Slot}
-use Rattle.wh_host_model.specs.declared.states.Slot.TheVariants.{Vacant, Taken, Evicting, EvictVoid, Fetching, FetchVoid}
-use Rattle.wh_host_model.specs.Space.Claims.{CanLeave, stays}
-use Rattle.wh_host_model.specs.Space.Errands.{fetches_into, ticket_of}
-use Rattle.wh_host_model.specs.Space.Parts.{Occupant, Slots, Space, frame_bytes, occupant_at, pinned_by, sharers}
-use Rattle.wh_host_model.specs.Space.Sound.{FramesAreSound, IsSound, IsUsed, LeavesBy}
-use Rattle.wh_host_model.specs.Space.States.{at, leaving, page_at, put}
-use Rattle.wh_host_model.specs.Space.Tickets.{CommitsEvict, as_before, as_leaving, departing, sent_off, unpinned_page, leaving_by, not_sent, sent_for, settled, with_free, with_leaving, without_slot, has_come, not_come}
-use Rattle.wh_host_model.proofs.Tally.{one_other, one_same}
-use Rattle.wh_host_model.proofs.Space.Putting.{get_or_is, is_page, there_of}
+use Rattle.wh_space_model.specs.declared.states.Page.{Page}
+use Rattle.wh_space_model.specs.declared.states.Page.TheVariants.{Untouched, Private, Shared, Leaving, LeavingShared, Coming, Swapped}
+use Rattle.wh_space_model.specs.declared.states.Slot.{Slot}
+use Rattle.wh_space_model.specs.declared.states.Slot.TheVariants.{Vacant, Taken, Evicting, EvictVoid, Fetching, FetchVoid}
+use Rattle.wh_space_model.proofs.Tally.{one_other, one_same}
+use Rattle.wh_space_model.proofs.Putting.{get_or_is, is_page, there_of}
 use Rattle.wh_space.specs.declared.occupant_entry.OccupantEntry.{OccupantEntry}
 use Rattle.wh_space.specs.declared.memory.Memory.TheInside.{Inside}
 use Rattle.wh_space.specs.OccupantEntries.{begins_coming, begins_leaving, ends_coming, ends_leaving, settles}
@@ -30,7 +22,7 @@ use Rattle.wh_space.specs.UnchangedTables.{fixed_in}
 use Rattle.wh_space.specs.Parts.{IsWell, space_of}
 use Rattle.wh_space.specs.Pinning.{pins_of}
 use Rattle.wh_space.specs.Transits.{back_again}
-use Rattle.wh_host_model.proofs.Space.Sums.{get_tally}
+use Rattle.wh_space_model.proofs.Sums.{get_tally}
 use Rattle.wh_space.proofs.Transiting.{changed, changed_twice, changes_came, changes_coming, changes_leaving, changes_left, changes_settled, fewer_tickets, guest_within, more_tickets, other_tickets, seen_came, seen_coming, seen_leaving, seen_left, settled_after, table_within, unchanged, well_by}
 
 -- ---- what the slot of a ticket says

@@ -1,7 +1,7 @@
 -- Instances by number, as the page tables know them and as the memory does.
 use Rattle.std.proofs.Common.{◌<◌, ◌^◌, ◌∙◌, ℕ, Option, length, sym, subst, arith}
 use Rattle.std.proofs.lemmas.List.{length-map}
-use Rattle.wh_host_model.specs.declared.plain.InstId.{InstId}
+use Rattle.wh_space_model.specs.declared.plain.InstId.{InstId}
 use Rattle.wh_tables.specs.Line.{ComesLater, IsAbove, IsNextIn}
 use Rattle.wh_tables.proofs.Lines.{has_row}
 use Rattle.wh_space.specs.declared.memory.Memory.TheInside.{Inside}

@@ -1,24 +1,18 @@
--- A page that is broken off from all others.
-use Rattle.wh_host_model.specs.Pages.{zero_page}
+-- A page that is unshared.
+use Rattle.wh_space_model.specs.{zero_page, IsTaken, Pool, one_if, tally, ticket_of, Pins, Slots, Space, frame_bytes, sharers, GetsFrame, LeavesSharers, TakesFrame, fewer_sharers, standing_alone, with_fewer, copies, may_take, IsSound, at, owns, page_at, put, resident, shares, untouched}
 use Rattle.wh_pages.specs.Table.{IsFrameIfTouched, own_frame_of}
 use Rattle.wh_space.proofs.Marking.{own_touched}
 use Rattle.std.proofs.Common.{length-set, ◌≡◌, ℕ, ◌+◌, ◌<◌, ◌≤◌, inl, inr, List, [], ◌∷◌, Option, Some, None, IfSome, length, get_or, slice_get, slice_set, zero, suc, true, refl, sym, ◌∙◌, ap, subst, arith}
 use Rattle.std.proofs.lemmas.Bool.Decides.{nat_tests}
-use Rattle.wh_host_model.specs.Frames.{IsTaken, Pool, one_if, tally}
-use Rattle.wh_host_model.specs.declared.states.Mark.{Mark}
-use Rattle.wh_host_model.specs.declared.states.Mark.TheVariants.{Plain}
-use Rattle.wh_host_model.specs.declared.states.Page.{Page}
-use Rattle.wh_host_model.specs.declared.states.Page.TheVariants.{Untouched, Private, Shared, Leaving, LeavingShared, Coming, Swapped}
-use Rattle.wh_host_model.specs.Space.Errands.{ticket_of}
-use Rattle.wh_host_model.specs.Space.Parts.{Pins, Slots, Space, frame_bytes, sharers}
-use Rattle.wh_host_model.specs.Space.Breaks.{Breaks, GetsFrame, LeavesSharers, TakesFrame, fewer_sharers, standing_alone, with_fewer}
-use Rattle.wh_host_model.specs.Space.Ready.{copies, may_take}
-use Rattle.wh_host_model.specs.Space.Sound.{IsSound}
-use Rattle.wh_host_model.specs.Space.States.{at, owns, page_at, put, resident, shares, untouched}
-use Rattle.wh_host_model.proofs.Space.Counting.{frames_one_page, shared_frame, single}
-use Rattle.wh_host_model.proofs.Space.Filled.{breaks_soundly}
-use Rattle.wh_host_model.proofs.Space.Putting.{get_pages, is_page, put_this}
-use Rattle.wh_host_model.proofs.Space.Reading.{shared_taken}
+use Rattle.wh_space_model.specs.declared.states.Mark.{Mark}
+use Rattle.wh_space_model.specs.declared.states.Mark.TheVariants.{Plain}
+use Rattle.wh_space_model.specs.declared.states.Page.{Page}
+use Rattle.wh_space_model.specs.declared.states.Page.TheVariants.{Untouched, Private, Shared, Leaving, LeavingShared, Coming, Swapped}
+use Rattle.wh_space_model.specs.Breaks.{Breaks}
+use Rattle.wh_space_model.proofs.Counting.{frames_one_page, shared_frame, single}
+use Rattle.wh_space_model.proofs.Filled.{breaks_soundly}
+use Rattle.wh_space_model.proofs.Putting.{get_pages, is_page, put_this}
+use Rattle.wh_space_model.proofs.Reading.{shared_taken}
 use Rattle.wh_space.specs.declared.memory.Memory.TheInside.{Inside}
 use Rattle.wh_space.specs.UnchangedTables.{fixed_in}
 use Rattle.wh_space.specs.Parts.{IsWell, space_of}
@@ -63,7 +57,7 @@ shared (LeavingShared g) f one = record { touched = refl; hand = refl; shared = 
 shared (Coming k) f one = absurd (omega arith)
 shared (Swapped k) f one = absurd (omega arith)
 
--- ---- when it can be broken off
+-- ---- when it can be unshared
 
 single_none : (s : Space) (x : Page) → HasFrame x None → single s (shared_frame x) ≡ 0
 unfolding single
@@ -125,7 +119,7 @@ leaves_shared s i f g (Swapped k) mid one leaves = absurd (omega arith)
 
 -- ---- what the memory is then
 
--- the page was broken off, and the memory is well
+-- the page was unshared, and the memory is well
 pub record IsOwned (a b : Inside) (i p g : ℕ) : Type 0 where
   pub well : IsWell b
   pub breaks : Breaks (space_of a) i p (space_of b)

@@ -1,14 +1,8 @@
 -- An instance that waits for a frame, or doesn't.
 use Rattle.std.proofs.Common.{◌≡◌, ℕ, ◌+◌, ◌*◌, ◌≤◌, ◌++◌, cond, List, [], ◌∷◌, Option, Some, None, true, length, length-set, get_or, map, slice_get, slice_set, zero, suc, refl, sym, ◌∙◌, ap, subst}
 use Rattle.wh_model.specs.declared.memory.Need.{Need}
-use Rattle.wh_host_model.specs.Frames.{tally}
-use Rattle.wh_host_model.specs.Space.Errands.{ticket_of}
-use Rattle.wh_host_model.specs.Space.Moves.{has_pins}
-use Rattle.wh_host_model.specs.Frames.{Pool}
-use Rattle.wh_host_model.specs.Space.Parts.{Occupant, Slots, Space, kept_by, occupant_at}
-use Rattle.wh_host_model.specs.Space.Sound.{IsSound}
-use Rattle.wh_host_model.specs.Space.Stores.{ended, awaiting, stood}
-use Rattle.wh_host_model.proofs.Space.Steady.{ends_soundly, waits_soundly}
+use Rattle.wh_space_model.specs.{tally, ticket_of, has_pins, Pool, Occupant, Slots, Space, kept_by, occupant_at, IsSound, ended, awaiting, stood}
+use Rattle.wh_space_model.proofs.Steady.{ends_soundly, waits_soundly}
 use Rattle.wh_space.specs.declared.occupant_entry.OccupantEntry.{OccupantEntry}
 use Rattle.wh_space.specs.declared.memory.Memory.TheInside.{Inside}
 use Rattle.wh_space.specs.OccupantEntries.{entry_awaiting}

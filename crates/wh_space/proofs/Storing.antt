@@ -3,23 +3,21 @@ use Rattle.std.proofs.Common.{◌≡◌, ◌≢◌, ℕ, ◌+◌, ◌*◌, ◌�
 use Rattle.std.specs.List.{All}
 use Rattle.std.proofs.lemmas.List.Elements.{All-head, All-tail}
 use Rattle.wh_model.specs.declared.memory.Got.TheVariants.{Value, NotReady}
-use Rattle.wh_model.specs.Execution.Memory.{Stores, writing}
-use Rattle.wh_host_model.specs.declared.states.Page.TheVariants.{Private}
-use Rattle.wh_host_model.specs.Space.Breaks.{Breaks, BreaksEach}
-use Rattle.wh_host_model.specs.Space.Parts.{Space, sharers, view}
-use Rattle.wh_host_model.specs.Space.Ready.{IsAtHand, Ready, may_take, pages_of_need}
-use Rattle.wh_host_model.specs.Space.Sound.{IsSound}
-use Rattle.wh_host_model.specs.Space.States.{count, page_at, put, shares, untouched}
-use Rattle.wh_host_model.specs.Space.Stores.{Fills, Overwrites}
-use Rattle.wh_host_model.proofs.Space.BrokenEach.{broken_off}
-use Rattle.wh_host_model.proofs.Space.Breaking.{broke}
-use Rattle.wh_host_model.proofs.Space.Counting.{double, frames_one_page, frames_two_pages, shared_frame, single}
-use Rattle.wh_host_model.proofs.Space.Filled.{stores_are_right}
-use Rattle.wh_host_model.proofs.Space.Filling.{at_hand, both_want, double_most, on_none, shares_it}
-use Rattle.wh_host_model.proofs.Space.Deciding.{no_bytes_are_ready}
-use Rattle.wh_host_model.proofs.Space.Putting.{put_other}
-use Rattle.wh_host_model.proofs.Space.Reading.{view_length}
-use Rattle.wh_host_model.proofs.Space.Sums.{put_tally}
+use Rattle.wh_model.specs.Execution.Memory.{writing}
+use Rattle.wh_model.specs.Execution.{Stores}
+use Rattle.wh_space_model.specs.declared.states.Page.TheVariants.{Private}
+use Rattle.wh_space_model.specs.Breaks.{Breaks}
+use Rattle.wh_space_model.specs.{BreaksEach, Space, sharers, view, IsAtHand, may_take, pages_of_need, IsSound, count, page_at, put, shares, untouched, Fills, Overwrites}
+use Rattle.wh_space_model.specs.Ready.{Ready}
+use Rattle.wh_space_model.proofs.BrokenEach.{broken_off}
+use Rattle.wh_space_model.proofs.Breaking.{broke}
+use Rattle.wh_space_model.proofs.Counting.{double, frames_one_page, frames_two_pages, shared_frame, single}
+use Rattle.wh_space_model.proofs.Filled.{stores_are_right}
+use Rattle.wh_space_model.proofs.Filling.{at_hand, both_want, double_most, on_none, shares_it}
+use Rattle.wh_space_model.proofs.Deciding.{no_bytes_are_ready}
+use Rattle.wh_space_model.proofs.Putting.{put_other}
+use Rattle.wh_space_model.proofs.Reading.{view_length}
+use Rattle.wh_space_model.proofs.Sums.{put_tally}
 use Rattle.wh_space.specs.Steps.{CanBreak, CanStep}
 use Rattle.wh_space.proofs.Loading.{Hand, one_hand}
 
@@ -47,7 +45,7 @@ can_first s i p sound can =
     let enough = can.1 in
     (h.0, omega arith)
 
--- the first page was broken off: the other one stays where it is
+-- the first page was unshared: the other one stays where it is
 pub other_page : (s : Space) (i p q : ℕ) (mid : Space) → IsSound s → Breaks s i p mid → q ≢ p → page_at mid.tables i q ≡ page_at s.tables i q
 unfolding broke
 other_page s i p q mid sound breaks other =

@@ -1,7 +1,6 @@
 -- Sums over those who are there.
 use Rattle.std.proofs.Common.{◌≡◌, ℕ, ◌+◌, ◌<◌, ◌≤◌, List, [], ◌∷◌, Option, Some, None, length, get_or, map, slice_get, take, zero, suc, refl, ap, arith}
-use Rattle.wh_host_model.specs.Frames.{tally}
-use Rattle.wh_host_model.specs.Space.Parts.{Occupant}
+use Rattle.wh_space_model.specs.{tally, Occupant}
 use Rattle.wh_space.specs.declared.occupant_entry.OccupantEntry.{OccupantEntry}
 use Rattle.wh_space.specs.Parts.{occupant_of}
 

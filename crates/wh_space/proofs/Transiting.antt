@@ -3,24 +3,20 @@ use Rattle.std.proofs.Common.{◌≡◌, ◌≢◌, ◌==◌, inl, inr, ℕ, ◌
 use Rattle.std.proofs.lemmas.Bool.Decides.{nat_tests}
 use Rattle.std.proofs.lemmas.List.{get_or-set_same, length-map, map-set}
 use Rattle.wh_model.specs.declared.memory.Need.{Need}
-use Rattle.wh_host_model.specs.Frames.{one_if, tally}
-use Rattle.wh_host_model.specs.declared.states.Slot.{Slot}
-use Rattle.wh_host_model.specs.declared.states.Slot.TheVariants.{Vacant, Taken, Evicting, EvictVoid, Fetching, FetchVoid}
-use Rattle.wh_host_model.specs.Space.Errands.{ticket_of}
-use Rattle.wh_host_model.specs.Space.Parts.{Occupant, Space, occupant_at}
-use Rattle.wh_host_model.specs.Space.Sound.{IsSound}
-use Rattle.wh_host_model.specs.Space.Tickets.{WaitsForBytes, leaving_by, stays_occupant}
-use Rattle.wh_host_model.proofs.Space.Putting.{get_or_is, here_or, set_other, set_same, there_of}
-use Rattle.wh_host_model.proofs.Space.Rooms.{get_there}
-use Rattle.wh_host_model.proofs.Space.Sent.{set_set}
-use Rattle.wh_host_model.proofs.Space.Sums.{set_tally}
+use Rattle.wh_space_model.specs.{one_if, tally, ticket_of, Occupant, Space, occupant_at, IsSound, WaitsForBytes, leaving_by, stays_occupant}
+use Rattle.wh_space_model.specs.declared.states.Slot.{Slot}
+use Rattle.wh_space_model.specs.declared.states.Slot.TheVariants.{Vacant, Taken, Evicting, EvictVoid, Fetching, FetchVoid}
+use Rattle.wh_space_model.proofs.Putting.{get_or_is, here_or, set_other, set_same, there_of}
+use Rattle.wh_space_model.proofs.Rooms.{get_there}
+use Rattle.wh_space_model.proofs.Sent.{set_set}
+use Rattle.wh_space_model.proofs.Sums.{set_tally}
 use Rattle.wh_space.specs.declared.occupant_entry.OccupantEntry.{OccupantEntry}
 use Rattle.wh_space.specs.declared.memory.Memory.TheInside.{Inside}
 use Rattle.wh_space.specs.OccupantEntries.{begins_coming, begins_leaving, ends_coming, ends_leaving, settles}
 use Rattle.wh_space.specs.UnchangedTables.{Fixed, fixed_in}
 use Rattle.wh_space.specs.Parts.{IsWell, Named, named, occupant_of, space_of}
 
--- ---- how who is there changes: with so many tickets
+-- ---- how who is there changes: with n tickets
 
 abbrev pub Changes : (Option OccupantEntry → Option OccupantEntry) → (ℕ → ℕ) → Type 0
 Changes change count = (y : Option OccupantEntry) (t : OccupantEntry) → change y ≡ Some t → (g : OccupantEntry) × (y ≡ Some g) × (named g ≡ named t) × (t.tickets ≡ count g.tickets)

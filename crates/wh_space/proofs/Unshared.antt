@@ -1,23 +1,17 @@
 -- A page on a frame that is shared and has no entry, when it is offered.
-use Rattle.std.proofs.Common.{◌≡◌, ◌≢◌, ℕ, ◌+◌, ◌-◌, ◌<◌, ◌≤◌, ◌^◌, cond, nat_lt, inl, inr, List, [], ◌∷◌, Option, Some, None, length, get_or, slice_get, slice_set, suc, refl, sym, ap, ◌∙◌, subst, arith, length-set}
+use Rattle.std.proofs.Common.{◌≡◌, ◌≢◌, ℕ, ◌+◌, ◌-◌, ◌<◌, ◌≤◌, ◌^◌, cond, nat_lt, inl, inr, List, [], ◌∷◌, Option, Some, length, get_or, slice_get, slice_set, suc, refl, sym, ap, ◌∙◌, subst, arith}
 use Rattle.wh_content.specs.Marks.{IsOnlyWith}
-use Rattle.wh_host_model.specs.Frames.{IsTaken, tally}
-use Rattle.wh_host_model.specs.declared.states.Mark.{Mark}
-use Rattle.wh_host_model.specs.declared.states.Mark.TheVariants.{Plain, Sharers, Unlisted}
-use Rattle.wh_host_model.specs.declared.states.Page.{Page}
-use Rattle.wh_host_model.specs.declared.states.Page.TheVariants.{Untouched, Private, Shared, Leaving, LeavingShared, Coming, Swapped}
-use Rattle.wh_host_model.specs.Space.Breaks.{fewer_sharers}
-use Rattle.wh_host_model.specs.Space.Moves.{one_fewer}
-use Rattle.wh_host_model.specs.Space.Offers.{FindsNone, FindsShared, MayBeListed, gone_from}
-use Rattle.wh_host_model.specs.Space.Parts.{Occupant, Space, of_occupant, sharers}
-use Rattle.wh_host_model.specs.Space.Sound.{FramesAreSound, HasHash, HasTable, IsSound, Names}
-use Rattle.wh_host_model.specs.Space.States.{count, page_at, shares}
-use Rattle.wh_host_model.proofs.Tally.{one_same, one_other}
-use Rattle.wh_host_model.proofs.Space.Evicted.{hash_before}
-use Rattle.wh_host_model.proofs.Space.Listed.{gone_sound}
-use Rattle.wh_host_model.proofs.Space.Putting.{get_pages, here_or, is_page, there_of}
-use Rattle.wh_host_model.proofs.Space.Reading.{taken_under}
-use Rattle.wh_host_model.proofs.Space.Steady.{untouched_soundly}
+use Rattle.wh_space_model.specs.{IsTaken, tally, fewer_sharers, one_fewer, FindsShared, MayBeListed, gone_from, Occupant, Space, of_occupant, sharers, HasHash, HasTable, IsSound, Names, count, page_at, shares}
+use Rattle.wh_space_model.specs.declared.states.Mark.{Mark}
+use Rattle.wh_space_model.specs.declared.states.Mark.TheVariants.{Plain, Sharers, Unlisted}
+use Rattle.wh_space_model.specs.declared.states.Page.{Page}
+use Rattle.wh_space_model.specs.declared.states.Page.TheVariants.{Untouched, Private, Shared, Leaving, LeavingShared, Coming, Swapped}
+use Rattle.wh_space_model.proofs.Tally.{one_same, one_other}
+use Rattle.wh_space_model.proofs.Evicted.{hash_before}
+use Rattle.wh_space_model.proofs.Listed.{gone_sound}
+use Rattle.wh_space_model.proofs.Putting.{get_pages, here_or, is_page}
+use Rattle.wh_space_model.proofs.Reading.{taken_under}
+use Rattle.wh_space_model.proofs.Steady.{untouched_soundly}
 use Rattle.wh_space.specs.Listing.{zeros_left}
 use Rattle.wh_space.specs.Merges.{HasFewPages}
 use Rattle.wh_space.proofs.Merges.{one_most, table_most}

@@ -1,17 +1,12 @@
 -- The ticket with which a page was leaving that is written.
 use Rattle.std.proofs.Common.{◌≡◌, ◌<◌, ℕ, inl, inr, List, [], ◌∷◌, Option, Some, None, IfSome, length, get_or, map, slice_get, slice_set, zero, suc, refl, sym, ◌∙◌, ap, subst, arith}
-use Rattle.wh_host_model.specs.Frames.{tally}
-use Rattle.wh_host_model.specs.declared.states.Page.{Page}
-use Rattle.wh_host_model.specs.declared.states.Page.TheVariants.{Untouched, Private, Shared, Leaving, LeavingShared, Coming, Swapped}
-use Rattle.wh_host_model.specs.declared.states.Slot.{Slot}
-use Rattle.wh_host_model.specs.declared.states.Slot.TheVariants.{Vacant, Evicting, EvictVoid}
-use Rattle.wh_host_model.specs.Space.Breaks.{voided}
-use Rattle.wh_host_model.specs.Space.Errands.{ticket_of}
-use Rattle.wh_host_model.specs.Space.Parts.{Occupant, Space}
-use Rattle.wh_host_model.specs.Space.Sound.{IsUsed, LeavesBy, SlotsAreSound}
-use Rattle.wh_host_model.specs.Space.States.{at, leaving, page_at}
-use Rattle.wh_host_model.proofs.Space.Breaking.{void_case, void_same}
-use Rattle.wh_host_model.proofs.Space.Putting.{get_or_is, there_of}
+use Rattle.wh_space_model.specs.{tally, voided, ticket_of, Occupant, Space, IsUsed, LeavesBy, SlotsAreSound, at, leaving, page_at}
+use Rattle.wh_space_model.specs.declared.states.Page.{Page}
+use Rattle.wh_space_model.specs.declared.states.Page.TheVariants.{Untouched, Private, Shared, Leaving, LeavingShared, Coming, Swapped}
+use Rattle.wh_space_model.specs.declared.states.Slot.{Slot}
+use Rattle.wh_space_model.specs.declared.states.Slot.TheVariants.{Vacant, Evicting, EvictVoid}
+use Rattle.wh_space_model.proofs.Breaking.{void_case, void_same}
+use Rattle.wh_space_model.proofs.Putting.{get_or_is, there_of}
 use Rattle.wh_space.specs.declared.occupant_entry.OccupantEntry.{OccupantEntry}
 use Rattle.wh_space.specs.declared.memory.Memory.TheInside.{Inside}
 use Rattle.wh_space.specs.Parts.{occupant_of, space_of}

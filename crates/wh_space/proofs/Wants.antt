@@ -1,18 +1,14 @@
 -- How many frames the writes to one page want, and to two.
 use Rattle.std.proofs.Common.{◌≡◌, ◌≢◌, ℕ, ◌+◌, ◌<◌, ◌≤◌, inl, inr, List, [], ◌∷◌, Option, Some, None, refl, sym, ◌∙◌, ap, arith}
 use Rattle.std.proofs.lemmas.Bool.Decides.{nat_tests}
-use Rattle.wh_host_model.specs.Frames.{IsTaken}
-use Rattle.wh_host_model.specs.declared.states.Page.{Page}
-use Rattle.wh_host_model.specs.declared.states.Page.TheVariants.{Untouched, Private, Shared, Leaving, LeavingShared, Coming, Swapped}
-use Rattle.wh_host_model.specs.Space.Parts.{Space, sharers}
-use Rattle.wh_host_model.specs.Space.Ready.{copies, frames_for}
-use Rattle.wh_host_model.specs.Space.Sound.{IsSound}
-use Rattle.wh_host_model.specs.Space.States.{at, page_at, shares, untouched}
-use Rattle.wh_host_model.proofs.Tally.{one_same}
-use Rattle.wh_host_model.proofs.Space.Counting.{double, frames_one_page, frames_two_pages, shared_frame, single}
-use Rattle.wh_host_model.proofs.Space.Filling.{other_cond, same_cond}
-use Rattle.wh_host_model.proofs.Space.Putting.{here_or}
-use Rattle.wh_host_model.proofs.Space.Wanting.{OneOrTwo, among_all}
+use Rattle.wh_space_model.specs.{IsTaken, Space, sharers, copies, frames_for, IsSound, at, page_at, shares, untouched}
+use Rattle.wh_space_model.specs.declared.states.Page.{Page}
+use Rattle.wh_space_model.specs.declared.states.Page.TheVariants.{Untouched, Private, Shared, Leaving, LeavingShared, Coming, Swapped}
+use Rattle.wh_space_model.proofs.Tally.{one_same}
+use Rattle.wh_space_model.proofs.Counting.{double, frames_one_page, frames_two_pages, shared_frame, single}
+use Rattle.wh_space_model.proofs.Filling.{other_cond, same_cond}
+use Rattle.wh_space_model.proofs.Putting.{here_or}
+use Rattle.wh_space_model.proofs.Wanting.{OneOrTwo, among_all}
 use Rattle.wh_space.specs.Steps.{SharesAlone, frame_shared}
 use Rattle.wh_space.proofs.Owning.{is_sharer}
 

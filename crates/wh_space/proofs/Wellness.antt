@@ -1,9 +1,6 @@
 -- What keeps the memory well.
 use Rattle.std.proofs.Common.{◌≡◌, ◌∙◌, ℕ, Some, length, sym, ap, slice_get, get_or}
-use Rattle.wh_host_model.specs.Frames.{tally}
-use Rattle.wh_host_model.specs.Space.Errands.{ticket_of}
-use Rattle.wh_host_model.specs.Space.Parts.{Slots}
-use Rattle.wh_host_model.specs.Space.Sound.{IsSound}
+use Rattle.wh_space_model.specs.{tally, ticket_of, Slots, IsSound}
 use Rattle.wh_space.specs.declared.occupant_entry.OccupantEntry.{OccupantEntry}
 use Rattle.wh_space.specs.declared.memory.Memory.TheInside.{Inside}
 use Rattle.wh_space.specs.UnchangedTables.{Fixed, fixed_in}

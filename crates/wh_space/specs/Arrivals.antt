@@ -1,12 +1,12 @@
 -- A memory in which nobody is yet, and what instances are promised.
 use Rattle.std.specs.Prelude.{ℕ, ◌≡◌, ◌<◌, List, length, replicate}
-use Rattle.wh_host_model.specs.declared.Tax.{Tax}
-use Rattle.wh_host_model.specs.Frames.{tally, one_if}
-use Rattle.wh_host_model.specs.Pages.{zero_page}
-use Rattle.wh_host_model.specs.Space.Parts.{Claimed, Space, empty_space}
+use Rattle.wh_space_model.specs.declared.Tax.{Tax}
+use Rattle.wh_space_model.specs.Frames.{tally, one_if}
+use Rattle.wh_space_model.specs.Pages.{zero_page}
+use Rattle.wh_space_model.specs.Parts.{Claimed, Space, empty_space}
 use Rattle.wh_space.specs.declared.occupant_entry.Promise.{Promise}
 
--- so many frames and slots, and nobody there; the free frames stand in some order
+-- the frames and slots are there, and nobody is; the free frames are in some order
 pub record IsNew (s : Space) (frames slots : ℕ) (tax : Tax) : Type 0 where
   pub free : List ℕ
   pub many : length free ≡ frames

@@ -1,9 +1,9 @@
 -- What an instance brings to the choice of the one that pays.
 use Rattle.std.specs.Prelude.{ℕ, ◌≡◌, Bool, true}
-use Rattle.wh_host_model.specs.declared.Claim.{Claim}
-use Rattle.wh_host_model.specs.Space.Charges.{IsOnTouched, IsTouched, active_of, charged_of}
-use Rattle.wh_host_model.specs.Space.Claims.{CanBeTaken, CanLeave}
-use Rattle.wh_host_model.specs.Space.Parts.{Occupant, Space}
+use Rattle.wh_space_model.specs.declared.Claim.{Claim}
+use Rattle.wh_space_model.specs.Charges.{IsOnTouched, IsTouched, active_of, charged_of}
+use Rattle.wh_space_model.specs.Claims.{CanBeTaken, CanLeave}
+use Rattle.wh_space_model.specs.Parts.{Occupant, Space}
 
 -- no page of the instance at place i can leave; no charged page of it can
 abbrev pub GivesNone : Space → ℕ → Type 0

@@ -1,7 +1,7 @@
 -- How many frames are shared, and by how many pages.
 use Rattle.std.specs.Prelude.{ℕ}
-use Rattle.wh_host_model.specs.declared.states.Mark.{Mark}
-use Rattle.wh_host_model.specs.declared.states.Mark.TheVariants.{Plain, Hint, Sharers, Unlisted}
+use Rattle.wh_space_model.specs.declared.states.Mark.{Mark}
+use Rattle.wh_space_model.specs.declared.states.Mark.TheVariants.{Plain, Hint, Sharers, Unlisted}
 
 -- 1 where pages share the frame that has this entry, and how many they are
 abbrev pub is_shared : Mark → ℕ

@@ -1,7 +1,7 @@
 -- What one instance alone does to the memory of all: it loads, stores and grows.
 use Rattle.std.specs.Prelude.{ℕ, List}
-use Rattle.wh_host_model.specs.Space.Parts.{Space}
-use Rattle.wh_host_model.specs.Space.Stores.{Grew, Overwrites, Touches}
+use Rattle.wh_space_model.specs.Parts.{Space}
+use Rattle.wh_space_model.specs.Stores.{Grew, Overwrites, Touches}
 
 -- The instance at place i loads, stores and grows, any number of times, one after the other. Nothing else happens.
 pub data TakesSteps (i : ℕ) : Space → Space → Type 0 where

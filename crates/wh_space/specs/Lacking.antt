@@ -1,7 +1,7 @@
 -- What a step lacks.
 use Rattle.std.specs.Prelude.{ℕ, Option, Some, None}
-use Rattle.wh_host_model.specs.declared.states.Page.{Page}
-use Rattle.wh_host_model.specs.declared.states.Page.TheVariants.{Untouched, Private, Shared, Leaving, LeavingShared, Coming, Swapped}
+use Rattle.wh_space_model.specs.declared.states.Page.{Page}
+use Rattle.wh_space_model.specs.declared.states.Page.TheVariants.{Untouched, Private, Shared, Leaving, LeavingShared, Coming, Swapped}
 
 -- the slot in which a page lies, and waits for no device
 abbrev pub slot_under : Page → Option ℕ

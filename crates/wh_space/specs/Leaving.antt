@@ -1,11 +1,11 @@
--- What pages leave behind that go with their instance.
+-- What pages leave after that go with their instance.
 use Rattle.std.specs.Prelude.{ℕ, ◌<◌, ◌++◌, cond, Bool, true, false, List, [], ◌∷◌, length, get_or, slice_set}
-use Rattle.wh_host_model.specs.Frames.{IsTaken, Pool}
-use Rattle.wh_host_model.specs.declared.states.Mark.{Mark}
-use Rattle.wh_host_model.specs.declared.states.Mark.TheVariants.{Plain, Hint, Sharers, Unlisted}
-use Rattle.wh_host_model.specs.declared.states.Page.{Page}
-use Rattle.wh_host_model.specs.declared.states.Page.TheVariants.{Untouched, Private, Shared, Leaving, LeavingShared, Coming, Swapped}
-use Rattle.wh_host_model.specs.Space.Breaks.{fewer_sharers}
+use Rattle.wh_space_model.specs.Frames.{IsTaken, Pool}
+use Rattle.wh_space_model.specs.declared.states.Mark.{Mark}
+use Rattle.wh_space_model.specs.declared.states.Mark.TheVariants.{Plain, Hint, Sharers, Unlisted}
+use Rattle.wh_space_model.specs.declared.states.Page.{Page}
+use Rattle.wh_space_model.specs.declared.states.Page.TheVariants.{Untouched, Private, Shared, Leaving, LeavingShared, Coming, Swapped}
+use Rattle.wh_space_model.specs.Breaks.{fewer_sharers}
 
 -- the pool, and what the content table has of each frame
 pub record Holdings : Type 0 where
@@ -23,7 +23,7 @@ is_plain (Hint hash i p) = false
 is_plain (Sharers hash n) = false
 is_plain (Unlisted n) = false
 
--- the page goes that was alone on frame f; one of its sharers does, and with the last one it is free
+-- the page goes that had frame f as its own; one of its sharers does, and with the last one it is free
 abbrev pub owner_gone : ℕ → Holdings → Holdings
 owner_gone f a = record { pool = freed a.pool f; marks = slice_set a.marks f Plain }
 

@@ -1,9 +1,9 @@
 -- Which pages may be lent to a copy.
 use Rattle.std.specs.Prelude.{ℕ, ◌≡◌, ◌+◌, ◌≤◌, Some}
-use Rattle.wh_host_model.specs.declared.states.Page.{Page}
-use Rattle.wh_host_model.specs.Space.Claims.{stays}
-use Rattle.wh_host_model.specs.Space.Parts.{Space}
-use Rattle.wh_host_model.specs.Space.States.{page_at, untouched}
+use Rattle.wh_space_model.specs.declared.states.Page.{Page}
+use Rattle.wh_space_model.specs.Claims.{stays}
+use Rattle.wh_space_model.specs.Parts.{Space}
+use Rattle.wh_space_model.specs.States.{page_at, untouched}
 
 -- it is untouched, or on a frame that it isn't leaving
 abbrev pub IsHere : Page → Type 0

@@ -1,10 +1,10 @@
 -- What becomes of a page on a frame that is shared and has no entry.
 use Rattle.std.specs.Prelude.{ℕ, ◌≡◌, false, Some, slice_get}
-use Rattle.wh_host_model.specs.declared.states.Mark.TheVariants.{Unlisted}
-use Rattle.wh_host_model.specs.declared.states.Page.TheVariants.{Shared, Untouched}
-use Rattle.wh_host_model.specs.Space.Offers.{gone_from}
-use Rattle.wh_host_model.specs.Space.Parts.{Space}
-use Rattle.wh_host_model.specs.Space.States.{page_at, put}
+use Rattle.wh_space_model.specs.declared.states.Mark.TheVariants.{Unlisted}
+use Rattle.wh_space_model.specs.declared.states.Page.TheVariants.{Shared, Untouched}
+use Rattle.wh_space_model.specs.Offers.{gone_from}
+use Rattle.wh_space_model.specs.Parts.{Space}
+use Rattle.wh_space_model.specs.States.{page_at, put}
 
 -- no page shares such a frame there, without leaving it
 abbrev pub IsNotUnlisted : Space → ℕ → ℕ → Type 0

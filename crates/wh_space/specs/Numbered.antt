@@ -1,8 +1,8 @@
 -- Instances in the order of their numbers.
 use Rattle.std.specs.Prelude.{ℕ, ◌≡◌, ◌≤◌, Option, [], length, get_or}
-use Rattle.wh_host_model.specs.declared.plain.InstId.{InstId}
-use Rattle.wh_host_model.specs.Space.Charges.{occupant_number}
-use Rattle.wh_host_model.specs.Space.Parts.{Space}
+use Rattle.wh_space_model.specs.declared.plain.InstId.{InstId}
+use Rattle.wh_space_model.specs.Charges.{occupant_number}
+use Rattle.wh_space_model.specs.Parts.{Space}
 use Rattle.wh_tables.specs.Line.{IsAbove}
 
 -- the instance at place i has pages, and a number above this one, if there is one

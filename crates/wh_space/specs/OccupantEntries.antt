@@ -3,7 +3,7 @@ use Rattle.std.specs.Prelude.{ℕ, ◌+◌, ◌-◌, ◌==◌, cond, false, Opti
 use Rattle.wh_model.specs.declared.memory.Need.{Need}
 use Rattle.wh_space.specs.declared.occupant_entry.OccupantEntry.{OccupantEntry}
 
--- who is there stands for these bytes, or for none
+-- who is there is blocked on these bytes, or on none
 abbrev pub entry_awaiting : Option OccupantEntry → Option Need → Option OccupantEntry
 entry_awaiting None need = None
 entry_awaiting (Some occupant_entry) need = Some (record occupant_entry { stands = need })

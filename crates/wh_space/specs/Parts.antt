@@ -1,9 +1,9 @@
--- What the parts of the memory stand for.
+-- What the parts of the memory represent.
 use Rattle.std.specs.Prelude.{ℕ, ◌≡◌, ◌^◌, ◌≤◌, Option, Some, None, length, map, get_or, slice_get}
-use Rattle.wh_host_model.specs.Frames.{tally}
-use Rattle.wh_host_model.specs.Space.Errands.{ticket_of}
-use Rattle.wh_host_model.specs.Space.Parts.{Occupant, Space}
-use Rattle.wh_host_model.specs.Space.Sound.{IsSound}
+use Rattle.wh_space_model.specs.Frames.{tally}
+use Rattle.wh_space_model.specs.Errands.{ticket_of}
+use Rattle.wh_space_model.specs.Parts.{Occupant, Space}
+use Rattle.wh_space_model.specs.Sound.{IsSound}
 use Rattle.wh_space.specs.declared.occupant_entry.OccupantEntry.{OccupantEntry}
 use Rattle.wh_space.specs.declared.memory.Memory.TheInside.{Inside}
 use Rattle.wh_space.specs.Pinning.{pins_of}

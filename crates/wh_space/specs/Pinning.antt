@@ -1,7 +1,7 @@
 -- Pages that are pinned and frames that are earmarked, of one instance.
 use Rattle.std.specs.Prelude.{ℕ, ◌≡◌, ◌++◌, ◌⊎◌, List, [], ◌∷◌, Option, Some, None}
-use Rattle.wh_host_model.specs.Frames.{Pool, TakesFrame}
-use Rattle.wh_host_model.specs.Space.Parts.{Pins, kept_by, pinned_by}
+use Rattle.wh_space_model.specs.Frames.{Pool, TakesFreeFrame}
+use Rattle.wh_space_model.specs.Parts.{Pins, kept_by, pinned_by}
 use Rattle.wh_space.specs.declared.pins.Few.{Few}
 use Rattle.wh_space.specs.declared.pins.Few.TheVariants.{Zero, One, Two}
 use Rattle.wh_space.specs.declared.pins.Pinned.{Pinned}
@@ -24,4 +24,4 @@ TakesEarmark i g pins pins2 =
 -- a frame is taken for it: a free one, or the last one that was earmarked
 abbrev pub FrameGoes : ℕ → ℕ → Pool → Option Pins → Pool → Option Pins → Type 0
 FrameGoes i g pool pins pool2 pins2 =
-    (TakesFrame pool g pool2 × (pins2 ≡ pins)) ⊎ ((pool2 ≡ pool) × TakesEarmark i g pins pins2)
+    (TakesFreeFrame pool g pool2 × (pins2 ≡ pins)) ⊎ ((pool2 ≡ pool) × TakesEarmark i g pins pins2)

@@ -1,9 +1,9 @@
 -- A sharer of a frame that leaves for a step, as it is looked for on one frame.
 use Rattle.std.specs.Prelude.{ℕ, ◌≡◌, ◌<◌, ◌≤◌, ◌⊎◌}
 use Rattle.wh_model.specs.declared.memory.Need.{Need}
-use Rattle.wh_host_model.specs.Space.Charges.{occupant_number}
-use Rattle.wh_host_model.specs.Space.Claims.{CanShed, IsBeside}
-use Rattle.wh_host_model.specs.Space.Parts.{Space}
+use Rattle.wh_space_model.specs.Charges.{occupant_number}
+use Rattle.wh_space_model.specs.Claims.{CanShed, IsBeside}
+use Rattle.wh_space_model.specs.Parts.{Space}
 
 -- no page on frame f is beside the step and can leave; or this one is the greatest that is
 abbrev pub IsNoneBeside : Space → ℕ → Need → ℕ → Type 0

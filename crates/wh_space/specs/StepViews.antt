@@ -1,15 +1,15 @@
 -- What the steps of the instance at one place may leave of all else.
 use Rattle.std.specs.Prelude.{ℕ, min, ◌≡◌, ◌≢◌, List, Option, None, length, get_or, refl}
 use Rattle.std.proofs.Common.{◌∙◌, ap, subst}
-use Rattle.wh_host_model.specs.Space.Errands.{pass_of}
-use Rattle.wh_host_model.specs.Space.Parts.{Occupant, Space, claim_of, kept_by, pinned_by, view}
-use Rattle.wh_host_model.specs.Space.Sound.{IsSound}
+use Rattle.wh_space_model.specs.Errands.{pass_of}
+use Rattle.wh_space_model.specs.Parts.{Occupant, Space, claim_of, kept_by, pinned_by, view}
+use Rattle.wh_space_model.specs.Sound.{IsSound}
 use Rattle.wh_space.specs.InstanceSteps.{TakesSteps, takes_none, steps_join}
 use Rattle.wh_space.specs.Steps.{limit_by, page_limit}
 
--- What the others see stays, with who has a place, what he stands for and was promised, and what is pinned and kept for
--- others. No ticket comes or goes, and slots hold what they held. What was sound is sound. It comes of the steps of this
--- instance alone.
+-- What the others see stays, with who has a place, what it is blocked on and was promised, and what is pinned and kept for
+-- others. No ticket comes or goes, and slots hold what they held. What was sound is sound. It comes of the steps of this instance
+-- alone.
 pub record KeepsRest (i : ℕ) (s s2 : Space) : Type 0 where
   pub views : (j : ℕ) → j ≢ i → view s2 j ≡ view s j
   pub occupants : s2.occupants ≡ s.occupants

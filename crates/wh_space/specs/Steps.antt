@@ -5,15 +5,15 @@ use Rattle.wh_model.specs.declared.memory.Got.{Got}
 use Rattle.wh_model.specs.declared.memory.Got.TheVariants.{Value, Trap, NotReady}
 use Rattle.wh_model.specs.declared.memory.Grown.{Grown}
 use Rattle.wh_model.specs.declared.memory.Grown.TheVariants.{Done, Refused}
-use Rattle.wh_host_model.specs.declared.states.Page.{Page}
-use Rattle.wh_host_model.specs.declared.states.Page.TheVariants.{Untouched, Private, Shared, Leaving, LeavingShared, Coming, Swapped}
-use Rattle.wh_host_model.specs.Space.Parts.{Claimed, Space, claim, sharers}
-use Rattle.wh_host_model.specs.Space.Breaks.{Breaks}
-use Rattle.wh_host_model.specs.Space.Ready.{IsAtHand, frames_for, may_take}
-use Rattle.wh_host_model.specs.Space.States.{page_at}
-use Rattle.wh_host_model.specs.Space.Stores.{Grew, Overwrites, Touches}
+use Rattle.wh_space_model.specs.declared.states.Page.{Page}
+use Rattle.wh_space_model.specs.declared.states.Page.TheVariants.{Untouched, Private, Shared, Leaving, LeavingShared, Coming, Swapped}
+use Rattle.wh_space_model.specs.Parts.{Claimed, Space, claim, sharers}
+use Rattle.wh_space_model.specs.Breaks.{Breaks}
+use Rattle.wh_space_model.specs.Ready.{IsAtHand, frames_for, may_take}
+use Rattle.wh_space_model.specs.States.{page_at}
+use Rattle.wh_space_model.specs.Stores.{Grew, Overwrites, Touches}
 
--- a load of so many bytes
+-- a load of n bytes
 abbrev pub LeavesLoad : Space → ℕ → ℕ → ℕ → Got → Space → Type 0
 LeavesLoad s i at n Value s2 = Touches s i at n s2
 LeavesLoad s i at n Trap s2 = s2 ≡ s
@@ -25,7 +25,7 @@ LeavesStore s i at given Value s2 = Overwrites s i at given s2
 LeavesStore s i at given Trap s2 = s2 ≡ s
 LeavesStore s i at given (NotReady need) s2 = s2 ≡ s
 
--- a growth by so many pages of WebAssembly
+-- a growth by n pages of WebAssembly
 abbrev pub LeavesGrowth : Space → ℕ → ℕ → Grown → Space → Type 0
 LeavesGrowth s i n (Done pages) s2 = Grew s i n s2
 LeavesGrowth s i n Refused s2 = s2 ≡ s
@@ -68,7 +68,7 @@ pub record SharesAlone (s : Space) (i p q : ℕ) : Type 0 where
 abbrev pub CanBreak : Space → ℕ → ℕ → Type 0
 CanBreak s i p = IsAtHand (page_at s.tables i p) × (frames_for s i (p ∷ []) ≤ may_take s i)
 
--- the page was broken off, and stands alone on this frame; or it can't be, and nothing changed
+-- the page was given a frame of its own, and has this one; or it can't be, and nothing changed
 abbrev pub Owns : Space → ℕ → ℕ → Option ℕ → Space → Type 0
 Owns s i p None s2 = (¬ CanBreak s i p) × (s2 ≡ s)
 Owns s i p (Some f) s2 = CanBreak s i p × Breaks s i p s2 × (page_at s2.tables i p ≡ Some (Private f))

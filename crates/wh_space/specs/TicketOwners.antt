@@ -1,8 +1,8 @@
 -- Whose page a slot's ticket is for.
 use Rattle.std.specs.Prelude.{ℕ, Option, Some, None, get_or}
-use Rattle.wh_host_model.specs.declared.states.Slot.{Slot}
-use Rattle.wh_host_model.specs.declared.states.Slot.TheVariants.{Vacant, Taken, Evicting, EvictVoid, Fetching, FetchVoid}
-use Rattle.wh_host_model.specs.Space.Parts.{Space}
+use Rattle.wh_space_model.specs.declared.states.Slot.{Slot}
+use Rattle.wh_space_model.specs.declared.states.Slot.TheVariants.{Vacant, Taken, Evicting, EvictVoid, Fetching, FetchVoid}
+use Rattle.wh_space_model.specs.Parts.{Space}
 
 -- the place of the instance for which the ticket is out, void or not
 abbrev pub place_of_use : Slot → Option ℕ

@@ -1,12 +1,12 @@
 -- What pages in transit leave.
 use Rattle.std.specs.Prelude.{ℕ, ◌≡◌, ◌++◌, ◌⊎◌, List, [], ◌∷◌, Option, Some, None, slice_get}
-use Rattle.wh_host_model.specs.declared.states.Page.{Page}
-use Rattle.wh_host_model.specs.declared.states.Page.TheVariants.{Untouched, Private, Shared, Leaving, LeavingShared, Coming, Swapped}
-use Rattle.wh_host_model.specs.declared.states.Slot.TheVariants.{FetchVoid, Fetching}
-use Rattle.wh_host_model.specs.Space.Moves.{frame_of}
-use Rattle.wh_host_model.specs.Space.Parts.{Space, frame_bytes, kept_by}
-use Rattle.wh_host_model.specs.Space.States.{page_at}
-use Rattle.wh_host_model.specs.Space.Tickets.{as_leaving, departing, sent_for}
+use Rattle.wh_space_model.specs.declared.states.Page.{Page}
+use Rattle.wh_space_model.specs.declared.states.Page.TheVariants.{Untouched, Private, Shared, Leaving, LeavingShared, Coming, Swapped}
+use Rattle.wh_space_model.specs.declared.states.Slot.TheVariants.{FetchVoid, Fetching}
+use Rattle.wh_space_model.specs.Moves.{frame_of}
+use Rattle.wh_space_model.specs.Parts.{Space, frame_bytes, kept_by}
+use Rattle.wh_space_model.specs.States.{page_at}
+use Rattle.wh_space_model.specs.Tickets.{as_leaving, departing, sent_for}
 
 -- page p of the instance at place j begins to leave by slot k, with these bytes to be written
 abbrev pub IsDeparting : Space → ℕ → ℕ → ℕ → List ℕ → Space → Type 0

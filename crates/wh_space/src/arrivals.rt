@@ -1,9 +1,9 @@
 // How a memory begins, and how an instance comes to a place.
 
 ghost use Rattle.std.specs.Prelude.{◌≡◌, ◌≢◌, ◌*◌, ◌<◌, ◌≤◌, ℕ, Some, false, length, replicate, IfOk, IfErr, OnOk, OnErr, vec_len, vec_capacity};
-ghost use Rattle.wh_host_model.specs.declared.states.Page.TheVariants.{Untouched};
-ghost use Rattle.wh_host_model.specs.Space.Parts.{Occupant, occupant_at};
-ghost use Rattle.wh_host_model.specs.Space.Places.{Enters, HasRoomFor, IsFreePlace, with_row};
+ghost use Rattle.wh_space_model.specs.declared.states.Page.TheVariants.{Untouched};
+ghost use Rattle.wh_space_model.specs.Parts.{Occupant, occupant_at};
+ghost use Rattle.wh_space_model.specs.Places.{Enters, HasRoomFor, IsFreePlace, with_row};
 ghost use Rattle.wh_space.specs.Arrivals.{IsNew, claimed};
 
 use crate::memory::Memory;
@@ -11,7 +11,7 @@ use crate::occupant_entry::{OccupantEntry, Promise};
 use std::alloc::{AllocError, Global};
 use wh_content::Table;
 use wh_frames::{FrameError, FramePool};
-use wh_host_model::Tax;
+use wh_space_model::Tax;
 use wh_swap::Slots;
 use wh_tables::Tables;
 
@@ -33,11 +33,11 @@ fn put_occupant(
 }
 
 impl Memory {
-    /// A memory with so many frames of 4096 bytes and so many slots, in which nobody is. Room for all frames and slots is
-    /// reserved now.
+    /// Creates a memory of `frames` frames of 4096 bytes and `slots` swap slots, without instances. Reserves the room
+    /// for all frames and slots.
     ///
     /// # Errors
-    /// `Memory` where room is refused.
+    /// `FrameError::Memory` if an allocation fails.
     pub fn new(alloc: Global, frames: u32, slots: u32, tax: Tax) -> Result<Memory, FrameError>
         ensures is { IfOk result (λ memory. IsNew memory frames slots tax) }
         ensures refused { IfErr result (λ error. error ≡ FrameError.Memory) }
@@ -65,11 +65,11 @@ impl Memory {
         })
     }
 
-    /// An instance comes to a free place, or to the next one behind all, with so many pages of 65536 zero bytes. They
-    /// take no frame. All room for its page table is taken now, so that it grows without memory.
+    /// Gives a new instance a free place, or the next one after all, and `size` pages of 65536 zero bytes, which take
+    /// no frame. Reserves the room for its whole page table, so that growing later doesn't allocate.
     ///
     /// # Errors
-    /// `AllocError` where room is refused, also where the place is no number of 32 bits. Nothing is done then.
+    /// `AllocError` if an allocation fails or the place doesn't fit in 32 bits. Nothing has changed then.
     pub fn enter(
         &mut self,
         alloc: Global,

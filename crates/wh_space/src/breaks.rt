@@ -1,9 +1,9 @@
-// Pages that are broken off from all others, to be written.
+// Copy-on-write: pages that get a frame of their own, to be written.
 
 ghost use Rattle.std.specs.Prelude.{◌≡◌, ◌<◌, ◌≤◌, [], Some, IfSome, IfNone, length, get_or};
-ghost use Rattle.wh_host_model.specs.Space.Parts.{sharers};
-ghost use Rattle.wh_host_model.specs.Space.States.{at, owns, page_at, shares};
-ghost use Rattle.wh_host_model.specs.declared.states.Page.TheVariants.{Untouched};
+ghost use Rattle.wh_space_model.specs.Parts.{sharers};
+ghost use Rattle.wh_space_model.specs.States.{at, owns, page_at, shares};
+ghost use Rattle.wh_space_model.specs.declared.states.Page.TheVariants.{Untouched};
 ghost use Rattle.wh_space.specs.Steps.{Owns};
 
 use crate::frames::clear_frame;
@@ -11,7 +11,7 @@ use crate::memory::Memory;
 use crate::pages::stand_alone;
 use crate::pins::take_frame;
 use crate::slotting::{leaver_at, void_written};
-use wh_host_model::{Mark, Page};
+use wh_space_model::{Mark, Page};
 
 impl Memory {
     // How many pages share a frame.
@@ -86,7 +86,8 @@ impl Memory {
         Some(fresh)
     }
 
-    // A sharer of a frame leaves it.
+    // Takes a page off the sharers of a frame. Returns the frame that it has then: one with a copy of the bytes, if there
+    // is a frame for it; or as the last sharer the same one.
     fn leave_sharers(&mut self, place: usize, number: u32, frame: u32) -> Option<u32>
         requires { at (shares frame) (page_at self.old.tables place number) ≡ 1 }
         ensures { Owns self.old place number result self.new }
@@ -100,8 +101,8 @@ impl Memory {
         }
     }
 
-    // Breaks a page off from all others. The frame on which it stands alone then; or none where there is none for it, or
-    // it isn't at hand, and then nothing is done.
+    // Gives a page a frame of its own (copy-on-write), and returns it; or returns `None`, with nothing done, if there
+    // is no frame for it, or the page is in a slot or coming from one.
     pub(crate) fn own(&mut self, place: usize, number: u32) -> Option<u32>
         requires { number < length (get_or self.old.tables place []) }
         ensures { Owns self.old place number result self.new }
@@ -123,7 +124,7 @@ impl Memory {
         }
     }
 
-    // The frame on which a page stands alone already, where it was touched in this epoch too.
+    // The frame of its own that a page has already, if it was touched in this epoch too.
     #[inline(always)]
     pub(crate) fn own_quickly(&self, place: usize, number: u32) -> Option<u32>
         requires { number < length (get_or self.now.tables place []) }

@@ -1,26 +1,26 @@
 // What each instance brings to the choice of the page that leaves.
 
 ghost use Rattle.std.specs.Prelude.{◌≡◌, ◌<◌, ◌≤◌, ℕ, [], None, true, MatchBool, MatchOption, IfSome, IfNone, length, get_or};
-ghost use Rattle.wh_host_model.specs.Space.Charges.{IsChargedPage, IsOnTouched, active_of, charged_of};
-ghost use Rattle.wh_host_model.specs.Space.Claims.{CanBeTaken, CanLeave, IsGiven, IsTakenFrom, stays};
-ghost use Rattle.wh_host_model.specs.Space.Parts.{Occupant, occupant_at};
+ghost use Rattle.wh_space_model.specs.Charges.{IsChargedPage, IsOnTouched, active_of, charged_of};
+ghost use Rattle.wh_space_model.specs.Claims.{CanBeTaken, CanLeave, IsGiven, IsTakenFrom, stays};
+ghost use Rattle.wh_space_model.specs.Parts.{Occupant, occupant_at};
 ghost use Rattle.wh_pages.specs.Seeking.{IsFirstFrom};
 ghost use Rattle.wh_space.specs.Claiming.{GivesNone, IsClaimOf, MightBeTaken, MightLeave, TakesNoPage};
 
 use crate::memory::Memory;
 use crate::occupant_entry::OccupantEntry;
 use crate::pins::has_page_pinned;
-use wh_host_model::{Claim, Page, Tax};
+use wh_space_model::{Claim, Page, Tax};
 use wh_tables::PageId;
 
-// Whether a page stands on a frame and isn't leaving.
+// Whether a page is resident and isn't leaving.
 fn is_staying(page: Page) -> bool
     ensures { MatchBool result (stays page ≡ 1) (stays page ≡ 0) }
 {
     matches!(page, Page::Private(_) | Page::Shared(_))
 }
 
-// What an instance claims to which so many frames are charged, on so many of which a touched page stands, if one of their
+// What an instance claims to which `pages` frames are charged, `active` of them with a touched page, if one of their
 // pages can leave.
 fn claim_by(occupant_entry: OccupantEntry, pages: u32, active: u32) -> Claim
     requires shares { (1 ≤ occupant_entry.shares) × (occupant_entry.shares ≤ 1000000) }
@@ -42,14 +42,14 @@ fn claim_by(occupant_entry: OccupantEntry, pages: u32, active: u32) -> Claim
 }
 
 impl Memory {
-    /// The tax on idle pages.
+    /// Returns the tax on idle pages.
     pub fn tax(&self) -> Tax
         ensures { result ≡ self.now.tax }
     {
         self.tax
     }
 
-    /// How many places there are.
+    /// Returns the number of places, free ones included.
     pub fn places(&self) -> usize
         ensures { result ≡ length self.now.occupants }
     {
@@ -98,7 +98,7 @@ impl Memory {
         }
     }
 
-    // Whether a touched page stands on the frame of this page, of whichever instance.
+    // Whether a touched page of any instance maps to the frame of this page.
     fn is_on_touched(&self, place: usize, number: u32) -> bool
         requires { number < length (get_or self.now.tables place []) }
         ensures { MatchBool result (IsOnTouched self.now place number)
@@ -141,8 +141,8 @@ impl Memory {
         None
     }
 
-    // The first charged page of it that can leave; with `idle`, of those alone on whose frames no page was touched. A touched
-    // page lies on no such frame, so here too leaves are passed over that have none.
+    // The first charged page of it that can leave; with `idle`, the first of those on whose frames no page was touched.
+    // A touched page is on no such frame, so here too leaves are skipped that have none.
     fn first_to_take(&self, place: usize, idle: bool) -> Option<u32>
         ensures { IsFirstFrom (MightBeTaken self.now place idle) 0 result }
     {
@@ -159,8 +159,8 @@ impl Memory {
         None
     }
 
-    /// The page that the instance at this place gives of its own where nobody pays: of those that can leave the first that
-    /// wasn't touched in this epoch, or else the first.
+    /// Returns the page that the instance at this place gives of its own if nobody pays: the first page not touched in
+    /// this epoch that can leave, or else the first that can leave.
     pub fn given_page(&self, place: usize) -> Option<u32>
         ensures { MatchOption result (GivesNone self.now place)
             (λ page. IsGiven self.now place page) }
@@ -171,8 +171,8 @@ impl Memory {
         }
     }
 
-    /// The page that is taken from the instance at this place where it pays: of its charged pages that can leave the first on
-    /// whose frame no page was touched in this epoch, or else the first.
+    /// Returns the page that is taken from the instance at this place if it pays: the first charged page that can leave
+    /// and on whose frame no page was touched in this epoch, or else the first charged page that can leave.
     pub fn taken_page(&self, place: usize) -> Option<u32>
         ensures { MatchOption result (TakesNoPage self.now place)
             (λ page. IsTakenFrom self.now place page) }
@@ -183,7 +183,7 @@ impl Memory {
         }
     }
 
-    /// Whether some charged page of the instance at this place can leave.
+    /// Tells whether some charged page of the instance at this place can leave.
     pub fn has_page_to_take(&self, place: usize) -> bool
         ensures { MatchBool result ((page : ℕ) × CanBeTaken self.now place page)
             (TakesNoPage self.now place) }
@@ -191,8 +191,9 @@ impl Memory {
         self.first_to_take(place, false).is_some()
     }
 
-    /// How many instances came before the one at this place, and what it claims if a charged page of it can leave, which
-    /// `has_page_to_take` tells; none where nobody is there. It looks at none of its pages.
+    /// Returns the number of the instance at this place (how many came before it) and its claim, which counts only if a
+    /// charged page of it can leave: `has_page_to_take` tells. Returns `None` if nobody is there. Takes O(1): looks at
+    /// no page.
     pub fn claim_at(&self, place: usize) -> Option<(u64, Claim)>
         ensures some { IfSome result (λ it. (t : Occupant) × occupant_at self.now place t
             × (it.0 ≡ t.number) × IsClaimOf self.now place t it.1) }

@@ -1,12 +1,12 @@
 // How frames are used.
 
 ghost use Rattle.std.specs.Prelude.{◌≡◌, ◌+◌, ◌≤◌, length};
-ghost use Rattle.wh_host_model.specs.Frames.{tally};
+ghost use Rattle.wh_space_model.specs.Frames.{tally};
 ghost use Rattle.wh_space.specs.Counts.{is_shared, sharers_in};
 
 use crate::memory::Memory;
 use wh_content::Table;
-use wh_host_model::Mark;
+use wh_space_model::Mark;
 
 // How many pages share the frame with this entry.
 fn sharers_under(mark: Mark) -> u32
@@ -56,21 +56,21 @@ fn pages_sharing(content: &Table, frames: u32) -> u64
 }
 
 impl Memory {
-    /// How many frames are in use.
+    /// Returns the number of frames in use.
     pub fn used(&self) -> u32
         ensures { result + length self.now.pool.free ≡ length self.now.pool.frames }
     {
         self.pool.used()
     }
 
-    /// How many frames are free.
+    /// Returns the number of free frames.
     pub fn free(&self) -> u32
         ensures { result ≡ length self.now.pool.free }
     {
         self.pool.free()
     }
 
-    /// How many frames pages share, and how many pages share one. It goes over all frames.
+    /// Returns the number of shared frames, and the number of pages that share one. Goes over all frames.
     pub fn sharing(&self) -> (u32, u64)
         ensures frames { result.0 ≡ tally is_shared self.now.marks }
         ensures sharers { result.1 ≡ tally sharers_in self.now.marks }

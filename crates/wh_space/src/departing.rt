@@ -1,18 +1,18 @@
 // Pages that begin to leave, and to come.
 
 ghost use Rattle.std.specs.Prelude.{◌≡◌, ◌<◌, ◌≤◌, [], Some, length, get_or};
-ghost use Rattle.wh_host_model.specs.declared.states.Page.TheVariants.{Swapped};
-ghost use Rattle.wh_host_model.specs.Space.Claims.{CanLeave};
-ghost use Rattle.wh_host_model.specs.Space.Moves.{frame_of};
-ghost use Rattle.wh_host_model.specs.Space.Parts.{kept_by};
-ghost use Rattle.wh_host_model.specs.Space.States.{page_at};
+ghost use Rattle.wh_space_model.specs.declared.states.Page.TheVariants.{Swapped};
+ghost use Rattle.wh_space_model.specs.Claims.{CanLeave};
+ghost use Rattle.wh_space_model.specs.Moves.{frame_of};
+ghost use Rattle.wh_space_model.specs.Parts.{kept_by};
+ghost use Rattle.wh_space_model.specs.States.{page_at};
 ghost use Rattle.wh_space.specs.Transits.{IsDeparting, IsLeavingAs, IsSentFor};
 
 use crate::memory::Memory;
 use crate::occupant_entries::{begin_coming, begin_leaving};
 use crate::pages::put_page;
 use crate::pins::take_earmark;
-use wh_host_model::{Page, Slot};
+use wh_space_model::{Page, Slot};
 
 // A page as it leaves, and the frame on which it stands, if it may leave.
 fn as_it_leaves(page: Page) -> Option<(u32, Page)>
@@ -26,8 +26,8 @@ fn as_it_leaves(page: Page) -> Option<(u32, Page)>
 }
 
 impl Memory {
-    /// A page of the instance at this place, which can leave, begins to leave by a slot, where one is vacant. Its bytes are
-    /// copied, to be written to the slot.
+    /// Begins to evict a page of the instance at this place, which can leave: takes a vacant slot, issues its ticket,
+    /// and copies the page's bytes into `into`, to be written to the slot. Returns the slot.
     pub fn depart(&mut self, place: usize, page: u32, into: &mut [u8; 4096]) -> u32
         requires can { CanLeave self.old place page }
         requires slot { 1 ≤ length self.old.slots.vacant }
@@ -52,8 +52,8 @@ impl Memory {
         slot
     }
 
-    /// A page of the instance at this place, which lies in this slot, begins to come, into a frame that was earmarked for
-    /// the instance.
+    /// Begins to fetch a page of the instance at this place, which is in this slot, into a frame that was earmarked for
+    /// the instance. Issues the slot's ticket.
     pub fn send_for(&mut self, place: usize, page: u32, slot: u32)
         requires page { page_at self.old.tables place page ≡ Some (Swapped slot) }
         requires frame { 1 ≤ length (kept_by self.old.pins place) }

@@ -1,15 +1,15 @@
 // How pages in transit end.
 
 ghost use Rattle.std.specs.Prelude.{◌≡◌, ◌<◌, ◌≤◌, ◌≢◌, ◌++◌, [], ◌∷◌, Some, None, true, false, cond, nat_lt, IfSome, length, get_or, slice_get, slice_set};
-ghost use Rattle.wh_host_model.specs.Frames.{IsTaken};
-ghost use Rattle.wh_host_model.specs.declared.states.Mark.TheVariants.{Plain};
-ghost use Rattle.wh_host_model.specs.declared.states.Page.TheVariants.{Swapped};
-ghost use Rattle.wh_host_model.specs.Space.Breaks.{fewer_sharers};
-ghost use Rattle.wh_host_model.specs.declared.states.Slot.TheVariants.{Evicting, EvictVoid, Fetching, FetchVoid};
-ghost use Rattle.wh_host_model.specs.Space.Moves.{frame_of};
-ghost use Rattle.wh_host_model.specs.Space.Parts.{frame_bytes};
-ghost use Rattle.wh_host_model.specs.Space.States.{page_at, put};
-ghost use Rattle.wh_host_model.specs.Space.Tickets.{CommitsEvict, CommitsFetch, IsEvicting, IsWritten, has_come, not_come, not_sent, sent_off, settled, with_free, with_leaving, without_slot};
+ghost use Rattle.wh_space_model.specs.Frames.{IsTaken};
+ghost use Rattle.wh_space_model.specs.declared.states.Mark.TheVariants.{Plain};
+ghost use Rattle.wh_space_model.specs.declared.states.Page.TheVariants.{Swapped};
+ghost use Rattle.wh_space_model.specs.Breaks.{fewer_sharers};
+ghost use Rattle.wh_space_model.specs.declared.states.Slot.TheVariants.{Evicting, EvictVoid, Fetching, FetchVoid};
+ghost use Rattle.wh_space_model.specs.Moves.{frame_of};
+ghost use Rattle.wh_space_model.specs.Parts.{frame_bytes};
+ghost use Rattle.wh_space_model.specs.States.{page_at, put};
+ghost use Rattle.wh_space_model.specs.Tickets.{CommitsEvict, CommitsFetch, IsEvicting, IsWritten, has_come, not_come, not_sent, sent_off, settled, with_free, with_leaving, without_slot};
 ghost use Rattle.wh_space.specs.UnchangedTables.{fixed_in};
 ghost use Rattle.wh_space.specs.Transits.{IsFetching, back_again};
 
@@ -20,7 +20,7 @@ use crate::pages::{put_page, swap_page};
 use crate::pins::unpin_page;
 use wh_content::Table;
 use wh_frames::FramePool;
-use wh_host_model::{EvictEnd, FetchEnd, Page, Slot};
+use wh_space_model::{EvictEnd, FetchEnd, Page, Slot};
 use wh_tables::Tables;
 
 // A page as it was before it began to leave.
@@ -34,7 +34,8 @@ fn as_it_was(page: Page) -> Page
     }
 }
 
-// A page has left a frame that so many pages shared. If others do they are one fewer, and else the frame is free.
+/// Takes one sharer off a frame that `sharers` pages shared: lowers its reference count, or frees it if that was the
+/// last.
 pub fn leave_frame(content: &mut Table, pool: &mut FramePool, frame: u32, sharers: u32)
     requires taken { IsTaken pool.old frame }
     requires entry { frame < length content.old }
@@ -53,7 +54,8 @@ pub fn leave_frame(content: &mut Table, pool: &mut FramePool, frame: u32, sharer
 }
 
 impl Memory {
-    /// The device was called to write these bytes to a slot for whose eviction a ticket is out.
+    /// Records that the device was called to write these bytes to a slot whose eviction ticket is out, and whether it
+    /// did.
     pub fn written(&mut self, slot: u32, bytes: &[u8; 4096], wrote: bool)
         requires { IsEvicting self.old slot }
         ensures { IsWritten self.old slot bytes.now wrote self.new }
@@ -165,8 +167,8 @@ impl Memory {
         EvictEnd::Evicted
     }
 
-    /// The ticket of an eviction comes back, with whether the device wrote the slot, and with the bytes that it was given to
-    /// write, which the slot holds then.
+    /// Ends an eviction: takes back the slot's ticket, with whether the device wrote the slot and the bytes that it was
+    /// given, which the slot then holds.
     pub fn end_evict(&mut self, slot: u32, wrote: bool, bytes: &[u8; 4096]) -> EvictEnd
         requires out { IsEvicting self.old slot }
         requires held { wrote ≡ true → get_or self.old.slots.held slot [] ≡ bytes.now }
@@ -183,7 +185,7 @@ impl Memory {
         }
     }
 
-    /// The ticket of a fetch comes back, with whether the device read the slot, and with the bytes that were read.
+    /// Ends a fetch: takes back the slot's ticket, with whether the device read the slot and the bytes that it read.
     pub fn end_fetch(&mut self, slot: u32, read: bool, bytes: &[u8; 4096]) -> FetchEnd
         requires { IsFetching self.old slot }
         ensures { CommitsFetch self.old slot read bytes.now result self.new }

@@ -1,6 +1,6 @@
 // New epochs.
 
-ghost use Rattle.wh_host_model.specs.Space.Stores.{Epochs};
+ghost use Rattle.wh_space_model.specs.Stores.{Epochs};
 
 use crate::memory::Memory;
 

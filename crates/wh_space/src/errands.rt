@@ -4,7 +4,7 @@ ghost use Rattle.std.specs.Prelude.{◌≡◌};
 ghost use Rattle.wh_space.specs.TicketOwners.{place_of_use, ticket_place};
 
 use crate::memory::Memory;
-use wh_host_model::Slot;
+use wh_space_model::Slot;
 
 // The place of the instance for which the ticket is out, if one is.
 fn place_in(used: Slot) -> Option<u32>
@@ -20,8 +20,8 @@ fn place_in(used: Slot) -> Option<u32>
 }
 
 impl Memory {
-    /// The place of the instance of which a page leaves or comes by this slot, also where its ticket is void; none where no
-    /// ticket is out for the slot.
+    /// Returns the place of the instance of which a page is being evicted to or fetched from this slot, even if the
+    /// ticket is void. Returns `None` if no ticket is out for the slot, or there is no such slot.
     pub fn ticket_place(&self, slot: u32) -> Option<u32>
         ensures { result ≡ ticket_place self.now slot }
     {

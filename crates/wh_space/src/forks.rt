@@ -1,12 +1,11 @@
 // How a copy of an instance comes to a place: it sees the same bytes, on the same frames.
 
 ghost use Rattle.std.specs.Prelude.{◌≡◌, ◌≢◌, ◌<◌, ◌≤◌, ℕ, [], MatchBool, Some, OnErr, OnOk, get_or, length};
-ghost use Rattle.wh_host_model.specs.Host.Forking.{IsAway};
-ghost use Rattle.wh_host_model.specs.Space.Forks.{Copies, Lends, LendsFirst, LendsPage};
-ghost use Rattle.wh_host_model.specs.Space.Parts.{Occupant, occupant_at};
-ghost use Rattle.wh_host_model.specs.Space.Places.{HasRoomFor, IsFreePlace};
-ghost use Rattle.wh_host_model.specs.Space.States.{page_at};
-ghost use Rattle.wh_host_model.specs.declared.states.Page.TheVariants.{Private, Shared, Untouched};
+ghost use Rattle.wh_space_model.specs.Forks.{Copies, IsAway, Lends, LendsFirst, LendsPage};
+ghost use Rattle.wh_space_model.specs.Parts.{Occupant, occupant_at};
+ghost use Rattle.wh_space_model.specs.Places.{HasRoomFor, IsFreePlace};
+ghost use Rattle.wh_space_model.specs.States.{page_at};
+ghost use Rattle.wh_space_model.specs.declared.states.Page.TheVariants.{Private, Shared, Untouched};
 ghost use Rattle.wh_space.specs.Arrivals.{claimed};
 ghost use Rattle.wh_space.specs.Lendable.{IsHere, MayLend};
 ghost use Rattle.wh_space.specs.Merges.{HasFewPages};
@@ -15,7 +14,7 @@ use crate::memory::Memory;
 use crate::occupant_entry::Promise;
 use crate::pages::put_page;
 use std::alloc::{AllocError, Global};
-use wh_host_model::Page;
+use wh_space_model::Page;
 
 // Whether a page is untouched, or on a frame that it isn't leaving.
 fn is_here(page: Page) -> bool
@@ -25,8 +24,8 @@ fn is_here(page: Page) -> bool
 }
 
 impl Memory {
-    /// Whether some page of the instance at a place isn't in memory, or is on its way: then it can't be copied. It goes over
-    /// the pages.
+    /// Tells whether some page of the instance at this place is in a slot or on its way, so that the instance can't be
+    /// copied. Goes over its pages.
     pub fn is_away(&self, place: usize) -> bool
         ensures { MatchBool result (IsAway self.now place) (¬ IsAway self.now place) }
     {
@@ -51,7 +50,7 @@ impl Memory {
         put_page(&mut self.tables, place, number, Page::Shared(frame));
     }
 
-    // A page that shares a frame is lent: it has one sharer more.
+    // Lends a page that shares a frame: its reference count is one more.
     fn lend_shared(&mut self, from: usize, place: usize, number: u32, frame: u32)
         requires few { HasFewPages self.old }
         requires shared { page_at self.old.tables from number ≡ Some (Shared frame) }
@@ -82,7 +81,7 @@ impl Memory {
         }
     }
 
-    // The first so many pages are lent, one after the other.
+    // Lends the first `pages` pages, one after the other.
     fn lend_all(&mut self, from: usize, place: usize, pages: u32)
         requires few { HasFewPages self.old }
         requires here { (p : ℕ) → p < pages → MayLend self.old from p }
@@ -94,11 +93,12 @@ impl Memory {
         }
     }
 
-    /// A copy of the instance at a place comes to a free place, or to the next one behind all: it sees the same bytes, on the
-    /// same frames. It takes no frame and copies no byte, and goes over the pages. All room for its page table is taken now.
+    /// Gives a copy of the instance at `from` a free place, or the next one after all. It has the same bytes, on the
+    /// same frames, copy-on-write: no frame is taken and no byte is copied. Goes over the pages, and reserves the room
+    /// for the copy's whole page table.
     ///
     /// # Errors
-    /// `AllocError` where room is refused, also where the place is no number of 32 bits. Nothing is done then.
+    /// `AllocError` if an allocation fails or the place doesn't fit in 32 bits. Nothing has changed then.
     pub fn copy(
         &mut self,
         alloc: Global,

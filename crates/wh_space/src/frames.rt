@@ -1,14 +1,14 @@
 // Bytes in frames.
 
 ghost use Rattle.std.specs.Prelude.{◌≡◌, ◌+◌, ◌≤◌, [], length, get_or, slice_set};
-ghost use Rattle.wh_host_model.specs.Frames.{IsTaken};
-ghost use Rattle.wh_host_model.specs.Pages.{zero_page};
+ghost use Rattle.wh_space_model.specs.Frames.{IsTaken};
+ghost use Rattle.wh_space_model.specs.Pages.{zero_page};
 ghost use Rattle.wh_model.specs.Execution.Store.{bytes_at, written};
 
-use wh_bytes::copy_bytes;
 use wh_frames::FramePool;
+use wh_linmem::copy_bytes;
 
-// Reads bytes of a frame from a place on.
+/// Reads bytes of a frame, from this offset on.
 #[inline(always)]
 pub fn read_frame(pool: &FramePool, frame: u32, offset: usize, into: &mut [u8])
     requires taken { IsTaken pool.now frame }
@@ -28,7 +28,7 @@ fn write_bytes(bytes: &mut [u8; 4096], offset: usize, given: &[u8])
     copy_bytes(&mut bytes[offset..offset + given.len()], given);
 }
 
-// Writes bytes into a frame from a place on.
+/// Writes bytes into a frame, from this offset on.
 #[inline(always)]
 pub fn write_frame(pool: &mut FramePool, frame: u32, offset: usize, given: &[u8])
     requires taken { IsTaken pool.old frame }
@@ -41,8 +41,8 @@ pub fn write_frame(pool: &mut FramePool, frame: u32, offset: usize, given: &[u8]
     write_bytes(pool.bytes_mut(frame), offset, given);
 }
 
-// Makes all bytes of a frame 0.
-#[tactic(auto, unfolding(wh_host_model::specs::Pages::zero_page))]
+/// Zeroes a frame.
+#[tactic(auto, unfolding(wh_space_model::specs::Pages::zero_page))]
 pub fn clear_frame(pool: &mut FramePool, frame: u32)
     requires { IsTaken pool.old frame }
     ensures { pool.new ≡ record pool.old { frames = slice_set pool.old.frames frame zero_page } }
@@ -50,7 +50,7 @@ pub fn clear_frame(pool: &mut FramePool, frame: u32)
     *pool.bytes_mut(frame) = [0; 4096];
 }
 
-// Gives a frame these bytes.
+/// Writes all 4096 bytes of a frame.
 pub fn set_frame(pool: &mut FramePool, frame: u32, bytes: &[u8; 4096])
     requires { IsTaken pool.old frame }
     ensures { pool.new ≡ record pool.old { frames = slice_set pool.old.frames frame bytes.now } }

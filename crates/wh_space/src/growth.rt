@@ -1,7 +1,7 @@
 // How an instance grows.
 
 ghost use Rattle.std.specs.Prelude.{◌≡◌, ◌+◌, ◌*◌, ◌^◌, ◌<◌, [], length, get_or};
-ghost use Rattle.wh_host_model.specs.Space.Parts.{view};
+ghost use Rattle.wh_space_model.specs.Parts.{view};
 ghost use Rattle.wh_model.specs.Execution.Memory.{Grows};
 ghost use Rattle.wh_space.specs.Steps.{LeavesGrowth, page_limit};
 
@@ -9,7 +9,7 @@ use crate::memory::Memory;
 use wh_model::Grown;
 
 impl Memory {
-    /// How many pages of 65536 bytes the instance at this place has, 0 where nobody is.
+    /// Returns the size of the instance at this place in pages of 65536 bytes; 0 if nobody is there.
     pub fn size(&self, place: usize) -> u32
         ensures pages { length (get_or self.now.tables place []) ≡ 16 * result }
         ensures bytes { length (view self.now place) ≡ result * 65536 }
@@ -17,7 +17,7 @@ impl Memory {
         self.tables.len_at(place) / 16
     }
 
-    /// To how many pages of 65536 bytes the instance at this place may grow, 0 where nobody is.
+    /// Returns the size in pages of 65536 bytes to which the instance at this place may grow; 0 if nobody is there.
     pub fn limit(&self, place: usize) -> u32
         ensures limit { result ≡ page_limit self.now place }
         ensures few { result < 2 ^ 28 }
@@ -37,8 +37,8 @@ impl Memory {
         }
     }
 
-    /// Adds so many pages of 65536 zeros to the memory of the instance at this place. They take no frame. The answer is
-    /// how many pages there were, or `Refused`, with nothing done, where they would pass the limit.
+    /// Adds `pages` pages of 65536 zeros to the memory of the instance at this place. They take no frame. Returns how
+    /// many pages there were, or `Refused`, with nothing done, if they would pass the limit.
     pub fn grow(&mut self, place: usize, pages: u32) -> Grown
         ensures grows { Grows (page_limit self.old place) (view self.old place)
             pages result (view self.new place) }

@@ -1,18 +1,18 @@
 // What the step of an instance lacks.
 
 ghost use Rattle.std.specs.Prelude.{◌≡◌, ◌+◌, ◌*◌, ◌<◌, ◌≤◌, [], Some, MatchOption, length, get_or};
-ghost use Rattle.wh_host_model.specs.Space.Moves.{IsFirstSwapped};
-ghost use Rattle.wh_host_model.specs.Space.Ready.{among, frames_in_all, frames_to_write, may_take, pages_of_need};
-ghost use Rattle.wh_host_model.specs.Space.States.{at, page_at, swapped};
-ghost use Rattle.wh_host_model.specs.Space.Tickets.{WaitsForBytes};
-ghost use Rattle.wh_host_model.specs.declared.states.Page.TheVariants.{Swapped};
+ghost use Rattle.wh_space_model.specs.Moves.{IsFirstSwapped};
+ghost use Rattle.wh_space_model.specs.Ready.{among, frames_in_all, frames_to_write, may_take, pages_of_need};
+ghost use Rattle.wh_space_model.specs.States.{at, page_at, swapped};
+ghost use Rattle.wh_space_model.specs.Tickets.{WaitsForBytes};
+ghost use Rattle.wh_space_model.specs.declared.states.Page.TheVariants.{Swapped};
 ghost use Rattle.wh_space.specs.Lacking.{slot_under};
 
 use crate::memory::Memory;
-use wh_host_model::Page;
 use wh_model::Need;
+use wh_space_model::Page;
 
-// The slot in which a page lies, if it lies in one.
+// The slot that holds a page, if one does.
 fn slot_of(page: Page) -> Option<u32>
     ensures { result ≡ slot_under page }
 {
@@ -27,7 +27,7 @@ fn slot_of(page: Page) -> Option<u32>
     }
 }
 
-// 1 where the page lies in a slot.
+// 1 where the page is in a slot.
 fn one_if_swapped(page: Page) -> u32
     ensures is { result ≡ swapped page }
     ensures one { result ≤ 1 }
@@ -36,21 +36,22 @@ fn one_if_swapped(page: Page) -> u32
 }
 
 impl Memory {
-    /// How many slots are vacant.
+    /// Returns the number of vacant slots.
     pub fn vacant(&self) -> u32
         ensures { result ≡ length self.now.slots.vacant }
     {
         self.slots.vacant()
     }
 
-    /// How many frames the instance at this place may take: the free ones, and those that are earmarked for it.
+    /// Returns the number of frames that the instance at this place may take: the free ones and those that are
+    /// earmarked for it.
     pub fn may_take(&self, place: usize) -> u64
         ensures { result ≡ may_take self.now place }
     {
         self.frames_for_it(place)
     }
 
-    // How many pages of these bytes lie in slots.
+    // How many pages of these bytes are in slots.
     fn swapped_among(&self, place: usize, need: Need) -> u32
         requires within { need.at + need.length ≤ 4096 * length (get_or self.now.tables place []) }
         requires few { need.length ≤ 4096 }
@@ -92,7 +93,8 @@ impl Memory {
         self.wanted(place, first)
     }
 
-    /// How many frames the step wants for its writes for which the instance at this place waits, at most 2.
+    /// Returns the number of frames, at most 2, that the step on which the instance at this place is blocked needs for
+    /// its writes.
     pub fn frames_to_write(&self, place: usize, need: Need) -> u32
         requires { WaitsForBytes self.now place need }
         ensures count { result ≡ frames_to_write self.now place need }
@@ -102,7 +104,7 @@ impl Memory {
         self.wanted_for(place, need)
     }
 
-    /// How many it wants for its swapped pages and its writes, at most 2.
+    /// Returns the number of frames, at most 2, that this step needs for its swapped pages and its writes.
     pub fn frames_in_all(&self, place: usize, need: Need) -> u32
         requires { WaitsForBytes self.now place need }
         ensures count { result ≡ frames_in_all self.now place need }
@@ -114,7 +116,7 @@ impl Memory {
         swapped + wanted
     }
 
-    // A page and its slot, if it lies in one.
+    // A page and its slot, if it is in one.
     fn in_slot(&self, place: usize, page: u32) -> Option<(u32, u32)>
         requires { page < length (get_or self.now.tables place []) }
         ensures { MatchOption result (at swapped (page_at self.now.tables place page) ≡ 0)
@@ -125,7 +127,7 @@ impl Memory {
         Some((page, slot))
     }
 
-    // The first page of these bytes, with its slot, that lies in one.
+    // The first page of these bytes that is in a slot, with the slot.
     fn swapped_page_of(&self, place: usize, need: Need) -> Option<(u32, u32)>
         requires within { need.at + need.length ≤ 4096 * length (get_or self.now.tables place []) }
         requires few { need.length ≤ 4096 }
@@ -147,7 +149,7 @@ impl Memory {
         None
     }
 
-    /// The first page, with its slot, that lies in one of the step for which the instance at this place waits.
+    /// Returns the first page in a slot, with the slot, of the step on which the instance at this place is blocked.
     pub fn swapped_page(&self, place: usize, need: Need) -> Option<(u32, u32)>
         requires { WaitsForBytes self.now place need }
         ensures { MatchOption result (among swapped self.now place (pages_of_need need) ≡ 0)

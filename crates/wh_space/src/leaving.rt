@@ -1,9 +1,9 @@
 // How an instance goes from its place.
 
 ghost use Rattle.std.specs.Prelude.{◌≡◌, ◌<◌, [], None, true, length, get_or, slice_set};
-ghost use Rattle.wh_host_model.specs.Frames.{IsTaken};
-ghost use Rattle.wh_host_model.specs.Space.Parts.{Occupant, occupant_at};
-ghost use Rattle.wh_host_model.specs.Space.Places.{Exits};
+ghost use Rattle.wh_space_model.specs.Frames.{IsTaken};
+ghost use Rattle.wh_space_model.specs.Parts.{Occupant, occupant_at};
+ghost use Rattle.wh_space_model.specs.Places.{Exits};
 ghost use Rattle.wh_space.specs.OccupantEntries.{occupant_gone};
 ghost use Rattle.wh_space.specs.Slotting.{CanLeaveSlots, slots_gone};
 ghost use Rattle.wh_space.specs.Leaving.{CanAllGo, CanGo, owner_gone, page_gone, pages_gone, sharer_gone};
@@ -15,7 +15,7 @@ use crate::pins::end_pins;
 use crate::slotting::{leave_slot, leaver_at, void_slot};
 use wh_content::Table;
 use wh_frames::FramePool;
-use wh_host_model::{Mark, Page};
+use wh_space_model::{Mark, Page};
 use wh_swap::Slots;
 use wh_tables::Tables;
 
@@ -30,7 +30,7 @@ fn let_owner_go(frame: u32, content: &mut Table, pool: &mut FramePool)
     pool.give(frame);
 }
 
-// One of the sharers of a frame goes. With the last one the frame is free.
+// Takes one sharer off a frame. With the last one the frame is free.
 fn let_sharer_go(frame: u32, content: &mut Table, pool: &mut FramePool)
     requires taken { IsTaken pool.old frame }
     requires entry { frame < length content.old }
@@ -107,10 +107,10 @@ fn let_occupant_go(occupant_entries: &mut Vec<Option<OccupantEntry>>, place: usi
 }
 
 impl Memory {
-    /// The instance at this place goes. Its own frames are free, and the shared ones of which it had the last sharers, and
-    /// what the content table had of them is forgotten. A frame that others share has so many sharers fewer. Its slots are
-    /// vacant, its pins and earmarks end, and its tickets are void. The place is free, but while a ticket of it is out. It
-    /// goes over all pages of the instance.
+    /// Releases the instance at this place. Its own frames become free, and so do the shared ones whose last sharers
+    /// were its pages, and their entries of the content table are removed; the reference counts of the others are
+    /// lowered. Its slots become vacant, its pins and earmarks end, and its tickets become void. The place becomes
+    /// free, with the last ticket if some are out. Goes over all pages of the instance.
     ///
     /// It takes no memory, and gives none back: the room of the page table stays until another one comes to the place.
     pub fn exit(&mut self, place: usize)

@@ -1,4 +1,7 @@
 //! The memory on which all instances lie: their pages on one pool of frames.
+//!
+//! Some functions begin with `let _ = &self.field;`. It does nothing when run. Who reads a field knows what always holds of the
+//! memory; a function that reads none itself learns it so.
 #![tactic(auto)]
 
 mod arrivals;

@@ -1,20 +1,20 @@
 // What may become of a page on a frame that is shared and has no entry.
 
 ghost use Rattle.std.specs.Prelude.{◌≡◌, ◌≢◌, ℕ, IfSome, IfNone, Some, false, slice_get};
-ghost use Rattle.wh_host_model.specs.Frames.{IsTaken};
-ghost use Rattle.wh_host_model.specs.Pages.{zero_page};
-ghost use Rattle.wh_host_model.specs.Space.Offers.{FindsHint, FindsNone, FindsShared, MayBeListed, listed_under, listed_for, moved_to};
-ghost use Rattle.wh_host_model.specs.Space.Parts.{frame_bytes};
-ghost use Rattle.wh_host_model.specs.Space.States.{page_at};
-ghost use Rattle.wh_host_model.specs.declared.states.Mark.TheVariants.{Unlisted};
-ghost use Rattle.wh_host_model.specs.declared.states.Page.TheVariants.{Shared};
+ghost use Rattle.wh_space_model.specs.Frames.{IsTaken};
+ghost use Rattle.wh_space_model.specs.Pages.{zero_page};
+ghost use Rattle.wh_space_model.specs.Offers.{FindsHint, FindsNone, FindsShared, MayBeListed, listed_under, listed_for, moved_to};
+ghost use Rattle.wh_space_model.specs.Parts.{frame_bytes};
+ghost use Rattle.wh_space_model.specs.States.{page_at};
+ghost use Rattle.wh_space_model.specs.declared.states.Mark.TheVariants.{Unlisted};
+ghost use Rattle.wh_space_model.specs.declared.states.Page.TheVariants.{Shared};
 ghost use Rattle.wh_space.specs.Listing.{IsNotUnlisted, zeros_left};
 ghost use Rattle.wh_space.specs.Merges.{HasFewPages};
 
 use crate::ending::leave_frame;
 use crate::memory::Memory;
 use crate::pages::{empty_page, put_page};
-use wh_host_model::{Mark, Page};
+use wh_space_model::{Mark, Page};
 
 /// A frame that pages share and that has no entry: its number, and how many they are.
 #[derive(Clone, Copy, Debug)]
@@ -26,8 +26,8 @@ pub struct UnlistedFrame {
 }
 
 impl Memory {
-    /// The frame that a page of the instance at this place shares, without leaving it, where that has no entry; none too
-    /// where there is no such page.
+    /// Returns the frame that a page of the instance at this place shares, and isn't leaving, if that frame has no
+    /// entry in the content table. Returns `None` for any other page.
     pub fn unlisted_frame(&self, place: u32, page: u32) -> Option<UnlistedFrame>
         ensures on { IfSome result (λ found.
             page_at self.now.tables place page ≡ Some (Shared found.frame)) }
@@ -52,8 +52,8 @@ impl Memory {
         }
     }
 
-    /// A frame that so many pages share, and whose bytes aren't all zero, has its entry under this hash, under which nothing
-    /// was found.
+    /// Enters a frame, which `sharers` pages share and whose bytes aren't all zero, in the content table under this
+    /// hash, under which there was nothing.
     pub fn list(&mut self, frame: u32, sharers: u32, hash: u64)
         requires unlisted { slice_get self.old.marks frame ≡ Some (Unlisted sharers) }
         requires some { frame_bytes self.old frame ≢ zero_page }
@@ -64,7 +64,7 @@ impl Memory {
         self.content.share(frame, hash, sharers);
     }
 
-    /// It has its entry in place of the hint of another frame.
+    /// Enters such a frame in place of the hint of another frame.
     pub fn list_for(&mut self, frame: u32, sharers: u32, hash: u64, hinted: u32)
         requires unlisted { slice_get self.old.marks frame ≡ Some (Unlisted sharers) }
         requires some { frame_bytes self.old frame ≢ zero_page }
@@ -76,7 +76,8 @@ impl Memory {
         self.content.share(frame, hash, sharers);
     }
 
-    /// A page that shares such a frame, and may be merged, becomes untouched. With the last one the frame is free.
+    /// Takes a page, which may be merged, off a shared frame without an entry: it becomes a page of zeros without a
+    /// frame. With its last sharer the frame becomes free.
     pub fn leave_zeros(&mut self, place: u32, page: u32, frame: u32, sharers: u32)
         requires { MayBeListed self.old place page frame sharers }
         ensures { self.new ≡ zeros_left self.old place page frame }
@@ -86,7 +87,8 @@ impl Memory {
         leave_frame(&mut self.content, &mut self.pool, frame, sharers);
     }
 
-    /// It goes to another frame, which so many pages share under this hash, with equal bytes.
+    /// Moves a page from such a frame to another one, which has equal bytes, and which `sharers` pages share under this
+    /// hash.
     pub fn move_to(
         &mut self,
         place: u32,

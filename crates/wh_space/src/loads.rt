@@ -1,14 +1,14 @@
 // What an instance reads.
 
 ghost use Rattle.std.specs.Prelude.{◌≡◌, ◌↔◌, ◌+◌, ◌*◌, ◌%◌, ◌^◌, ◌<◌, ◌≤◌, ℕ, [], Some, true, IsTrue, IsFalse, MatchBool, length, get_or, replicate};
-ghost use Rattle.wh_host_model.specs.Frames.{IsTaken};
-ghost use Rattle.wh_host_model.specs.Space.Moves.{frame_of};
-ghost use Rattle.wh_host_model.specs.Space.Parts.{view};
-ghost use Rattle.wh_host_model.specs.Space.Ready.{IsAtHand, Ready};
-ghost use Rattle.wh_host_model.specs.Space.States.{Backing, page_at, page_bytes, put};
+ghost use Rattle.wh_space_model.specs.Frames.{IsTaken};
+ghost use Rattle.wh_space_model.specs.Moves.{frame_of};
+ghost use Rattle.wh_space_model.specs.Parts.{view};
+ghost use Rattle.wh_space_model.specs.Ready.{IsAtHand, Ready};
+ghost use Rattle.wh_space_model.specs.States.{Backing, page_at, page_bytes, put};
 ghost use Rattle.wh_model.specs.Execution.Memory.{Loads};
 ghost use Rattle.wh_model.specs.Execution.Store.{bytes_at};
-ghost use Rattle.wh_host_model.specs.Space.Stores.{Touches};
+ghost use Rattle.wh_space_model.specs.Stores.{Touches};
 ghost use Rattle.wh_model.specs.declared.memory.Got.TheVariants.{Value};
 ghost use Rattle.wh_space.specs.Steps.{LeavesLoad};
 
@@ -16,8 +16,8 @@ use crate::frames::read_frame;
 use crate::memory::Memory;
 use crate::pages::is_near;
 use wh_frames::FramePool;
-use wh_host_model::Page;
 use wh_model::{Got, Need};
+use wh_space_model::Page;
 
 // Makes all bytes 0.
 fn clear(into: &mut [u8])
@@ -26,7 +26,7 @@ fn clear(into: &mut [u8])
     into.fill(0);
 }
 
-// Reads bytes of a page. Where it isn't at hand nothing is done, and the answer is false.
+/// Reads bytes of a page. Returns `false`, and does nothing, if the page is in a slot or coming from one.
 pub fn read_page(pool: &FramePool, page: Page, offset: usize, into: &mut [u8]) -> bool
     requires taken { (f : ℕ) → frame_of page ≡ Some f → IsTaken pool.now f }
     requires inside { offset + length into.old ≤ 4096 }
@@ -47,7 +47,7 @@ pub fn read_page(pool: &FramePool, page: Page, offset: usize, into: &mut [u8]) -
 }
 
 impl Memory {
-    // Whether so many bytes from a place on are in the memory of the instance.
+    // Whether `count` bytes from a place on are in the memory of the instance.
     pub(crate) fn fits(&self, place: usize, at: u64, count: usize) -> bool
         ensures fits { IsTrue result
             ↔ (at + count ≤ 4096 * length (get_or self.now.tables place [])) }
@@ -57,8 +57,8 @@ impl Memory {
         at.saturating_add(count as u64) <= 4096 * u64::from(pages)
     }
 
-    // Reads bytes of a page, and marks it as touched. Where the page isn't at hand nothing is done, and the answer is
-    // false.
+    // Reads bytes of a page, and marks it as touched. Returns `false`, with nothing done, if the page is in a slot or
+    // coming from one.
     fn load_inside(&mut self, place: usize, number: u32, offset: usize, into: &mut [u8]) -> bool
         requires page { number < length (get_or self.old.tables place []) }
         requires inside { offset + length into.old ≤ 4096 }
@@ -173,8 +173,8 @@ impl Memory {
         number < u64::from(self.tables.len_at(place))
     }
 
-    // Reads bytes of a page that stands on a frame and was touched in this epoch. Where it doesn't nothing is done, and the
-    // answer is false.
+    // Reads bytes of a resident page that was touched in this epoch. Returns `false`, with nothing done, for any other
+    // page.
     #[inline(always)]
     fn load_touched(&self, place: usize, number: u32, offset: usize, into: &mut [u8]) -> bool
         requires page { number < length (get_or self.now.tables place []) }
@@ -193,8 +193,8 @@ impl Memory {
         true
     }
 
-    /// Reads bytes as `load` does, where they lie on one page that stands on a frame and was touched in this epoch. Where they
-    /// don't nothing is done, and the answer is false.
+    /// Reads bytes as `load` does, if they are on one resident page that was touched in this epoch. Returns `false`,
+    /// with nothing done, if they aren't.
     #[inline(always)]
     pub fn quick_load(&mut self, place: usize, at: u64, into: &mut [u8]) -> bool
         requires few { length into.old ≤ 4096 }

@@ -1,13 +1,13 @@
 // The memory as its callers see it.
 
-ghost use Rattle.wh_host_model.specs.Space.Sound.{IsSound};
+ghost use Rattle.wh_space_model.specs.Sound.{IsSound};
 
 use crate::occupant_entry::OccupantEntry;
 use crate::pins::Pinned;
 use std::marker::Model;
 use wh_content::Table;
 use wh_frames::FramePool;
-use wh_host_model::Tax;
+use wh_space_model::Tax;
 use wh_swap::Slots;
 use wh_tables::Tables;
 
@@ -37,7 +37,7 @@ impl Drop for Memory {
 }
 
 impl Model for Memory {
-    ghost use Rattle.wh_host_model.specs.Space.Parts.{Space};
+    ghost use Rattle.wh_space_model.specs.Parts.{Space};
 
     ghost Value = { Space };
 
@@ -49,7 +49,7 @@ impl Model for Memory {
 }
 
 impl Memory {
-    /// What always holds of the memory.
+    /// States what always holds of the memory. Does nothing when run.
     #[inline(always)]
     pub fn invariant(&self)
         ensures sound { IsSound self.now }

@@ -3,12 +3,12 @@
 ghost use Rattle.std.specs.Bool.{MatchBool};
 ghost use Rattle.std.specs.Prelude.{◌≡◌, ◌≢◌, ◌↔◌, ◌<◌, ◌^◌, ℕ, IsTrue, IfSome, IfNone, [], Some, None, false, length, get_or, slice_get};
 ghost use Rattle.wh_content.specs.Marks.{frame_of_entry, mark_of_entry};
-ghost use Rattle.wh_host_model.specs.Frames.{IsTaken};
-ghost use Rattle.wh_host_model.specs.Pages.{zero_page};
-ghost use Rattle.wh_host_model.specs.Space.Offers.{FindsHint, FindsNone, FindsShared, IsOffered, IsPinned, hinted, joined_to, paired_with};
-ghost use Rattle.wh_host_model.specs.Space.Parts.{frame_bytes, has_number};
-ghost use Rattle.wh_host_model.specs.Space.States.{page_at, put};
-ghost use Rattle.wh_host_model.specs.declared.states.Page.TheVariants.{Private, Untouched};
+ghost use Rattle.wh_space_model.specs.Frames.{IsTaken};
+ghost use Rattle.wh_space_model.specs.Pages.{zero_page};
+ghost use Rattle.wh_space_model.specs.Offers.{FindsHint, FindsNone, FindsShared, IsOffered, IsPinned, hinted, joined_to, paired_with};
+ghost use Rattle.wh_space_model.specs.Parts.{frame_bytes, has_number};
+ghost use Rattle.wh_space_model.specs.States.{page_at, put};
+ghost use Rattle.wh_space_model.specs.declared.states.Page.TheVariants.{Private, Untouched};
 ghost use Rattle.wh_space.specs.Merges.{HasFewPages, IsNotPrivate, emptied, rehinted};
 ghost use Rattle.wh_space.specs.Numbered.{ComesAfter, IsNextInstance};
 ghost use Rattle.wh_space.specs.UnchangedTables.{fixed_in};
@@ -17,11 +17,12 @@ use crate::memory::Memory;
 use crate::pages::{empty_page, put_page};
 use crate::pins::has_page_pinned;
 use wh_content::ContentEntry;
-use wh_host_model::{InstId, Page};
+use wh_space_model::{InstId, Page};
 use wh_tables::Tables;
 
 impl Memory {
-    /// Whether so few frames and slots are there that the sharers of a frame can be counted in 32 bits.
+    /// Tells whether frames and slots are fewer than 2^32 together, so that the reference count of a frame fits in 32
+    /// bits.
     pub fn has_few_pages(&self) -> bool
         ensures { IsTrue result ↔ HasFewPages self.now }
     {
@@ -29,8 +30,8 @@ impl Memory {
         frames + u64::from(self.slots.len()) < 1 << 32
     }
 
-    /// Of the instances with pages, the one with the lowest number; or with the lowest above this one. It passes over places
-    /// without pages, in a line that is kept in the order of numbers, and looks at no page.
+    /// Returns, of the instances with pages, the one with the lowest number, or with the lowest number above `after`.
+    /// Skips places without pages, by a list in the order of numbers, and looks at no page.
     pub fn next_instance(&self, after: Option<u64>) -> Option<InstId>
         ensures some { IfSome result (λ id. IsNextInstance self.now after id) }
         ensures small { IfSome result (λ id. id.place < 2 ^ 32) }
@@ -40,7 +41,7 @@ impl Memory {
         self.tables.next_instance(after)
     }
 
-    /// Whether the instance of this number is at this place.
+    /// Tells whether the instance of this number is at this place.
     pub fn is_at(&self, place: u32, number: u64) -> bool
         ensures { result ≡ has_number (get_or self.now.occupants place None) number }
     {
@@ -54,8 +55,8 @@ impl Memory {
         }
     }
 
-    /// The frame on which a page of the instance at this place stands alone, without leaving it; none too where there is
-    /// no such page.
+    /// Returns the frame of its own to which a page of the instance at this place maps, unless the page is leaving it.
+    /// Returns `None` for any other page.
     pub fn private_frame(&self, place: u32, page: u32) -> Option<u32>
         ensures some { IfSome result (λ frame.
             page_at self.now.tables place page ≡ Some (Private frame)) }
@@ -72,7 +73,7 @@ impl Memory {
         }
     }
 
-    /// Whether a page of the instance at this place is pinned.
+    /// Tells whether a page of the instance at this place is pinned.
     pub fn is_pinned(&self, place: u32, page: u32) -> bool
         ensures { MatchBool result (IsPinned self.now place page)
             (¬ IsPinned self.now place page) }
@@ -80,7 +81,7 @@ impl Memory {
         has_page_pinned(self.pins, place as usize, page)
     }
 
-    /// The 4096 bytes of a frame that isn't free.
+    /// Returns the 4096 bytes of a frame that isn't free.
     pub fn bytes_of(&self, frame: u32) -> &[u8; 4096]
         requires { IsTaken self.now.pool frame }
         ensures { result.now ≡ frame_bytes self.now frame }
@@ -88,7 +89,7 @@ impl Memory {
         self.pool.bytes(frame)
     }
 
-    /// What is found under this hash. Its frame isn't free.
+    /// Returns what the content table has under this hash; the entry's frame isn't free.
     pub fn entry(&self, hash: u64) -> Option<ContentEntry>
         ensures found { IfSome result (λ entry.
             slice_get self.now.marks (frame_of_entry entry) ≡ Some (mark_of_entry hash entry)) }
@@ -99,7 +100,8 @@ impl Memory {
         self.content.look(hash)
     }
 
-    /// A page that is alone on this frame, and may be merged, becomes untouched. The frame is free then.
+    /// Makes a page with a frame of its own, which may be merged, a page of zeros without a frame. The frame becomes
+    /// free.
     pub fn empty(&mut self, place: u32, page: u32, frame: u32)
         requires { IsOffered self.old place page frame }
         ensures { self.new ≡ emptied self.old place page frame }
@@ -110,7 +112,8 @@ impl Memory {
         self.content.forget_frame(frame);
     }
 
-    /// A page that is alone on this frame, and may be merged, is the hint of this hash, under which nothing was found.
+    /// Enters a page with a frame of its own, which may be merged, as the hint of this hash, under which there was
+    /// nothing.
     pub fn hint(&mut self, place: u32, page: u32, frame: u32, hash: u64)
         requires offered { IsOffered self.old place page frame }
         requires none { FindsNone self.old hash }
@@ -120,7 +123,7 @@ impl Memory {
         self.content.set_hint(frame, hash, place, page);
     }
 
-    /// It is the hint in place of another page, on another frame.
+    /// Enters such a page as the hint of this hash in place of another page, on another frame.
     pub fn rehint(&mut self, place: u32, page: u32, frame: u32, hash: u64, stale: u32)
         requires offered { IsOffered self.old place page frame }
         requires found { (j q : ℕ) × FindsHint self.old hash stale j q }
@@ -131,8 +134,8 @@ impl Memory {
         self.content.set_hint(frame, hash, place, page);
     }
 
-    /// A page that is alone on this frame goes to a frame that so many pages share, with equal bytes that aren't all
-    /// zero.
+    /// Moves a page from a frame of its own, which becomes free, to a frame that `sharers` pages share under this hash,
+    /// with equal bytes, not all zero.
     pub fn join(&mut self, place: u32, page: u32, frame: u32, hash: u64, shared: u32, sharers: u32)
         requires few { HasFewPages self.old }
         requires offered { IsOffered self.old place page frame }
@@ -148,8 +151,8 @@ impl Memory {
         self.content.share(shared, hash, sharers + 1);
     }
 
-    /// A page that is alone on this frame goes to the frame of a hint, where one page was alone, with equal bytes that
-    /// aren't all zero. The two share it then.
+    /// Moves a page from a frame of its own, which becomes free, to the frame of a hint's page, with equal bytes, not
+    /// all zero. The two pages share that frame then.
     pub fn pair(
         &mut self,
         place: u32,

@@ -5,7 +5,7 @@ ghost use Rattle.wh_space.specs.OccupantEntries.{begins_coming, begins_leaving, 
 
 use crate::occupant_entry::OccupantEntry;
 
-// A page of whoever is at this place begins to leave by this slot.
+/// Records that a page of the instance at this place is leaving by this slot, with one more ticket out.
 pub fn begin_leaving(occupant_entries: &mut Vec<Option<OccupantEntry>>, place: usize, slot: u32)
     requires there { place < length occupant_entries.old.items }
     requires few { IfSome (get_or occupant_entries.old.items place None) (λ occupant_entry.
@@ -22,7 +22,7 @@ pub fn begin_leaving(occupant_entries: &mut Vec<Option<OccupantEntry>>, place: u
     }
 }
 
-// It has left, or stays.
+/// Records that this page has left, or stays: one ticket fewer is out.
 pub fn end_leaving(occupant_entries: &mut Vec<Option<OccupantEntry>>, place: usize)
     requires { place < length occupant_entries.old.items }
     ensures { occupant_entries.new.items ≡ slice_set occupant_entries.old.items place
@@ -37,7 +37,7 @@ pub fn end_leaving(occupant_entries: &mut Vec<Option<OccupantEntry>>, place: usi
     }
 }
 
-// A page begins to come.
+/// Records that a page of the instance at this place is coming, with one more ticket out.
 pub fn begin_coming(occupant_entries: &mut Vec<Option<OccupantEntry>>, place: usize)
     requires there { place < length occupant_entries.old.items }
     requires few { IfSome (get_or occupant_entries.old.items place None) (λ occupant_entry.
@@ -53,7 +53,7 @@ pub fn begin_coming(occupant_entries: &mut Vec<Option<OccupantEntry>>, place: us
     }
 }
 
-// It has come, or hasn't.
+/// Records that this page has come, or hasn't: one ticket fewer is out.
 pub fn end_coming(occupant_entries: &mut Vec<Option<OccupantEntry>>, place: usize)
     requires { place < length occupant_entries.old.items }
     ensures { occupant_entries.new.items ≡ slice_set occupant_entries.old.items place
@@ -67,7 +67,7 @@ pub fn end_coming(occupant_entries: &mut Vec<Option<OccupantEntry>>, place: usiz
     }
 }
 
-// Who has gone gives up the place with the last ticket.
+/// Frees the place of an instance that was released, once no ticket of it is out.
 pub fn settle(occupant_entries: &mut Vec<Option<OccupantEntry>>, place: usize)
     requires { place < length occupant_entries.old.items }
     ensures { occupant_entries.new.items ≡ slice_set occupant_entries.old.items place

@@ -35,7 +35,7 @@ pub struct OccupantEntry {
 }
 
 impl OccupantEntry {
-    // One that comes.
+    /// Creates the entry of a new instance, which is live, isn't blocked and has no ticket out.
     pub fn new(promise: Promise) -> OccupantEntry
         ensures { result ≡ record {
           number = promise.number;

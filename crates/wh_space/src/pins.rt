@@ -1,10 +1,10 @@
 // Pages that are pinned and frames that are earmarked, of one instance.
 
 ghost use Rattle.std.specs.Prelude.{◌≡◌, ◌↔◌, ℕ, ◌+◌, ◌<◌, ◌≤◌, ◌++◌, [], ◌∷◌, cond, IsTrue, IfSome, IfNone, None, length};
-ghost use Rattle.wh_host_model.specs.Frames.{tally, one_if};
-ghost use Rattle.wh_host_model.specs.Space.Moves.{has_pins};
-ghost use Rattle.wh_host_model.specs.Space.Parts.{kept, kept_by, pinned_by};
-ghost use Rattle.wh_host_model.specs.Space.Tickets.{unpinned_page, without};
+ghost use Rattle.wh_space_model.specs.Frames.{tally, one_if};
+ghost use Rattle.wh_space_model.specs.Moves.{has_pins};
+ghost use Rattle.wh_space_model.specs.Parts.{kept, kept_by, pinned_by};
+ghost use Rattle.wh_space_model.specs.Tickets.{unpinned_page, without};
 ghost use Rattle.wh_space.specs.Pinning.{FrameGoes, TakesEarmark, numbers_in, pins_of};
 
 use wh_frames::FramePool;
@@ -18,7 +18,7 @@ pub enum Few {
 }
 
 impl Few {
-    // How many they are.
+    /// Returns how many they are.
     pub fn len(self) -> u32
         ensures { result ≡ length (numbers_in self) }
     {
@@ -29,7 +29,7 @@ impl Few {
         }
     }
 
-    // Whether this number is among them.
+    /// Tells whether this number is among them.
     pub fn has(self, number: u32) -> bool
         ensures { IsTrue result ↔ (1 ≤ tally (one_if number) (numbers_in self)) }
     {
@@ -41,7 +41,7 @@ impl Few {
     }
 }
 
-// A number, if it is wanted, before another one, if that is.
+/// Returns those of two numbers that are wanted, in this order.
 pub fn chosen(first: u32, here: bool, second: u32, there: bool) -> Few
     ensures { numbers_in result ≡ cond here (first ∷ cond there (second ∷ []) [])
         (cond there (second ∷ []) []) }
@@ -54,7 +54,7 @@ pub fn chosen(first: u32, here: bool, second: u32, there: bool) -> Few
     }
 }
 
-// The numbers without this one.
+/// Returns the numbers without this one.
 pub fn leave_out(number: u32, numbers: Few) -> Few
     ensures { numbers_in result ≡ without number (numbers_in numbers) }
 {
@@ -74,7 +74,7 @@ pub struct Pinned {
     pub frames: Few,
 }
 
-// How many frames are earmarked for the instance at a place.
+/// Returns the number of frames that are earmarked for the instance at this place.
 pub fn frames_kept(pins: Option<Pinned>, place: usize) -> u32
     ensures { result ≡ length (kept_by (pins_of pins) place) }
 {
@@ -90,7 +90,7 @@ pub fn frames_kept(pins: Option<Pinned>, place: usize) -> u32
     }
 }
 
-// Whether a page of the instance at a place is pinned.
+/// Tells whether a page of the instance at this place is pinned.
 pub fn has_page_pinned(pins: Option<Pinned>, place: usize, page: u32) -> bool
     ensures { IsTrue result ↔ (1 ≤ tally (one_if page) (pinned_by (pins_of pins) place)) }
 {
@@ -106,7 +106,7 @@ pub fn has_page_pinned(pins: Option<Pinned>, place: usize, page: u32) -> bool
     }
 }
 
-// The pages of the instance at a place that are pinned.
+/// Returns the pinned pages of the instance at this place.
 pub fn pages_pinned(pins: Option<Pinned>, place: usize) -> Few
     ensures { numbers_in result ≡ pinned_by (pins_of pins) place }
 {
@@ -122,7 +122,7 @@ pub fn pages_pinned(pins: Option<Pinned>, place: usize) -> Few
     }
 }
 
-// A page of the instance at a place is pinned no more.
+/// Unpins a page of the instance at this place.
 pub fn unpin_page(pins: &mut Option<Pinned>, place: usize, page: u32)
     ensures { pins_of pins.new ≡ unpinned_page (pins_of pins.old) place page }
 {
@@ -136,7 +136,7 @@ pub fn unpin_page(pins: &mut Option<Pinned>, place: usize, page: u32)
     }
 }
 
-// Takes the last frame that is earmarked for the instance at a place.
+/// Takes the last frame that is earmarked for the instance at this place, if one is.
 pub fn take_earmark(pins: &mut Option<Pinned>, place: usize) -> Option<u32>
     ensures some { IfSome result (λ frame. TakesEarmark place frame (pins_of pins.old)
         (pins_of pins.new)) }
@@ -168,7 +168,7 @@ pub fn take_earmark(pins: &mut Option<Pinned>, place: usize) -> Option<u32>
     }
 }
 
-// Takes a frame for the instance at a place: the last one that is earmarked for it, or else a free one.
+/// Takes a frame for the instance at this place: the last one that is earmarked for it, or else a free one.
 pub fn take_frame(pool: &mut FramePool, pins: &mut Option<Pinned>, place: usize) -> Option<u32>
     ensures some { IfSome result (λ frame.
         FrameGoes place frame pool.old (pins_of pins.old) pool.new (pins_of pins.new)) }
@@ -204,7 +204,7 @@ fn give_back(pool: &mut FramePool, frames: Few)
     }
 }
 
-// Pins and earmarks of the instance at a place end: its frames are free.
+/// Ends the pins and earmarks of the instance at this place: its earmarked frames become free.
 pub fn end_pins(pins: &mut Option<Pinned>, pool: &mut FramePool, place: usize)
     requires once { (f : ℕ) → tally (one_if f) pool.old.free
         + tally (one_if f) (kept_by (pins_of pins.old) place) ≤ 1 }
@@ -223,7 +223,7 @@ pub fn end_pins(pins: &mut Option<Pinned>, pool: &mut FramePool, place: usize)
     }
 }
 
-// All pins and earmarks end.
+/// Ends all pins and earmarks: the earmarked frames become free.
 pub fn end_all_pins(pins: &mut Option<Pinned>, pool: &mut FramePool)
     requires once { (f : ℕ) → tally (one_if f) pool.old.free
         + tally (one_if f) (kept (pins_of pins.old)) ≤ 1 }
@@ -239,7 +239,7 @@ pub fn end_all_pins(pins: &mut Option<Pinned>, pool: &mut FramePool)
     }
 }
 
-// Takes one free frame or two, or none.
+/// Takes `count` free frames, at most 2.
 pub fn take_frames(pool: &mut FramePool, count: u32) -> Few
     requires few { count ≤ 2 }
     requires free { count ≤ length pool.old.free }

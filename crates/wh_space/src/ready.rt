@@ -1,15 +1,15 @@
 // Whether a step can be taken at once.
 
 ghost use Rattle.std.specs.Prelude.{◌≡◌, ◌↔◌, ◌+◌, ◌^◌, ◌<◌, ◌≤◌, [], ◌∷◌, Some, true, IsTrue, MatchBool, length, get_or};
-ghost use Rattle.wh_host_model.specs.Space.Ready.{Ready, frames_for, may_take};
+ghost use Rattle.wh_space_model.specs.Ready.{Ready, frames_for, may_take};
 ghost use Rattle.wh_space.specs.Steps.{CanStep, SharesAlone, frame_shared};
 
 use crate::memory::Memory;
 use crate::pins::frames_kept;
-use wh_host_model::Page;
 use wh_model::Need;
+use wh_space_model::Page;
 
-// The frame that a page shares, if it shares one.
+/// Returns the frame that a page shares, if it shares one.
 pub fn shared_under(page: Page) -> Option<u32>
     ensures { result ≡ frame_shared page }
 {
@@ -109,8 +109,9 @@ impl Memory {
                 || u64::from(self.wanted_by_both(place, number)) <= self.frames_for_it(place))
     }
 
-    /// Whether the instance at this place can take a step that reads or writes these bytes at once: their pages are in
-    /// its memory and untouched or on frames, and there are frames for what it writes.
+    /// Tells whether the instance at this place can take a step that reads or writes these bytes at once: their pages
+    /// are in its memory and have frames, or have never been written and need none, and there are frames for what it
+    /// writes.
     pub fn is_ready(&self, place: usize, need: Need) -> bool
         ensures { MatchBool result (Ready self.now place need) (¬ Ready self.now place need) }
     {

@@ -1,17 +1,17 @@
 // What is told of frames and slots, and of the pages of an instance.
 
 ghost use Rattle.std.specs.Prelude.{◌≡◌, ◌+◌, ◌≤◌, length};
-ghost use Rattle.wh_host_model.specs.Frames.{tally};
-ghost use Rattle.wh_host_model.specs.Space.Charges.{active_of, charged_of};
-ghost use Rattle.wh_host_model.specs.Space.Errands.{is_ticket, tickets};
-ghost use Rattle.wh_host_model.specs.Space.States.{count_of, swapped};
+ghost use Rattle.wh_space_model.specs.Frames.{tally};
+ghost use Rattle.wh_space_model.specs.Charges.{active_of, charged_of};
+ghost use Rattle.wh_space_model.specs.Errands.{is_ticket, tickets};
+ghost use Rattle.wh_space_model.specs.States.{count_of, swapped};
 
 use crate::memory::Memory;
-use wh_host_model::{Page, Slot};
+use wh_space_model::{Page, Slot};
 use wh_swap::Slots;
 use wh_tables::Tables;
 
-// 1 where the page lies in a slot, and is neither on its way there nor back.
+// 1 where the page is in a slot, and is neither on its way there nor back.
 fn one_if_swapped(page: Page) -> u32
     ensures is { result ≡ swapped page }
     ensures one { result ≤ 1 }
@@ -23,7 +23,7 @@ fn one_if_swapped(page: Page) -> u32
     }
 }
 
-// How many pages of the instance at a place lie in slots.
+// How many pages of the instance at a place are in slots.
 fn swapped_in(tables: &Tables, place: usize) -> u32
     ensures { result ≡ count_of swapped tables.now.pages place }
 {
@@ -58,36 +58,37 @@ fn tickets_in(slots: &Slots) -> u32
 }
 
 impl Memory {
-    /// How many frames there are.
+    /// Returns the number of frames.
     pub fn frames(&self) -> u32
         ensures { result ≡ length self.now.pool.frames }
     {
         self.pool.len()
     }
 
-    /// How many slots there are.
+    /// Returns the number of slots.
     pub fn slots(&self) -> u32
         ensures { result ≡ length self.now.slots.uses }
     {
         self.slots.len()
     }
 
-    /// How many slots are vacant.
+    /// Returns the number of vacant slots.
     pub fn vacant_slots(&self) -> u32
         ensures { result ≡ length self.now.slots.vacant }
     {
         self.slots.vacant()
     }
 
-    /// How many pages of the instance at a place lie in slots; 0 where nobody is there. It looks at its pages.
+    /// Returns the number of pages of the instance at this place that are in slots; 0 if nobody is there. Looks at its
+    /// pages.
     pub fn swapped_at(&self, place: usize) -> u32
         ensures { result ≡ count_of swapped self.now.tables place }
     {
         swapped_in(&self.tables, place)
     }
 
-    /// How many frames are charged to the instance at a place, and on how many of these a page was touched in this epoch, of
-    /// whichever instance; 0 where nobody is there. The numbers are kept.
+    /// Returns the number of frames that are charged to the instance at this place, and on how many of these a page of
+    /// any instance was touched in this epoch; both 0 if nobody is there. Takes O(1): the counts are kept.
     pub fn charged_at(&self, place: usize) -> (u32, u32)
         ensures charged { result.0 ≡ charged_of self.now place }
         ensures touched { result.1 ≡ active_of self.now place }
@@ -98,7 +99,7 @@ impl Memory {
         (self.tables.charged(place), self.tables.active(place))
     }
 
-    /// How many tickets are out, void ones included. It goes over all slots.
+    /// Returns the number of tickets that are out, void ones included. Goes over all slots.
     pub fn tickets(&self) -> u32
         ensures { result ≡ tickets self.now }
     {

@@ -1,11 +1,11 @@
 // What is pinned and earmarked for the next step of an instance.
 
 ghost use Rattle.std.specs.Prelude.{◌≡◌, ◌+◌, ◌*◌, ◌^◌, ◌<◌, ◌≤◌, [], true, length, get_or, nat_eq};
-ghost use Rattle.wh_host_model.specs.Space.Moves.{Earmarks, pinned, residents, unpinned};
-ghost use Rattle.wh_host_model.specs.Space.Parts.{Occupant, kept, occupant_at, wants};
-ghost use Rattle.wh_host_model.specs.Space.Ready.{pages_of_need};
-ghost use Rattle.wh_host_model.specs.Space.States.{at, page_at, resident};
-ghost use Rattle.wh_host_model.specs.Space.Tickets.{WaitsForBytes};
+ghost use Rattle.wh_space_model.specs.Moves.{Earmarks, pinned, residents, unpinned};
+ghost use Rattle.wh_space_model.specs.Parts.{Occupant, kept, occupant_at, wants};
+ghost use Rattle.wh_space_model.specs.Ready.{pages_of_need};
+ghost use Rattle.wh_space_model.specs.States.{at, page_at, resident};
+ghost use Rattle.wh_space_model.specs.Tickets.{WaitsForBytes};
 ghost use Rattle.wh_space.specs.Pinning.{numbers_in};
 
 use crate::memory::Memory;
@@ -13,7 +13,7 @@ use crate::pins::{Few, Pinned, chosen, end_all_pins, pages_pinned, take_frames};
 use wh_model::Need;
 
 impl Memory {
-    /// The bytes of the step for which the instance at this place waits for a frame, if it does.
+    /// Returns the bytes of the step on which the instance at this place is blocked for a frame, if it is.
     pub fn wanted_step(&self, place: usize) -> Option<Need>
         ensures { result ≡ wants self.now place }
     {
@@ -32,7 +32,7 @@ impl Memory {
         }
     }
 
-    // Whether a page stands on a frame.
+    // Whether a page is resident.
     fn is_resident(&self, place: usize, number: u32) -> bool
         requires { number < length (get_or self.now.tables place []) }
         ensures { result ≡ nat_eq (at resident (page_at self.now.tables place number)) 1 }
@@ -40,7 +40,7 @@ impl Memory {
         self.tables.page(place, number).frame().is_some()
     }
 
-    // The pages of a step that stand on frames.
+    // The resident pages of a step.
     fn residents_of(&self, place: usize, need: Need) -> Few
         requires within { need.at + need.length ≤ 4096 * length (get_or self.now.tables place []) }
         requires few { need.length ≤ 4096 }
@@ -60,8 +60,8 @@ impl Memory {
         chosen(first, here, first, false)
     }
 
-    /// The resident pages of the step for which the instance at this place waits are pinned for it, and no others. All
-    /// earmarked frames are free again.
+    /// Pins the resident pages of the step on which the instance at this place is blocked, and no others. All earmarked
+    /// frames become free again.
     pub fn pin(&mut self, place: usize, need: Need)
         requires { WaitsForBytes self.old place need }
         ensures { self.new ≡ pinned self.old place need }
@@ -75,7 +75,8 @@ impl Memory {
         });
     }
 
-    /// So many free frames are earmarked for the next step of the instance at this place, where none is earmarked yet.
+    /// Earmarks `count` free frames, at most 2, for the next step of the instance at this place, while none is
+    /// earmarked.
     pub fn earmark(&mut self, place: usize, count: u32)
         requires there { (t : Occupant) × occupant_at self.old place t × (t.live ≡ true) }
         requires none { kept self.old.pins ≡ [] }
@@ -93,7 +94,7 @@ impl Memory {
         });
     }
 
-    /// Nothing is pinned or earmarked any more.
+    /// Ends all pins and earmarks.
     pub fn unpin(&mut self)
         ensures { self.new ≡ unpinned self.old }
     {

@@ -1,9 +1,9 @@
 // Whether an instance may come.
 
 ghost use Rattle.std.specs.Prelude.{◌≡◌, ◌≢◌, ◌↔◌, ◌+◌, ◌-◌, ◌^◌, ◌<◌, ◌≤◌, ℕ, IsTrue, length, map};
-ghost use Rattle.wh_host_model.specs.Frames.{tally};
-ghost use Rattle.wh_host_model.specs.Space.Parts.{Occupant, minima, occupant_at, of_occupant, spreads};
-ghost use Rattle.wh_host_model.specs.Space.Places.{IsFreePlace};
+ghost use Rattle.wh_space_model.specs.Frames.{tally};
+ghost use Rattle.wh_space_model.specs.Parts.{Occupant, minima, occupant_at, of_occupant, spreads};
+ghost use Rattle.wh_space_model.specs.Places.{IsFreePlace};
 ghost use Rattle.wh_space.specs.Parts.{occupant_of};
 
 use crate::memory::Memory;
@@ -57,7 +57,7 @@ fn spreads_of(occupant_entries: &Vec<Option<OccupantEntry>>) -> u64
 }
 
 impl Memory {
-    /// Whether nobody is at this place, or it is the next one behind all.
+    /// Tells whether nobody is at this place, or it is the next one after all.
     pub fn is_free(&self, place: usize) -> bool
         ensures { IsTrue result ↔ IsFreePlace self.now place }
     {
@@ -68,7 +68,7 @@ impl Memory {
         }
     }
 
-    /// Whether no instance here has this number. It looks at each instance.
+    /// Tells whether no instance here has this number, nor a released one that has a ticket out. Looks at each place.
     pub fn is_fresh(&self, number: u64) -> bool
         ensures { IsTrue result
             ↔ ((j : ℕ) (t : Occupant) → occupant_at self.now j t → t.number ≢ number) }
@@ -83,7 +83,7 @@ impl Memory {
         true
     }
 
-    /// How many frames are left beside the least numbers of pages of all instances. It looks at each instance.
+    /// Returns the number of frames that the minima of all instances leave. Looks at each instance.
     pub fn frames_left(&self) -> u64
         ensures { result + minima self.now ≡ length self.now.pool.frames }
     {
@@ -92,8 +92,8 @@ impl Memory {
         frames - minima_of(&self.occupant_entries)
     }
 
-    /// How many slots are left beside all pages by which instances may go beyond their least numbers, one more for each.
-    /// It looks at each instance.
+    /// Returns the number of slots that are left if each instance swaps all pages above its minimum, and one more.
+    /// Looks at each instance.
     pub fn slots_left(&self) -> u64
         ensures { result + spreads self.now ≡ length self.now.slots.uses }
     {

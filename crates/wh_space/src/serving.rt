@@ -1,17 +1,17 @@
 // A page that comes for a step in one go.
 
 ghost use Rattle.std.specs.Prelude.{◌≡◌, ◌<◌, ◌≤◌, ◌^◌, [], ◌∷◌, Some, length};
-ghost use Rattle.wh_host_model.specs.Space.Moves.{Fetches};
-ghost use Rattle.wh_host_model.specs.Space.Parts.{kept, pinned_by};
-ghost use Rattle.wh_host_model.specs.Space.States.{count, page_at, resident};
-ghost use Rattle.wh_host_model.specs.declared.states.Page.TheVariants.{Swapped};
+ghost use Rattle.wh_space_model.specs.Moves.{Fetches};
+ghost use Rattle.wh_space_model.specs.Parts.{kept, pinned_by};
+ghost use Rattle.wh_space_model.specs.States.{count, page_at, resident};
+ghost use Rattle.wh_space_model.specs.declared.states.Page.TheVariants.{Swapped};
 ghost use Rattle.wh_space.specs.Pinning.{numbers_in, pins_of};
 
 use crate::frames::set_frame;
 use crate::memory::Memory;
 use crate::pages::put_page;
 use crate::pins::{Few, Pinned, pages_pinned};
-use wh_host_model::Page;
+use wh_space_model::Page;
 
 // One number more, before the others.
 fn with_number(number: u32, numbers: Few) -> Few
@@ -25,7 +25,7 @@ fn with_number(number: u32, numbers: Few) -> Few
     }
 }
 
-// A page of the instance at a place is pinned beside at most one other, and nothing is earmarked.
+// A page of the instance at a place is pinned besides at most one other, and nothing is earmarked.
 fn pin_beside(pins: &mut Option<Pinned>, place: usize, page: u32)
     requires { length (pinned_by (pins_of pins.old) place) ≤ 1 }
     ensures { pins_of pins.new ≡ Some (record {
@@ -43,15 +43,15 @@ fn pin_beside(pins: &mut Option<Pinned>, place: usize, page: u32)
 }
 
 impl Memory {
-    /// How many pages are resident can be counted in 63 bits.
+    /// States that the number of resident pages is less than 2^63. Does nothing when run.
     pub fn known_pages(&self)
         ensures { count resident self.now.tables < 2 ^ 63 }
     {
         let _ = &self.tax;
     }
 
-    /// A page of the instance at this place, which lies in this slot, comes with these bytes into a free frame, and is pinned
-    /// for the instance beside at most one other page. Nothing is earmarked.
+    /// Fetches a page of the instance at this place from this slot: puts these bytes into a free frame, and pins the
+    /// page for the instance, besides at most one other. No frame may be earmarked.
     pub fn fetch(&mut self, place: usize, page: u32, slot: u32, bytes: &[u8; 4096])
         requires page { page_at self.old.tables place page ≡ Some (Swapped slot) }
         requires frame { 1 ≤ length self.old.pool.free }

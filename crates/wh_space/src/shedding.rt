@@ -1,18 +1,18 @@
 // A sharer of a frame that leaves, so that a write to the frame needs no copy.
 
 ghost use Rattle.std.specs.Prelude.{◌≡◌, ◌+◌, ◌*◌, ◌<◌, ◌≤◌, ℕ, [], true, MatchBool, MatchOption, length, get_or};
-ghost use Rattle.wh_host_model.specs.Frames.{one_if, tally};
-ghost use Rattle.wh_host_model.specs.Space.Charges.{IsOnFrame, frame_charge};
-ghost use Rattle.wh_host_model.specs.Space.Claims.{IsBeside, IsShed, NobodyIsShed};
-ghost use Rattle.wh_host_model.specs.Space.Ready.{among, pages_of_need};
-ghost use Rattle.wh_host_model.specs.Space.States.{shares};
-ghost use Rattle.wh_host_model.specs.Space.Tickets.{WaitsForBytes};
+ghost use Rattle.wh_space_model.specs.Frames.{one_if, tally};
+ghost use Rattle.wh_space_model.specs.Charges.{IsOnFrame, frame_charge};
+ghost use Rattle.wh_space_model.specs.Claims.{IsBeside, IsShed, NobodyIsShed};
+ghost use Rattle.wh_space_model.specs.Ready.{among, pages_of_need};
+ghost use Rattle.wh_space_model.specs.States.{shares};
+ghost use Rattle.wh_space_model.specs.Tickets.{WaitsForBytes};
 ghost use Rattle.wh_space.specs.Shedding.{IsLastBeside, IsNoneBeside, IsShedOf, ShedsNone};
 
 use crate::memory::Memory;
 use crate::ready::shared_under;
-use wh_host_model::Page;
 use wh_model::Need;
+use wh_space_model::Page;
 use wh_tables::PageId;
 
 // Whether a page is one of those of a step.
@@ -111,8 +111,8 @@ impl Memory {
         None
     }
 
-    // The page that is shed for this page of a step that writes it: of a frame that is charged to the instance and has more
-    // sharers than the step writes of it.
+    // The page that is shed for this page of a step that writes it: of a frame that is charged to the instance and has
+    // more sharers than the step writes of it.
     fn shed_for(&self, place: usize, need: Need, number: u32) -> Option<PageId>
         requires within { need.at + need.length ≤ 4096 * length (get_or self.now.tables place []) }
         requires few { need.length ≤ 4096 }
@@ -157,10 +157,10 @@ impl Memory {
         None
     }
 
-    /// The sharer that leaves for the step for which the instance at this place waits, where nobody pays: where the step
-    /// writes a page on a frame that is charged to the instance and has more sharers than the step writes of it, the greatest
-    /// of these, by the numbers of instances and then of pages, that is no page of the step and can leave; the frame of the
-    /// step's lower such page first. None where there is none.
+    /// Returns the page to evict for the step on which the instance at this place is blocked, if nobody pays: where the
+    /// step writes a page whose frame is charged to the instance and has more sharers than the step has pages on it,
+    /// the greatest other sharer, by numbers of instances and then of pages, that can leave; for the lower such page of
+    /// the step first. Returns `None` if there is none.
     pub fn shed_page(&self, place: usize, need: Need) -> Option<PageId>
         requires { WaitsForBytes self.now place need }
         ensures { MatchOption result (NobodyIsShed self.now place need)

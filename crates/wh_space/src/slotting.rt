@@ -4,7 +4,7 @@ ghost use Rattle.std.specs.Prelude.{◌≡◌, ◌<◌, IfSome, None, length, ge
 ghost use Rattle.wh_space.specs.Slotting.{CanLeaveSlot, leaver_of, slot_gone, void_use, voids_leaver, voids_slot};
 
 use crate::occupant_entry::OccupantEntry;
-use wh_host_model::{Page, Slot};
+use wh_space_model::{Page, Slot};
 use wh_swap::Slots;
 
 // The use of a slot whose ticket is void, if there is one.
@@ -21,7 +21,7 @@ fn voided_use(used: Slot) -> Slot
     }
 }
 
-// The slot by which a page of the instance at a place leaves, if one does.
+/// Returns the slot by which a page of the instance at this place is leaving, if one is.
 pub fn leaver_at(occupant_entries: &Vec<Option<OccupantEntry>>, place: usize) -> Option<u32>
     ensures { result ≡ leaver_of (get_or occupant_entries.now.items place None) }
 {
@@ -34,7 +34,7 @@ pub fn leaver_at(occupant_entries: &Vec<Option<OccupantEntry>>, place: usize) ->
     }
 }
 
-// The ticket of a slot is void, if there is one.
+/// Voids the ticket of a slot, if there is one.
 pub fn void_slot(slots: &mut Slots, slot: Option<u32>)
     requires { IfSome slot (λ k. k < length slots.old.uses) }
     ensures { slots.new ≡ voids_slot slot slots.old }
@@ -45,7 +45,7 @@ pub fn void_slot(slots: &mut Slots, slot: Option<u32>)
     }
 }
 
-// A page was written. If it was leaving by this slot, the ticket is void.
+/// Voids the ticket of the slot by which a page was leaving that has been written.
 pub fn void_written(slots: &mut Slots, slot: Option<u32>, page: Page)
     requires { IfSome slot (λ k. k < length slots.old.uses) }
     ensures { slots.new ≡ voids_leaver slot page slots.old }
@@ -61,7 +61,7 @@ pub fn void_written(slots: &mut Slots, slot: Option<u32>, page: Page)
     }
 }
 
-// A page goes, and with it its slot, or the ticket with which it was coming.
+/// Gives up the slot of a page that goes, or voids the ticket of the fetch by which it was coming.
 pub fn leave_slot(page: Page, slots: &mut Slots)
     requires { CanLeaveSlot page slots.old }
     ensures { slots.new ≡ slot_gone page slots.old }

@@ -1,8 +1,8 @@
 // Where an instance waits for a frame.
 
 ghost use Rattle.std.specs.Prelude.{◌≡◌, ◌+◌, ◌*◌, ◌<◌, ◌≤◌, [], None, Some, true, length, get_or, slice_set};
-ghost use Rattle.wh_host_model.specs.Space.Parts.{Occupant, occupant_at};
-ghost use Rattle.wh_host_model.specs.Space.Stores.{ended, stood};
+ghost use Rattle.wh_space_model.specs.Parts.{Occupant, occupant_at};
+ghost use Rattle.wh_space_model.specs.Stores.{ended, stood};
 ghost use Rattle.wh_model.specs.declared.memory.Need.{Need as Bytes};
 ghost use Rattle.wh_space.specs.OccupantEntries.{entry_awaiting};
 
@@ -26,8 +26,8 @@ fn stand_at(occupant_entries: &mut Vec<Option<OccupantEntry>>, place: usize, nee
 }
 
 impl Memory {
-    /// The instance at this place waits for a frame at these bytes, which are in its memory and at most 4096; or for
-    /// none.
+    /// Blocks the instance at this place on a frame for these bytes, at most 4096 of its memory; or, with `None`,
+    /// unblocks it.
     pub fn stand(&mut self, place: usize, need: Option<Need>)
         requires there { (t : Occupant) × occupant_at self.old place t × (t.live ≡ true) }
         requires within { (want : Bytes) → need ≡ Some want
@@ -38,8 +38,8 @@ impl Memory {
         stand_at(&mut self.occupant_entries, place, need);
     }
 
-    /// The step was taken for which the instance at this place stood, or its call was cancelled: it stands for none, and its
-    /// pins and earmarks end.
+    /// Unblocks the instance at this place, whose step was taken or whose call was cancelled, and ends its pins and
+    /// earmarks.
     pub fn end(&mut self, place: usize)
         requires { (t : Occupant) × occupant_at self.old place t }
         ensures { self.new ≡ ended self.old place }

@@ -1,11 +1,11 @@
 // What an instance writes.
 
 ghost use Rattle.std.specs.Prelude.{◌≡◌, ◌+◌, ◌*◌, ◌%◌, ◌^◌, ◌<◌, ◌≤◌, [], Some, IsTrue, IsFalse, length, get_or};
-ghost use Rattle.wh_host_model.specs.Space.Parts.{view};
-ghost use Rattle.wh_host_model.specs.Space.Ready.{Ready};
-ghost use Rattle.wh_host_model.specs.Space.States.{page_at};
-ghost use Rattle.wh_host_model.specs.Space.Stores.{Fills, Overwrites};
-ghost use Rattle.wh_host_model.specs.declared.states.Page.TheVariants.{Private};
+ghost use Rattle.wh_space_model.specs.Parts.{view};
+ghost use Rattle.wh_space_model.specs.Ready.{Ready};
+ghost use Rattle.wh_space_model.specs.States.{page_at};
+ghost use Rattle.wh_space_model.specs.Stores.{Fills, Overwrites};
+ghost use Rattle.wh_space_model.specs.declared.states.Page.TheVariants.{Private};
 ghost use Rattle.wh_model.specs.Execution.Memory.{Stores};
 ghost use Rattle.wh_model.specs.declared.memory.Got.TheVariants.{Value};
 ghost use Rattle.wh_space.specs.Steps.{LeavesStore};
@@ -15,7 +15,7 @@ use crate::memory::Memory;
 use wh_model::{Got, Need};
 
 impl Memory {
-    // Writes bytes into a page that stands alone on this frame.
+    // Writes bytes into a page whose own frame this is.
     #[inline(always)]
     pub(crate) fn write_own(
         &mut self,
@@ -100,11 +100,11 @@ impl Memory {
         }
     }
 
-    /// Writes bytes to the memory of the instance at this place, from this one on. Their pages are broken off from all
-    /// others, and marked as touched.
+    /// Writes bytes to the memory of the instance at this place, from this one on. Their pages get frames of their own
+    /// (copy-on-write), and are marked as touched.
     ///
-    /// It answers `Trap` where they aren't all in its memory, and `NotReady` where a page of them is in a slot or on the
-    /// way from one, or no frame is free for it. Then nothing is done. It takes no memory from the allocator.
+    /// Returns `Trap` if they aren't all in its memory, and `NotReady` if a page of them is in a slot or on the way
+    /// from one, or no frame is free for it. Then nothing is done. Allocates nothing.
     #[inline(always)]
     pub fn store(&mut self, place: usize, at: u64, given: &[u8]) -> Got
         requires few { length given.now ≤ 4096 }

@@ -2,8 +2,8 @@
 
 ghost use Rattle.std.proofs.Common.{◌∙◌};
 ghost use Rattle.std.specs.Prelude.{◌≡◌, min, refl};
-ghost use Rattle.wh_host_model.specs.Space.Parts.{view};
-ghost use Rattle.wh_host_model.specs.Space.Ready.{Ready};
+ghost use Rattle.wh_space_model.specs.Parts.{view};
+ghost use Rattle.wh_space_model.specs.Ready.{Ready};
 ghost use Rattle.wh_space.specs.Steps.{page_limit};
 ghost use Rattle.wh_space.specs.StepViews.{KeepsRest, keeps_all, keeps_on, keeps_page_limit, keeps_least};
 
@@ -11,11 +11,11 @@ use crate::memory::Memory;
 use wh_linmem::LinearMem;
 use wh_model::{Got, Grown, Need};
 
-/// The memory of the instance at one place: a flat list of bytes of its own, though all pages lie on
-/// shared frames. Its steps leave all else as it was.
+/// The memory of the instance at one place: a flat list of bytes of its own, though all pages share one pool of frames.
+/// Its steps leave all else as it was.
 ///
-/// Where nobody is it has no bytes, and doesn't grow. Else it grows as far as its instance was promised, and no further than
-/// the limit that is lent with it, which is that of the instance's module.
+/// If nobody is there, it has no bytes, and doesn't grow. Else it grows as far as its instance was promised, and no
+/// further than the limit that is lent with it, which is that of the instance's module.
 #[derive(Drop)]
 pub struct View<'a> {
     /// The memory of all.

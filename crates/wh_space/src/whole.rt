@@ -1,19 +1,19 @@
 // Pages that are read beside others, who read them too.
 
 ghost use Rattle.std.specs.Prelude.{◌≡◌, ◌+◌, ◌*◌, ◌≤◌, ℕ, [], IsTrue, IsFalse, IfSome, IfNone, MatchBool, Some, get_or, length};
-ghost use Rattle.wh_host_model.specs.Space.Parts.{view};
-ghost use Rattle.wh_host_model.specs.Space.Ready.{IsAtHand};
-ghost use Rattle.wh_host_model.specs.Space.States.{page_at};
-ghost use Rattle.wh_host_model.specs.declared.states.Page.TheVariants.{Private};
+ghost use Rattle.wh_space_model.specs.Parts.{view};
+ghost use Rattle.wh_space_model.specs.Ready.{IsAtHand};
+ghost use Rattle.wh_space_model.specs.States.{page_at};
+ghost use Rattle.wh_space_model.specs.declared.states.Page.TheVariants.{Private};
 ghost use Rattle.wh_model.specs.Execution.Store.{bytes_at};
 ghost use Rattle.wh_space.specs.Merges.{IsNotPrivate};
 
 use crate::loads::read_page;
 use crate::memory::Memory;
-use wh_host_model::Page;
+use wh_space_model::Page;
 
 impl Memory {
-    /// How many pages of 4096 bytes the memory of the instance at this place has.
+    /// Returns the size of the instance at this place in pages of 4096 bytes.
     #[inline(always)]
     pub fn pages_at(&self, place: usize) -> u32
         ensures { result ≡ length (get_or self.now.tables place []) }
@@ -39,8 +39,8 @@ impl Memory {
         read_page(&self.pool, self.tables.page(place, number), offset, into)
     }
 
-    /// The bytes of a page of the instance at this place that is alone on its frame, and isn't leaving it; none where there is
-    /// no such page, or it is in another state.
+    /// Returns the bytes of a page of the instance at this place that has a frame of its own, and isn't leaving it.
+    /// Returns `None` for any other page.
     pub fn private_page(&self, place: usize, number: u32) -> Option<&[u8; 4096]>
         ensures some { IfSome result (λ bytes. bytes.now
             ≡ bytes_at (view self.now place) (4096 * number) 4096) }

@@ -4,13 +4,14 @@ ghost use Rattle.std.specs.Prelude.{◌≡◌, false, true, MatchResult};
 ghost use Rattle.std.specs.Io.{ReadsAtMost};
 ghost use Rattle.std.specs.Io.KnownBytes.{ReadConsumes};
 
-use std::io::{Read, Result};
+use std::io::{Error, Read, Result};
 
-/// A reader that keeps whether a read has failed. Nothing else makes it keep that one has.
+/// A reader that keeps whether a read has failed, and why the last of them did. Nothing else makes it keep that one has.
 #[derive(Drop)]
 pub struct WatchedRead<R> {
     inner: R,
     has_failed: bool,
+    failure: Option<Error>,
 }
 
 impl<R> WatchedRead<R> {
@@ -22,6 +23,7 @@ impl<R> WatchedRead<R> {
         WatchedRead {
             inner,
             has_failed: false,
+            failure: None,
         }
     }
 
@@ -37,6 +39,11 @@ impl<R> WatchedRead<R> {
         ensures { result ≡ self.now.has_failed }
     {
         self.has_failed
+    }
+
+    /// Returns why the last read failed that did.
+    pub fn failure(&self) -> Option<Error> {
+        self.failure
     }
 }
 
@@ -54,6 +61,7 @@ impl<R: Read> Read for WatchedRead<R> {
             Ok(count) => Ok(count),
             Err(error) => {
                 self.has_failed = true;
+                self.failure = Some(error);
                 Err(error)
             }
         }

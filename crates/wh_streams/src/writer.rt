@@ -5,14 +5,15 @@ ghost use Rattle.std.specs.Io.{WritesAtMost};
 ghost use Rattle.std.specs.Io.KnownBytes.{Keeps, WriteAppends};
 ghost use Rattle.wh_streams.specs.Failed.{IsFailedWrite};
 
-use std::io::{Result, Write};
+use std::io::{Error, ErrorKind, Result, Write};
 
-/// A writer that keeps whether a call has failed: whether one was refused, or took nothing of some bytes. Nothing else makes it
-/// keep that one has.
+/// A writer that keeps whether a call has failed, and why the last of them did: whether one was refused, or took nothing of some
+/// bytes. Nothing else makes it keep that one has.
 #[derive(Drop)]
 pub struct WatchedWrite<W> {
     inner: W,
     has_failed: bool,
+    failure: Option<Error>,
 }
 
 impl<W> WatchedWrite<W> {
@@ -24,6 +25,7 @@ impl<W> WatchedWrite<W> {
         WatchedWrite {
             inner,
             has_failed: false,
+            failure: None,
         }
     }
 
@@ -39,6 +41,11 @@ impl<W> WatchedWrite<W> {
         ensures { result ≡ self.now.has_failed }
     {
         self.has_failed
+    }
+
+    /// Returns why the last call failed that did.
+    pub fn failure(&self) -> Option<Error> {
+        self.failure
     }
 }
 
@@ -57,11 +64,13 @@ impl<W: Write> Write for WatchedWrite<W> {
             Ok(count) => {
                 if count == 0 && !buf.is_empty() {
                     self.has_failed = true;
+                    self.failure = Some(Error::from(ErrorKind::WriteZero));
                 }
                 Ok(count)
             }
             Err(error) => {
                 self.has_failed = true;
+                self.failure = Some(error);
                 Err(error)
             }
         }
@@ -76,6 +85,7 @@ impl<W: Write> Write for WatchedWrite<W> {
             Ok(()) => Ok(()),
             Err(error) => {
                 self.has_failed = true;
+                self.failure = Some(error);
                 Err(error)
             }
         }

@@ -2,9 +2,8 @@
 use Rattle.std.proofs.Common.{◌≡◌, ℕ, zero, suc, ◌+◌, ◌<◌, ◌++◌, List, [], ◌∷◌, length, refl, subst, ◌∙◌, arith, inl, inr}
 use Rattle.std.proofs.lemmas.Bool.{cases_eq, cases_lt}
 use Rattle.std.proofs.lemmas.List.{append_assoc, length-append}
-use Rattle.wh_host_model.specs.Frames.{tally, one_if}
-use Rattle.wh_host_model.specs.Space.Parts.{numbers_below}
-use Rattle.wh_host_model.proofs.Tally.{tally-append, one_same, one_other, length-le_from_once}
+use Rattle.wh_space_model.specs.{tally, one_if, numbers_below}
+use Rattle.wh_space_model.proofs.Tally.{tally-append, one_same, one_other, length-le_from_once}
 use Rattle.wh_swap.specs.SlotParts.{AreOnce}
 
 -- one more number that isn't there yet

@@ -1,6 +1,6 @@
 -- What calls of a swap device leave of what is known of it.
 use Rattle.std.specs.Prelude.{◌≡◌, ◌++◌, List, [], ◌∷◌, Result, Ok, Err}
-use Rattle.wh_host_model.specs.declared.plain.SwapError.{SwapError}
+use Rattle.wh_space_model.specs.declared.plain.SwapError.{SwapError}
 
 -- the fault of the call that failed, if one did
 abbrev pub call_faults : {X : Type 0} → Result X SwapError → List SwapError

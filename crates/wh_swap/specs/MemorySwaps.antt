@@ -13,7 +13,7 @@ abbrev pub slot_bytes : Option (List ℕ) → List ℕ
 slot_bytes None = []
 slot_bytes (Some bytes) = bytes
 
--- of so many slots the first ones were needed so far, and nothing was written to the others
+-- of `count` slots the first ones were needed so far, and nothing was written to the others
 abbrev pub slots_held : ℕ → List (Option (List ℕ)) → List (List ℕ)
 slots_held count slots = map slot_bytes slots ++ replicate (count - length slots) []
 

@@ -1,9 +1,9 @@
--- What the parts of the slots' bookkeeping stand for.
+-- What the parts of the slots' bookkeeping represent.
 use Rattle.std.specs.Prelude.{ℕ, ◌≡◌, ◌^◌, ◌<◌, ◌≤◌, List, length, map}
 use Rattle.boxcar.specs.declared.tag.Tag.{Tag}
 use Rattle.std.specs.Vec.{vec_capacity}
-use Rattle.wh_host_model.specs.Frames.{tally, one_if}
-use Rattle.wh_host_model.specs.Space.Parts.{Slots}
+use Rattle.wh_space_model.specs.Frames.{tally, one_if}
+use Rattle.wh_space_model.specs.Parts.{Slots}
 use Rattle.wh_swap.specs.declared.slots.Slots.TheInside.{Inside}
 
 -- what each slot holds is in values without bytes

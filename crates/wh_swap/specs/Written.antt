@@ -1,7 +1,7 @@
 -- What a device over pages that lie elsewhere knows of its slots.
 use Rattle.std.specs.Prelude.{◌≡◌, ◌≢◌, ◌==◌, ℕ, List, [], ◌∷◌, length, map, get_or, Option, Some, None, bytes_eq, cond}
-use Rattle.wh_host_model.specs.declared.plain.SwapError.{SwapError}
-use Rattle.wh_host_model.specs.declared.plain.SwapError.TheVariants.{Read, Write, Damaged}
+use Rattle.wh_space_model.specs.declared.plain.SwapError.{SwapError}
+use Rattle.wh_space_model.specs.declared.plain.SwapError.TheVariants.{Read, Write, Damaged}
 use Rattle.wh_swap.specs.declared.written.Written.{Written}
 use Rattle.wh_swap.specs.declared.stream.PageSwap.{PageSwap}
 

@@ -1,13 +1,13 @@
 // What contracts count of a device's calls. It takes no bytes.
 
 ghost use Rattle.std.specs.Prelude.{◌≡◌, [], ◌∷◌, map};
-ghost use Rattle.wh_host_model.specs.SwapFaults.{swap_number};
+ghost use Rattle.wh_space_model.specs.SwapFaults.{swap_number};
 ghost use Rattle.wh_swap.specs.Written.{counted_misread, fault_numbered};
 
 use crate::written::Written;
 use boxcar::tag::{Names, Tag};
 use std::snapshot::Snapshot;
-use wh_host_model::SwapError;
+use wh_space_model::SwapError;
 
 struct OneMore;
 
@@ -15,7 +15,7 @@ impl Names<Tag> for OneMore {
     ghost numbers = { λ tag. 0 ∷ tag.numbers };
 }
 
-// The same with one more number.
+/// Returns the count plus one.
 pub fn one_more(count: &Tag) -> Tag
     ensures { result.numbers ≡ 0 ∷ count.now.numbers }
 {
@@ -35,7 +35,7 @@ impl Names<Failing> for OneFault {
     ghost numbers = { λ a. swap_number a.fault ∷ a.before.value.numbers };
 }
 
-// The same with the number of one more fault.
+/// Returns the list of faults with this one added.
 pub fn one_fault(before: &Tag, fault: SwapError) -> Tag
     ensures { map fault_numbered result.numbers
         ≡ fault ∷ map fault_numbered before.now.numbers }
@@ -61,7 +61,7 @@ impl Names<Reading> for Misread {
         r.read.value };
 }
 
-// The same, with one more number where other bytes were read than were written.
+/// Returns the count of misreads, plus one if other bytes were read than were written.
 pub fn compared(misread: &Tag, wrote: &Written, read: &[u8; 4096]) -> Tag
     ensures same { read.now ≡ wrote.now.bytes.value → result.numbers ≡ misread.now.numbers }
     ensures told { result.numbers ≡ [] → read.now ≡ wrote.now.bytes.value }

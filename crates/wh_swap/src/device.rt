@@ -1,9 +1,9 @@
 // What a swap device promises.
 
 ghost use Rattle.std.specs.Prelude.{◌≡◌, ◌≢◌, ◌+◌, ◌<◌, ℕ, List, [], ◌∷◌, length, get_or, slice_set, OnOk, OnErr, IfErr};
-ghost use Rattle.wh_host_model.specs.declared.plain.SwapError.{SwapError};
+ghost use Rattle.wh_space_model.specs.declared.plain.SwapError.{SwapError};
 
-use wh_host_model::SwapError;
+use wh_space_model::SwapError;
 
 /// A device with slots of 4096 bytes, numbered from 0.
 pub trait SwapDev {

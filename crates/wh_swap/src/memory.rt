@@ -9,15 +9,15 @@ use crate::counts::one_more;
 use boxcar::tag::Tag;
 use std::alloc::{AllocError, Global};
 use std::marker::Model;
-use wh_host_model::SwapError;
+use wh_space_model::SwapError;
 
 /// A swap device in memory. No call of it fails.
 ///
-/// Room for all slots is reserved when it is made, and used only as far as slots are written, the lowest first: what lies
-/// behind costs addresses and no memory.
+/// Room for all slots is reserved when it is made, and used only as far as slots are written, the lowest first: what
+/// lies after costs addresses and no memory.
 #[derive(Drop)]
 pub struct MemSwap {
-    // What was written to each slot, for as many as were needed so far. To those behind them nothing was.
+    // What was written to each slot, for as many as were needed so far. To those after them nothing was.
     slots: Vec<Option<[u8; 4096]>>,
     // How many slots there are.
     count: u32,
@@ -47,10 +47,10 @@ fn reach(slots: &mut Vec<Option<[u8; 4096]>>, slot: u32)
 }
 
 impl MemSwap {
-    /// So many slots, to which nothing was written. All memory is taken here.
+    /// Creates a device of `slots` slots in memory, to which nothing was written. Reserves the room for all.
     ///
     /// # Errors
-    /// Where room was refused.
+    /// `AllocError` if an allocation fails.
     pub fn new(alloc: Global, slots: u32) -> Result<MemSwap, AllocError>
         ensures held { IfOk result (λ device. memory_held device ≡ replicate slots []) }
         ensures writes { IfOk result (λ device. memory_writes device ≡ 0) }

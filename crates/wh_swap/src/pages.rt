@@ -43,14 +43,14 @@ fn go_to<S: Seek>(stream: &mut S, page: u32) -> io::Result<()>
     Ok(())
 }
 
-/// Pages that lie one behind another in a stream: page `k` at byte `4096 * k`.
+/// Pages that lie one after another in a stream: page `k` at byte `4096 * k`.
 #[derive(Drop)]
 pub struct StreamPages<F> {
     stream: F,
 }
 
 impl<F> StreamPages<F> {
-    // The pages of this stream.
+    /// Returns the pages of this stream.
     pub fn new(stream: F) -> StreamPages<F> {
         StreamPages { stream }
     }

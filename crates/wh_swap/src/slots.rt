@@ -1,15 +1,15 @@
 // What each slot of the device is used for, and what it holds.
 
 ghost use Rattle.std.specs.Prelude.{◌≡◌, ◌<◌, ◌≤◌, ◌++◌, [], ◌∷◌, cond, length, replicate, slice_get, slice_set, Some, IfSome, IfOk, IfNone, vec_len, vec_capacity};
-ghost use Rattle.wh_host_model.specs.Frames.{tally, one_if};
-ghost use Rattle.wh_host_model.specs.Space.Parts.{numbers_below};
-ghost use Rattle.wh_host_model.specs.declared.states.Slot.TheVariants.{Vacant};
+ghost use Rattle.wh_space_model.specs.Frames.{tally, one_if};
+ghost use Rattle.wh_space_model.specs.Parts.{numbers_below};
+ghost use Rattle.wh_space_model.specs.declared.states.Slot.TheVariants.{Vacant};
 ghost use Rattle.wh_swap.specs.SlotParts.{all_held};
 
 use boxcar::tag::{Names, Tag};
 use std::alloc::{AllocError, Global};
 use std::marker::Model;
-use wh_host_model::Slot;
+use wh_space_model::Slot;
 
 /// What each slot is used for, which are vacant, and what each holds. What a slot holds is known to clauses alone, and takes
 /// no bytes. No call but `new` takes memory or goes over the slots.
@@ -21,7 +21,7 @@ pub struct Slots {
 }
 
 impl Model for Slots {
-    ghost use Rattle.wh_host_model.specs.Space.Parts.{Slots};
+    ghost use Rattle.wh_space_model.specs.Parts.{Slots};
 
     ghost Value = { Slots };
 
@@ -32,7 +32,7 @@ impl Model for Slots {
     ghost invariant = { HasRoomForAll };
 }
 
-// So many numbers, the greatest first.
+// The numbers below `count`, the greatest first.
 fn numbers(alloc: Global, count: u32) -> Result<Vec<u32>, AllocError>
     ensures items { IfOk result (λ list. list.items ≡ numbers_below count) }
     ensures room { IfOk result (λ list. count ≤ vec_capacity list) }
@@ -52,7 +52,7 @@ impl Names<[u8; 4096]> for Page {
     ghost numbers = { λ page. page };
 }
 
-// So many times nothing.
+// `count` slots of which nothing is known.
 fn nothing(alloc: Global, count: u32) -> Result<Vec<Tag>, AllocError>
     ensures { IfOk result (λ tags. all_held tags.items ≡ replicate count []) }
 {
@@ -86,10 +86,10 @@ fn add(list: &mut Vec<u32>, number: u32)
 }
 
 impl Slots {
-    /// So many slots, all vacant, which hold nothing that is known. All memory is taken here.
+    /// Creates `slots` slots, all vacant, with contents unknown. Reserves the room for all.
     ///
     /// # Errors
-    /// Where room was refused.
+    /// `AllocError` if an allocation fails.
     pub fn new(alloc: Global, slots: u32) -> Result<Slots, AllocError>
         ensures uses { IfOk result (λ made. made.uses ≡ replicate slots Vacant) }
         ensures vacant { IfOk result (λ made. made.vacant ≡ numbers_below slots) }
@@ -102,7 +102,7 @@ impl Slots {
         })
     }
 
-    /// What a slot is used for.
+    /// Returns what a slot is used for.
     pub fn get(&self, slot: u32) -> Slot
         requires { slot < length self.now.uses }
         ensures { slice_get self.now.uses slot ≡ Some result }
@@ -110,7 +110,7 @@ impl Slots {
         self.uses[slot as usize]
     }
 
-    /// A slot is used for this from now on. Whether it is among the vacant ones stays as it is.
+    /// Changes what a slot is used for, but not whether it is among the vacant ones.
     pub fn set(&mut self, slot: u32, used: Slot)
         requires { slot < length self.old.uses }
         ensures { self.new ≡ record self.old { uses = slice_set self.old.uses slot used } }
@@ -133,7 +133,7 @@ impl Slots {
         Some(slot)
     }
 
-    /// A slot that is not among the vacant ones is vacant from now on.
+    /// Makes a slot vacant that isn't among the vacant ones.
     pub fn give(&mut self, slot: u32)
         requires there { slot < length self.old.uses }
         requires taken { tally (one_if slot) self.old.vacant ≡ 0 }
@@ -145,8 +145,8 @@ impl Slots {
         add(&mut self.vacant, slot);
     }
 
-    /// The device was called to write these bytes to a slot, which holds them now; or nothing that is known, where that
-    /// failed.
+    /// Records that the device was called to write these bytes to a slot, which holds them now; or whose contents are
+    /// unknown, if that failed.
     pub fn write(&mut self, slot: u32, bytes: &[u8; 4096], wrote: bool)
         requires { slot < length self.old.uses }
         ensures { self.new ≡ record self.old {
@@ -156,14 +156,14 @@ impl Slots {
         self.held[slot as usize] = what_is_held(bytes, wrote);
     }
 
-    /// How many slots are vacant.
+    /// Returns the number of vacant slots.
     pub fn vacant(&self) -> u32
         ensures { result ≡ length self.now.vacant }
     {
         self.vacant.len() as u32
     }
 
-    /// How many slots there are.
+    /// Returns the number of slots.
     pub fn len(&self) -> u32
         ensures { result ≡ length self.now.uses }
     {

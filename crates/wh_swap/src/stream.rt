@@ -10,7 +10,7 @@ use crate::{Pages, StreamPages, SwapDev};
 use boxcar::tag::Tag;
 use std::alloc::{AllocError, Global};
 use std::io::{Read, Seek, Write};
-use wh_host_model::SwapError;
+use wh_space_model::SwapError;
 
 /// A swap device over pages that lie elsewhere. It keeps a SHA-256 digest of each slot in memory.
 #[derive(Drop)]
@@ -27,7 +27,7 @@ pub struct PageSwap<P> {
 /// A swap device over a stream: slot `k` lies at byte `4096 * k`.
 pub type StreamSwap<F> = PageSwap<StreamPages<F>>;
 
-// So many slots to which nothing was written.
+// `slots` slots to which nothing was written.
 fn open_slots(alloc: Global, slots: u32) -> Result<Vec<Option<Written>>, AllocError>
     ensures { IfOk result (λ list. list.items ≡ replicate slots None) }
 {
@@ -63,10 +63,10 @@ fn fetch<P: Pages>(
 }
 
 impl<P: Pages> PageSwap<P> {
-    /// So many slots in these pages, to which nothing was written. All memory is taken here.
+    /// Creates a device of `slots` slots in these pages, to which nothing was written. Reserves the room for all.
     ///
     /// # Errors
-    /// Where room was refused.
+    /// `AllocError` if an allocation fails.
     pub fn over(alloc: Global, pages: P, slots: u32) -> Result<PageSwap<P>, AllocError>
     where
         P: Drop,
@@ -88,10 +88,10 @@ impl<P: Pages> PageSwap<P> {
 }
 
 impl<F: Read + Write + Seek + Drop> PageSwap<StreamPages<F>> {
-    /// So many slots in this stream, to which nothing was written. All memory is taken here.
+    /// Creates a device of `slots` slots in this stream, to which nothing was written. Reserves the room for all.
     ///
     /// # Errors
-    /// Where room was refused.
+    /// `AllocError` if an allocation fails.
     pub fn new(alloc: Global, stream: F, slots: u32) -> Result<StreamSwap<F>, AllocError>
         ensures held { IfOk result (λ device. page_held device ≡ replicate slots []) }
         ensures writes { IfOk result (λ device. page_writes device ≡ 0) }

@@ -16,7 +16,7 @@ pub struct Written {
 }
 
 impl Written {
-    // These bytes, written.
+    /// Returns the digest of these bytes, as written.
     pub fn of(from: &[u8; 4096]) -> Written
         ensures { result.bytes.value ≡ from.now }
     {
@@ -26,7 +26,7 @@ impl Written {
         }
     }
 
-    // Whether these bytes have the digest of those that were written.
+    /// Tells whether these bytes have the digest of those that were written.
     pub fn fits(&self, bytes: &[u8; 4096]) -> bool
         ensures { IsTrue result ↔ (sha256 bytes.now ≡ sha256 self.now.bytes.value) }
     {

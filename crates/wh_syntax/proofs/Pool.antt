@@ -5,7 +5,7 @@ use Rattle.std.specs.List.{AllByRecursion}
 use Rattle.std.proofs.lemmas.List.{take-append-le, drop-append-le}
 use Rattle.std.proofs.Math.ListN.{get_or-append}
 use Rattle.wh_model.specs.Format.Syntax as model
-use Rattle.wh_model.specs.Format.Syntax.{single, br_table}
+use Rattle.wh_model.specs.Format.{single, br_table}
 use Rattle.wh_syntax.specs.declared.instr.Instr.{Instr}
 use Rattle.wh_syntax.specs.declared.instr.Instr.TheVariants.{BrTable}
 use Rattle.wh_syntax.specs.Shown.{instr_of, InPool}

@@ -10,7 +10,7 @@ use Rattle.wh_model.proofs.Nesting.{nested-expression}
 use Rattle.wh_syntax.specs.Shown.{instr_of}
 use Rattle.wh_syntax.specs.Laid.{laid_instr, labels_of, laid_instrs, laid_labels}
 
--- the element behind the first ones
+-- the element after the first ones
 index_at : (front : List ℕ) (x : ℕ) (back : List ℕ) (n : ℕ) → n ≡ length front → slice_index (front ++ x ∷ back) n ≡ x
 index_at front x back n e = rw e (get_or-append_seam front x back 0)
 

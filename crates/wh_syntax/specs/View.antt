@@ -1,4 +1,4 @@
--- Which abstract syntax (section 2 of the standard) decoded modules stand for.
+-- Which abstract syntax (section 2 of the standard) decoded modules represent.
 use Rattle.std.specs.Prelude.{map}
 use Rattle.std.specs.String.{string_bytes}
 use Rattle.wh_model.specs.Format.Syntax as model

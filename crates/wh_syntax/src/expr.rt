@@ -41,7 +41,7 @@ pub struct Flat<'a> {
 }
 
 impl Expr {
-    /// An expression from its instructions, which have to be those of a nested form, and the pool of labels.
+    /// Creates an expression from its instructions, which have to be those of a nested form, and the pool of labels.
     pub fn new(instrs: Vec<Instr>, labels: Vec<u32>) -> Expr
         requires nests { map (instr_of labels.items) instrs.items
             ≡ expression (nested (map (instr_of labels.items) instrs.items)) }
@@ -51,7 +51,7 @@ impl Expr {
         Expr { instrs, labels }
     }
 
-    /// The instructions in binary order.
+    /// Returns the instructions in binary order, and the pool of labels.
     pub fn flat(&self) -> Flat<'_>
         ensures instrs { map (instr_of result.labels.now) result.instrs.now ≡ expression self.now }
         ensures in_pool { AllByRecursion (InPool result.labels.now) result.instrs.now }

@@ -2,7 +2,7 @@
 
 use wh_model::{BinaryOp, CompareOp, ConvertOp, LoadOp, StoreOp, TestOp, UnaryOp, ValType};
 
-/// An instruction in binary order, with its immediates (5.4). It takes 16 bytes: the labels of a `br_table` lie in a
+/// An instruction in binary order, with its immediates (5.4). It takes 16 bytes: the labels of a `br_table` are in a
 /// pool of the expression.
 #[derive(Clone, Copy, Debug, PartialEq, Eq)]
 pub enum Instr {
@@ -24,11 +24,11 @@ pub enum Instr {
     Br(u32),
     /// `br_if`, with its label
     BrIf(u32),
-    /// `br_table`: `count` labels of the pool from `first` on, and behind them the default label
+    /// `br_table`: `count` labels of the pool from `first` on, and after them the default label
     BrTable {
         /// The place of the first label in the pool.
         first: u32,
-        /// How many labels there are beside the default one.
+        /// How many labels there are besides the default one.
         count: u32,
     },
     /// `return`

@@ -103,7 +103,7 @@ pub struct Data {
 /// What a function does (2.5.3).
 #[derive(Drop)]
 pub struct Body {
-    /// The types of its locals beside the parameters.
+    /// The types of its locals besides the parameters.
     pub locals: SmallVec<ValType, 8>,
     /// Its instructions.
     pub code: Expr,

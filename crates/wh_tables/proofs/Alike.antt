@@ -2,15 +2,13 @@
 use Rattle.std.proofs.Common.{◌≡◌, ℕ, ◌<◌, ◌≤◌, ◌==◌, inl, inr, cond, nat_lt, min, List, Option, Some, None, length, slice_get, get_or, zero, suc, refl, sym, ap, ◌∙◌, subst, arith}
 use Rattle.std.proofs.lemmas.Bool.Decides.{nat_tests}
 use Rattle.std.proofs.lemmas.Bool.{cases_lt}
-use Rattle.wh_host_model.specs.declared.states.Page.{Page}
-use Rattle.wh_host_model.specs.Space.States.{page_at}
-use Rattle.wh_host_model.specs.Space.Ready.{below}
+use Rattle.wh_space_model.specs.declared.states.Page.{Page}
+use Rattle.wh_space_model.specs.{page_at, below, active_in, before_in, charge_in, charged_in, standing_at, stands_on, touchers_in}
 use Rattle.wh_tables.specs.declared.page_id.PageId.{PageId}
-use Rattle.wh_host_model.specs.Space.Charges.{active_in, before_in, charge_in, charged_in, standing_at, stands_on, touchers_in}
 use Rattle.wh_tables.specs.PageLinks.{IsEarlierStop, IsStop, LeadsToNearest, Turned, stop_of}
 use Rattle.wh_tables.specs.Order.{AreLinked, ComesBefore, IsLower, IsInRange, StandsOn, first_of_ends, last_of_ends, next_in, next_of_link, prior_in, prior_of_link}
 use Rattle.wh_tables.specs.Index.{HaveOwnNumbers, Counted, IsIndexOf, IsMeasured, Marked, activity_in, counts_at, number_in}
-use Rattle.wh_host_model.proofs.Space.Changing.{below_each}
+use Rattle.wh_space_model.proofs.Changing.{below_each}
 use Rattle.wh_tables.proofs.Charging.{row_within, someone_stands}
 use Rattle.wh_tables.proofs.Walks.{leads_alike, stops_alike}
 

@@ -1,13 +1,11 @@
 -- What the index answers of a frame and of an instance.
 use Rattle.std.proofs.Common.{◌≡◌, ℕ, ◌+◌, ◌≤◌, ◌==◌, cond, min, List, [], Option, Some, None, IfSome, IfNone, length, get_or, sym, ◌∙◌, subst, arith}
 use Rattle.std.proofs.lemmas.Bool.Decides.{nat_tests}
-use Rattle.wh_host_model.specs.Frames.{one_if, tally}
-use Rattle.wh_host_model.specs.declared.states.Page.{Page}
-use Rattle.wh_host_model.specs.declared.states.Page.TheVariants.{Untouched, Private, Shared, Leaving, LeavingShared, Coming, Swapped}
-use Rattle.wh_host_model.specs.Space.Ready.{below}
-use Rattle.wh_host_model.proofs.Space.Sums.{below_le, below_one, below_tally, below_zero, tally_le, tally_ones}
+use Rattle.wh_space_model.specs.{one_if, tally, below, IsFirstOn, IsOnFrame, before_in, charge_in, charged_in, standing_at, stands_on}
+use Rattle.wh_space_model.specs.declared.states.Page.{Page}
+use Rattle.wh_space_model.specs.declared.states.Page.TheVariants.{Untouched, Private, Shared, Leaving, LeavingShared, Coming, Swapped}
+use Rattle.wh_space_model.proofs.Sums.{below_le, below_one, below_tally, below_zero, tally_le, tally_ones}
 use Rattle.wh_tables.specs.declared.page_id.PageId.{PageId}
-use Rattle.wh_host_model.specs.Space.Charges.{IsFirstOn, IsOnFrame, before_in, charge_in, charged_in, standing_at, stands_on}
 use Rattle.wh_tables.specs.Order.{Chains, ComesBefore, IsInOrder, StandsOn, next_in, prior_in}
 use Rattle.wh_tables.specs.PageLinks.{Turned}
 use Rattle.wh_tables.specs.Index.{number_in}

@@ -2,16 +2,14 @@
 use Rattle.std.proofs.Common.{◌≡◌, ◌≢◌, ℕ, ◌+◌, ◌<◌, ◌≤◌, ◌==◌, ◌++◌, ◌⊎◌, inl, inr, cond, nat_lt, min, Bool, true, false, List, [], ◌∷◌, None, length, replicate, slice_get, slice_set, get_or, zero, suc, refl, sym, ap, ◌∙◌, subst, arith, length-set, length-append}
 use Rattle.std.proofs.lemmas.Bool.Decides.{nat_tests}
 use Rattle.std.proofs.lemmas.Bool.{cases_lt}
-use Rattle.wh_host_model.specs.Frames.{tally}
-use Rattle.wh_host_model.specs.declared.states.Page.{Page}
-use Rattle.wh_host_model.specs.declared.states.Page.TheVariants.{Untouched}
-use Rattle.wh_host_model.specs.Space.Places.{with_row}
-use Rattle.wh_host_model.proofs.Space.Putting.{here_or, is_page}
+use Rattle.wh_space_model.specs.{tally, with_row, before_in, charge_in, standing_at, stands_on, touchers_in}
+use Rattle.wh_space_model.specs.declared.states.Page.{Page}
+use Rattle.wh_space_model.specs.declared.states.Page.TheVariants.{Untouched}
+use Rattle.wh_space_model.proofs.Putting.{here_or, is_page}
 use Rattle.wh_pages.specs.Table.{PageTableState}
 use Rattle.wh_tables.specs.declared.page_id.PageId.{PageId}
 use Rattle.wh_tables.specs.declared.order.Link.{Link}
 use Rattle.wh_tables.specs.declared.index.Counts.{Counts}
-use Rattle.wh_host_model.specs.Space.Charges.{before_in, charge_in, standing_at, stands_on, touchers_in}
 use Rattle.wh_tables.specs.Order.{StandsOn}
 use Rattle.wh_tables.specs.Index.{HaveOwnNumbers, Counted, IsIndexOf, Marked, activity_in, counts_at, number_in, with_newcomer}
 use Rattle.wh_tables.specs.Tables.{AreIndexed, limits_by_place, marked_of, marks_by_place, new_table, pages_by_place, tables_with}

@@ -2,16 +2,13 @@
 use Rattle.std.proofs.Common.{◌≡◌, ◌≢◌, ℕ, ◌+◌, ◌<◌, ◌≤◌, ◌==◌, inl, inr, cond, nat_lt, min, List, [], ◌∷◌, Option, Some, None, length, slice_get, get_or, zero, suc, refl, sym, ◌∙◌, subst, arith}
 use Rattle.std.proofs.lemmas.Bool.Decides.{nat_tests}
 use Rattle.std.proofs.lemmas.Bool.{cases_lt}
-use Rattle.wh_host_model.specs.Frames.{tally, one_if}
-use Rattle.wh_host_model.proofs.Tally.{one_same, one_other}
-use Rattle.wh_host_model.specs.declared.states.Page.{Page}
-use Rattle.wh_host_model.specs.declared.states.Page.TheVariants.{Untouched, Private, Shared, Leaving, LeavingShared, Coming, Swapped}
-use Rattle.wh_host_model.specs.Space.States.{at, page_at, count_of}
-use Rattle.wh_host_model.specs.Space.Ready.{below}
-use Rattle.wh_host_model.proofs.Space.Sums.{below_le, below_count}
-use Rattle.wh_host_model.proofs.Space.Putting.{here_or, is_page}
+use Rattle.wh_space_model.specs.{tally, one_if, at, page_at, count_of, below, IsFirstOn, active_in, before_in, charge_in, charged_in, standing_at, stands_on, touchers_in}
+use Rattle.wh_space_model.proofs.Tally.{one_same, one_other}
+use Rattle.wh_space_model.specs.declared.states.Page.{Page}
+use Rattle.wh_space_model.specs.declared.states.Page.TheVariants.{Untouched, Private, Shared, Leaving, LeavingShared, Coming, Swapped}
+use Rattle.wh_space_model.proofs.Sums.{below_le, below_count}
+use Rattle.wh_space_model.proofs.Putting.{here_or, is_page}
 use Rattle.wh_tables.specs.declared.page_id.PageId.{PageId}
-use Rattle.wh_host_model.specs.Space.Charges.{IsFirstOn, active_in, before_in, charge_in, charged_in, standing_at, stands_on, touchers_in}
 use Rattle.wh_tables.specs.Order.{Chains, ComesBefore, IsInOrder, StandsOn, next_in}
 use Rattle.wh_tables.specs.Index.{HaveOwnNumbers, Marked, activity_in, number_in, one_first}
 use Rattle.wh_tables.proofs.Stops.{lead_nearest, lead_there}

@@ -1,16 +1,16 @@
 -- The counts of instances and of frames, when one frame changes.
 use Rattle.std.proofs.Common.{◌≡◌, ◌≢◌, ℕ, ◌+◌, ◌<◌, ◌≤◌, ◌==◌, inl, inr, cond, nat_lt, IsTrue, List, [], ◌∷◌, Option, Some, None, IfSome, length, get_or, zero, suc, refl, sym, ap, ◌∙◌, subst, arith}
 use Rattle.std.proofs.lemmas.Bool.Decides.{nat_tests}
-use Rattle.wh_host_model.proofs.Tally.{one_same}
-use Rattle.wh_host_model.proofs.Space.Putting.{here_or}
+use Rattle.wh_space_model.proofs.Tally.{one_same}
+use Rattle.wh_space_model.proofs.Putting.{here_or}
 use Rattle.wh_tables.specs.declared.page_id.PageId.{PageId}
 use Rattle.wh_tables.specs.declared.index.Counts.{Counts}
-use Rattle.wh_host_model.specs.Space.Charges.{charge_in, touchers_in}
+use Rattle.wh_space_model.specs.{charge_in, touchers_in}
 use Rattle.wh_tables.specs.Order.{IsInOrder, StandsOn, next_in}
 use Rattle.wh_tables.specs.Index.{HaveOwnNumbers, Counted, CountsOneMore, HasCountsBut, IsIndexBut, IsIndexOf, IsMeasured, Marked, activity_in, counts_at, number_in, one_first}
 use Rattle.wh_tables.proofs.Chaining.{next_stop}
 use Rattle.wh_tables.proofs.Charging.{active_few, active_some, charge_is_first, charged_few, charged_some}
-use Rattle.wh_host_model.proofs.Space.Changing.{below_change}
+use Rattle.wh_space_model.proofs.Changing.{below_change}
 
 -- where a touched page stands on the frame
 some_touched : (touchers charge : ℕ) → cond (nat_lt 0 touchers) charge 0 ≡ cond (touchers == 0) 0 charge

@@ -1,6 +1,6 @@
 -- Pages that are looked for among those of an instance.
 use Rattle.std.proofs.Common.{◌≡◌, ◌∙◌, ℕ, ◌<◌, ◌≤◌, Bool, List, [], ◌∷◌, Option, Some, None, length, get_or, slice_get, zero, suc, sym, ap, arith}
-use Rattle.wh_host_model.specs.declared.states.Page.{Page}
+use Rattle.wh_space_model.specs.declared.states.Page.{Page}
 use Rattle.wh_pages.specs.Seeking.{IsFirstFrom, IsSought}
 use Rattle.wh_pages.specs.Table.{PageTableState}
 use Rattle.wh_tables.specs.Tables.{IsSoughtAt, marks_by_place, pages_by_place}

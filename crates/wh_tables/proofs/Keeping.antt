@@ -1,20 +1,17 @@
 -- The tables and their index, when one page is another one now.
 use Rattle.std.proofs.Common.{◌≡◌, ℕ, ◌<◌, inl, inr, cond, Bool, true, false, List, [], ◌∷◌, Option, Some, None, length, map, slice_get, slice_set, get_or, zero, suc, refl, sym, ap, ◌∙◌, subst, arith, length-set}
-use Rattle.wh_host_model.specs.Frames.{one_if}
-use Rattle.wh_host_model.specs.declared.states.Page.{Page}
-use Rattle.wh_host_model.specs.declared.states.Page.TheVariants.{Untouched, Private, Shared, Leaving, LeavingShared, Coming, Swapped}
-use Rattle.wh_host_model.specs.Space.Moves.{frame_of}
-use Rattle.wh_host_model.specs.Space.States.{page_at, put}
-use Rattle.wh_host_model.proofs.Tally.{one_same}
-use Rattle.wh_host_model.proofs.Space.Putting.{is_page}
+use Rattle.wh_space_model.specs.{one_if, frame_of, page_at, put, stands_on}
+use Rattle.wh_space_model.specs.declared.states.Page.{Page}
+use Rattle.wh_space_model.specs.declared.states.Page.TheVariants.{Untouched, Private, Shared, Leaving, LeavingShared, Coming, Swapped}
+use Rattle.wh_space_model.proofs.Tally.{one_same}
+use Rattle.wh_space_model.proofs.Putting.{is_page}
 use Rattle.wh_pages.specs.Table.{PageTableState}
 use Rattle.wh_tables.specs.declared.page_id.PageId.{PageId}
-use Rattle.wh_host_model.specs.Space.Charges.{stands_on}
 use Rattle.wh_tables.specs.Order.{Chains, IsAsLarge, IsInRange, StandsNowhere, StandsOn}
 use Rattle.wh_tables.specs.Index.{Counted, IsIndexOf, Marked, with_mark, with_page}
 use Rattle.wh_tables.specs.Tables.{AreIndexed, marked_of, marks_by_place, pages_by_place, tables_with}
 use Rattle.wh_tables.proofs.Alike.{index_alike}
-use Rattle.wh_host_model.proofs.Space.Changing.{standing_same}
+use Rattle.wh_space_model.proofs.Changing.{standing_same}
 use Rattle.wh_tables.proofs.InOrder.{same_id}
 use Rattle.wh_tables.proofs.Rows.{column_put}
 use Rattle.wh_tables.proofs.Settling.{apart_page, measured_page}

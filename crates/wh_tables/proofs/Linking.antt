@@ -87,7 +87,6 @@ link_taken On Before at k link link2 order leads mine prior to_k from same x (on
             there = λ y to. (let old = (leads k mine).there y (sym e ∙ to) in ((old.0, λ q. order.apart k (subst (λ w. Before k w) q old.1)), subst (λ w. Before w y) (sym here) (order.after at k y step.1 old.1)));
             nearest = λ z member less. (
                 let near = (leads at prior).nearest z member.0 (subst (λ w. Before w z) here less) in
-                let both : Some k ≡ Some near.0 = sym to_k ∙ near.1 in
                 let one : k ≡ near.0 = cc in
                 let behind : Before k z = elim (order.order k z) [ inl q ↦ absurd (member.1 (sym q)) | inr (inl l) ↦ l | inr (inr m) ↦ absurd (near.2 (subst (λ w. Before z w) one m)) ] in
                 let next = (leads k mine).nearest z member.0 behind in

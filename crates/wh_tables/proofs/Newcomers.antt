@@ -2,22 +2,19 @@
 use Rattle.std.proofs.Common.{◌≡◌, ◌≢◌, ℕ, ◌+◌, ◌<◌, ◌≤◌, ◌==◌, ◌++◌, ◌⊎◌, inl, inr, cond, Bool, true, false, List, [], ◌∷◌, Option, Some, None, length, map, replicate, slice_get, slice_set, get_or, zero, suc, refl, sym, ap, ◌∙◌, arith, length-set, length-append}
 use Rattle.std.proofs.lemmas.Bool.Decides.{nat_tests}
 use Rattle.std.proofs.lemmas.Bool.{cases_lt}
-use Rattle.wh_host_model.specs.Frames.{tally}
-use Rattle.wh_host_model.specs.declared.states.Page.{Page}
-use Rattle.wh_host_model.specs.declared.states.Page.TheVariants.{Untouched}
-use Rattle.wh_host_model.specs.Space.Moves.{frame_of}
-use Rattle.wh_host_model.specs.Space.States.{at, page_at, put}
-use Rattle.wh_host_model.proofs.Space.Putting.{here_or, put_other, put_this}
+use Rattle.wh_space_model.specs.{tally, frame_of, at, page_at, put, charge_in, charged_in, standing_at, stands_on, touched_on, touchers_in}
+use Rattle.wh_space_model.specs.declared.states.Page.{Page}
+use Rattle.wh_space_model.specs.declared.states.Page.TheVariants.{Untouched}
+use Rattle.wh_space_model.proofs.Putting.{here_or, put_other, put_this}
 use Rattle.wh_pages.specs.Table.{PageTableState}
 use Rattle.wh_tables.specs.declared.page_id.PageId.{PageId}
 use Rattle.wh_tables.specs.declared.index.Counts.{Counts}
-use Rattle.wh_host_model.specs.Space.Charges.{charge_in, charged_in, standing_at, stands_on, touched_on, touchers_in}
 use Rattle.wh_tables.specs.PageLinks.{IsEarlierStop, IsStop, LeadsToNearest, stop_of}
 use Rattle.wh_tables.specs.Order.{StandsOn, next_in, prior_in}
 use Rattle.wh_tables.specs.Index.{HaveOwnNumbers, Counted, IsIndexOf, IsMeasured, Marked, activity_in, counts_at, empty_index, number_in, without_active}
 use Rattle.wh_tables.specs.Tables.{AreIndexed, limits_by_place, marked_of, marks_by_place, pages_by_place, tables_with, without_marks, without_touched}
 use Rattle.wh_tables.proofs.Alike.{below_support, index_alike}
-use Rattle.wh_host_model.proofs.Space.Changing.{below_each}
+use Rattle.wh_space_model.proofs.Changing.{below_each}
 use Rattle.wh_tables.proofs.Charging.{all_none}
 use Rattle.wh_tables.proofs.Keeping.{column_at, column_stays, frame_nowhere, long_map}
 use Rattle.wh_tables.proofs.Rows.{map_set}

@@ -1,7 +1,7 @@
 -- One link of many is another now.
 use Rattle.std.proofs.Common.{◌≡◌, ◌≢◌, ℕ, inl, inr, List, [], ◌∷◌, Option, Some, None, length, slice_get, get_or, zero, suc, refl, sym, ap, ◌∙◌, length-set}
-use Rattle.wh_host_model.specs.Space.States.{page_at, put}
-use Rattle.wh_host_model.proofs.Space.Putting.{here_or, put_other, put_other_row, put_this}
+use Rattle.wh_space_model.specs.{page_at, put}
+use Rattle.wh_space_model.proofs.Putting.{here_or, put_other, put_other_row, put_this}
 use Rattle.wh_tables.specs.declared.page_id.PageId.{PageId}
 use Rattle.wh_tables.specs.declared.order.Link.{Link}
 use Rattle.wh_tables.proofs.InOrder.{same_id}

@@ -3,8 +3,7 @@ use Rattle.std.proofs.Common.{◌≡◌, ℕ, ◌<◌, ◌++◌, cond, nat_lt, B
 use Rattle.std.proofs.lemmas.List.{length-map}
 use Rattle.std.specs.Global.{Vec as Items}
 use Rattle.std.specs.Vec.{with_item}
-use Rattle.wh_host_model.specs.Space.Places.{with_row}
-use Rattle.wh_host_model.specs.Space.States.{page_at, put}
+use Rattle.wh_space_model.specs.{with_row, page_at, put}
 use Rattle.wh_tables.specs.declared.page_id.PageId.{PageId}
 use Rattle.wh_tables.specs.declared.order.Link.{Link}
 use Rattle.wh_tables.specs.declared.order.Ends.{Ends}

@@ -1,6 +1,6 @@
 -- A walk back along the links of a frame, to what comes before a page.
 use Rattle.std.proofs.Common.{◌≡◌, ℕ, ◌<◌, inl, inr, List, Option, Some, None, IfSome, subst, arith}
-use Rattle.wh_host_model.specs.declared.states.Page.{Page}
+use Rattle.wh_space_model.specs.declared.states.Page.{Page}
 use Rattle.wh_tables.specs.declared.page_id.PageId.{PageId}
 use Rattle.wh_tables.specs.PageLinks.{IsEarlierStop, Turned}
 use Rattle.wh_tables.specs.Order.{Chains, ComesBefore, IsInOrder, StandsOn, prior_in}

@@ -1,14 +1,13 @@
 -- The index but for one frame, when a page leaves it, comes to it, is marked there, or isn't any more.
 use Rattle.std.proofs.Common.{◌≡◌, ◌≢◌, ℕ, ◌+◌, ◌-◌, ◌<◌, ◌≤◌, inl, inr, cond, Bool, true, false, List, [], ◌∷◌, Some, length, slice_set, get_or, zero, suc, refl, sym, ap, ◌∙◌, subst, arith, length-set}
-use Rattle.wh_host_model.proofs.Space.Putting.{here_or}
-use Rattle.wh_host_model.specs.declared.states.Page.{Page}
-use Rattle.wh_host_model.specs.declared.states.Page.TheVariants.{Untouched}
-use Rattle.wh_host_model.specs.Space.States.{page_at, put}
+use Rattle.wh_space_model.proofs.Putting.{here_or}
+use Rattle.wh_space_model.specs.declared.states.Page.{Page}
+use Rattle.wh_space_model.specs.declared.states.Page.TheVariants.{Untouched}
+use Rattle.wh_space_model.specs.{page_at, put, stands_on}
 use Rattle.wh_tables.specs.declared.page_id.PageId.{PageId}
-use Rattle.wh_host_model.specs.Space.Charges.{stands_on}
 use Rattle.wh_tables.specs.Order.{Chains, IsAsLarge, IsInOrder}
 use Rattle.wh_tables.specs.Index.{HaveOwnNumbers, Counted, HoldsOff, HoldsOn, IsIndexBut, IsIndexOf, IsMeasured, Marked, number_in, one_if_touched, with_mark, with_page}
-use Rattle.wh_host_model.proofs.Space.Changing.{charge_same}
+use Rattle.wh_space_model.proofs.Changing.{charge_same}
 use Rattle.wh_tables.proofs.Charging.{on_once}
 use Rattle.wh_tables.proofs.Counting.{but_changes}
 use Rattle.wh_tables.proofs.Relinking.{put_lengths}

@@ -1,13 +1,11 @@
 -- On which frame a page stands: on one at most, and what one page that is another one now changes of that.
 use Rattle.std.proofs.Common.{◌≡◌, ◌≢◌, ℕ, inl, inr, List, Option, Some, None, refl, sym, ap, ◌∙◌, subst, arith}
-use Rattle.wh_host_model.specs.Frames.{one_if}
-use Rattle.wh_host_model.proofs.Tally.{one_other}
-use Rattle.wh_host_model.specs.declared.states.Page.{Page}
-use Rattle.wh_host_model.specs.declared.states.Page.TheVariants.{Untouched, Private, Shared, Leaving, LeavingShared, Coming, Swapped}
-use Rattle.wh_host_model.specs.Space.States.{at, page_at, put}
-use Rattle.wh_host_model.proofs.Space.Putting.{here_or, put_this}
+use Rattle.wh_space_model.specs.{one_if, at, page_at, put, stands_on}
+use Rattle.wh_space_model.proofs.Tally.{one_other}
+use Rattle.wh_space_model.specs.declared.states.Page.{Page}
+use Rattle.wh_space_model.specs.declared.states.Page.TheVariants.{Untouched, Private, Shared, Leaving, LeavingShared, Coming, Swapped}
+use Rattle.wh_space_model.proofs.Putting.{here_or, put_this}
 use Rattle.wh_tables.specs.declared.page_id.PageId.{PageId}
-use Rattle.wh_host_model.specs.Space.Charges.{stands_on}
 use Rattle.wh_tables.specs.Order.{StandsOn}
 use Rattle.wh_tables.proofs.Relinking.{put_elsewhere}
 
@@ -35,7 +33,6 @@ pub one_frame_of : (pages : List (List Page)) (f g : ℕ) (id : PageId) → Stan
 one_frame_of pages f g id here there =
     let a = page_of_standing pages f id here in
     let b = page_of_standing pages g id there in
-    let both : Some a.0 ≡ Some b.0 = sym a.1 ∙ b.1 in
     let e : a.0 ≡ b.0 = cc in
     one_frame f g a.0 a.2 (subst (λ (x : Page). stands_on g x ≡ 1) (sym e) b.2)
 

@@ -71,7 +71,6 @@ meet On Before there back order leads returns None stop (Some n) to (Some b) is 
     let mine = lead_there On Before None (there None) n (leads None tt) to in
     let on = lead_there On (Turned Before) (Some n) (back (Some n)) b (returns (Some n) mine.0) is in
     let near = lead_nearest On Before None (there None) b (leads None tt) on.0 tt in
-    let both : Some n ≡ Some near.0 = sym to ∙ near.1 in
     let e : n ≡ near.0 = cc in
     absurd (near.2 (subst (λ w. Before b w) e on.1))
 meet On Before there back order leads returns (Some a) stop None to None is =
@@ -80,7 +79,6 @@ meet On Before there back order leads returns (Some a) stop None to None is =
 meet On Before there back order leads returns (Some a) stop None to (Some b) is =
     let on = lead_there On (Turned Before) None (back None) b (returns None tt) is in
     let near = lead_nearest On (Turned Before) None (back None) a (returns None tt) stop tt in
-    let both : Some b ≡ Some near.0 = sym is ∙ near.1 in
     let e : b ≡ near.0 = cc in
     elim (order.order a b) [
       | inl same ↦ ap Some same
@@ -95,13 +93,11 @@ meet On Before there back order leads returns (Some a) stop (Some n) to (Some b)
     let mine = lead_there On Before (Some a) (there (Some a)) n (leads (Some a) stop) to in
     let on = lead_there On (Turned Before) (Some n) (back (Some n)) b (returns (Some n) mine.0) is in
     let near = lead_nearest On (Turned Before) (Some n) (back (Some n)) a (returns (Some n) mine.0) stop mine.1 in
-    let both : Some b ≡ Some near.0 = sym is ∙ near.1 in
     let e : b ≡ near.0 = cc in
     elim (order.order a b) [
       | inl same ↦ ap Some same
       | inr (inl less) ↦ absurd (
           let far = lead_nearest On Before (Some a) (there (Some a)) b (leads (Some a) stop) on.0 less in
-          let one : Some n ≡ Some far.0 = sym to ∙ far.1 in
           let f : n ≡ far.0 = cc in
           far.2 (subst (λ w. Before b w) f on.1))
       | inr (inr more) ↦ absurd (near.2 (subst (λ w. Before w a) e more))

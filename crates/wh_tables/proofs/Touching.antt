@@ -1,11 +1,9 @@
 -- How many touched pages stand on a frame, when one page or one mark is another one now.
 use Rattle.std.proofs.Common.{◌≡◌, ℕ, ◌+◌, ◌*◌, ◌<◌, ◌≤◌, cond, Bool, true, false, List, [], ◌∷◌, Some, length, slice_get, slice_set, get_or, zero, suc, refl, ap, arith, length-set}
-use Rattle.wh_host_model.specs.declared.states.Page.{Page}
-use Rattle.wh_host_model.specs.Space.States.{page_at, put}
-use Rattle.wh_host_model.specs.Space.Ready.{below}
-use Rattle.wh_host_model.proofs.Space.Putting.{is_page, put_other_row}
-use Rattle.wh_host_model.specs.Space.Charges.{stands_on, touched_on, touchers_in}
-use Rattle.wh_host_model.proofs.Space.Changing.{below_change}
+use Rattle.wh_space_model.specs.declared.states.Page.{Page}
+use Rattle.wh_space_model.specs.{page_at, put, below, stands_on, touched_on, touchers_in}
+use Rattle.wh_space_model.proofs.Putting.{is_page, put_other_row}
+use Rattle.wh_space_model.proofs.Changing.{below_change}
 
 row_of_put : {X : Type 0} (xss : List (List X)) (i p : ℕ) (x : X) → i < length xss → get_or (put xss i p x) i [] ≡ slice_set (get_or xss i []) p x
 row_of_put [] i p x within = absurd (omega arith)

@@ -1,11 +1,10 @@
 -- The links of all frames, when a page leaves its frame and when one comes to a frame.
 use Rattle.std.proofs.Common.{◌≡◌, ◌≢◌, ℕ, ◌⊎◌, inl, inr, List, Option, Some, None, refl, sym, ap, ◌∙◌, subst, arith}
-use Rattle.wh_host_model.specs.declared.states.Page.{Page}
-use Rattle.wh_host_model.specs.declared.states.Page.TheVariants.{Untouched}
-use Rattle.wh_host_model.specs.Space.States.{page_at, put}
-use Rattle.wh_host_model.proofs.Space.Putting.{here_or}
+use Rattle.wh_space_model.specs.declared.states.Page.{Page}
+use Rattle.wh_space_model.specs.declared.states.Page.TheVariants.{Untouched}
+use Rattle.wh_space_model.specs.{page_at, put, stands_on}
+use Rattle.wh_space_model.proofs.Putting.{here_or}
 use Rattle.wh_tables.specs.declared.page_id.PageId.{PageId}
-use Rattle.wh_host_model.specs.Space.Charges.{stands_on}
 use Rattle.wh_tables.specs.PageLinks.{IsEarlierStop, IsStop, LeadsToNearest, stop_of}
 use Rattle.wh_tables.specs.Order.{AreLinked, IsElsewhere, IsRelinked, StandsOn}
 use Rattle.wh_tables.proofs.Linking.{ButNot, IsBehind, IsOrder, OrIs, link_put, link_taken}

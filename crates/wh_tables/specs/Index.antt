@@ -1,14 +1,14 @@
--- The index of all frames: which pages stand on each, in order; how many frames are charged to each instance; and how many
--- touched pages stand on each frame.
+-- The index of all frames: which pages map to each, in order; how many frames are charged to each instance; and how many touched
+-- pages map to each frame.
 use Rattle.std.specs.Prelude.{ℕ, ◌≡◌, ◌+◌, ◌<◌, ◌≤◌, ◌^◌, ◌==◌, cond, Bool, List, [], Option, Some, None, length, replicate, get_or}
-use Rattle.wh_host_model.specs.Frames.{one_if}
-use Rattle.wh_host_model.specs.declared.states.Page.{Page}
-use Rattle.wh_host_model.specs.Space.Places.{with_row}
-use Rattle.wh_host_model.specs.Space.States.{page_at, put}
+use Rattle.wh_space_model.specs.Frames.{one_if}
+use Rattle.wh_space_model.specs.declared.states.Page.{Page}
+use Rattle.wh_space_model.specs.Places.{with_row}
+use Rattle.wh_space_model.specs.States.{page_at, put}
 use Rattle.wh_tables.specs.declared.page_id.PageId.{PageId}
 use Rattle.wh_tables.specs.declared.index.Counts.{Counts}
 use Rattle.wh_tables.specs.declared.index.Index.TheInside.{Inside}
-use Rattle.wh_host_model.specs.Space.Charges.{active_in, charge_in, charged_in, touchers_in}
+use Rattle.wh_space_model.specs.Charges.{active_in, charge_in, charged_in, touchers_in}
 use Rattle.wh_tables.specs.Order.{Chains, IsInOrder, StandsNowhere, StandsOn}
 
 pub record Counted : Type 0 where
@@ -37,7 +37,7 @@ HaveOwnNumbers numbers pages =
     (i j : ℕ) → 1 ≤ length (get_or pages i []) → 1 ≤ length (get_or pages j [])
     → number_in numbers i ≡ number_in numbers j → i ≡ j
 
--- 1 where the frame is charged to the instance and a touched page stands on it
+-- 1 where the frame is charged to the instance and a touched page maps to it
 abbrev pub activity_in : (ℕ → ℕ) → Marked → ℕ → ℕ → ℕ
 activity_in number m i f = cond (touchers_in m.pages m.marks f == 0) 0 (charge_in number m.pages i f)
 
@@ -93,7 +93,7 @@ pub record CountsOneMore (first : Option PageId) (touched : Bool) (counts counts
   pub charged : (i : ℕ) → (counts_at counts2 i).charged ≡ (counts_at counts i).charged + one_first first i
   pub active : (i : ℕ) → (counts_at counts2 i).active ≡ (counts_at counts i).active + cond touched (one_first first i) 0
 
--- Page id stands on frame f, with this mark; or this page stands there, on no frame.
+-- Page id maps to frame f, with this mark; or this page is there, on no frame.
 pub record HoldsOn (x : Counted) (m : Marked) (f : ℕ) (id : PageId) (touched : Bool) : Type 0 where
   pub index : IsIndexOf x m
   pub on : StandsOn m.pages f id
@@ -112,7 +112,7 @@ with_page m id page = record m { pages = put m.pages id.place id.page page }
 abbrev pub with_mark : Marked → PageId → Bool → Marked
 with_mark m id touched = record m { marks = put m.marks id.place id.page touched }
 
--- an index of so many frames, with nobody there
+-- an index of `frames` frames, with nobody there
 abbrev pub empty_index : ℕ → Counted
 empty_index frames = record {
   chains = record { numbers = []; links = []; ends = replicate frames (record { first = None; last = None }) };
@@ -120,7 +120,7 @@ empty_index frames = record {
   touchers = replicate frames 0;
 }
 
--- with an instance more, at a place, with links for so many pages
+-- with an instance more, at a place, with links for `pages` pages
 abbrev pub with_newcomer : Counted → ℕ → ℕ → ℕ → Counted
 with_newcomer x place number pages = record x {
   chains = record x.chains {

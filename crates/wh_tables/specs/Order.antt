@@ -1,13 +1,13 @@
 -- The pages on each frame in order, and what leads from one to the next.
 use Rattle.std.specs.Prelude.{ℕ, ◌≡◌, ◌<◌, ◌≢◌, ◌⊎◌, List, [], Option, Some, None, length, map, get_or, slice_get}
 use Rattle.std.specs.Global.{Vec as Items}
-use Rattle.wh_host_model.specs.declared.states.Page.{Page}
-use Rattle.wh_host_model.specs.Space.States.{page_at}
+use Rattle.wh_space_model.specs.declared.states.Page.{Page}
+use Rattle.wh_space_model.specs.States.{page_at}
 use Rattle.wh_tables.specs.declared.page_id.PageId.{PageId}
 use Rattle.wh_tables.specs.declared.order.Link.{Link}
 use Rattle.wh_tables.specs.declared.order.Ends.{Ends}
 use Rattle.wh_tables.specs.declared.order.PageOrder.TheInside.{Inside}
-use Rattle.wh_host_model.specs.Space.Charges.{IsOnFrame, stands_on}
+use Rattle.wh_space_model.specs.Charges.{IsOnFrame, stands_on}
 use Rattle.wh_tables.specs.Line.{IsLineOf}
 use Rattle.wh_tables.specs.PageLinks.{IsEarlierStop, IsStop, LeadsToNearest, Turned, stop_of}
 
@@ -37,11 +37,11 @@ abbrev pub ComesBefore : List ℕ → PageId → PageId → Type 0
 ComesBefore numbers a b =
     IsLower (get_or numbers a.place 0) (get_or numbers b.place 0) (IsLower a.place b.place (a.page < b.page))
 
--- the page stands on frame f
+-- the page maps to frame f
 abbrev pub StandsOn : List (List Page) → ℕ → PageId → Type 0
 StandsOn pages f id = IsOnFrame pages id.place id.page f
 
--- it stands on no frame
+-- it isn't resident
 abbrev pub StandsNowhere : Page → Type 0
 StandsNowhere page = (f : ℕ) → stands_on f page ≡ 0
 
@@ -100,7 +100,7 @@ pub record IsRelinked (link link2 : ℕ → Option PageId → Option PageId) (f 
   pub here : link2 f at ≡ to
   pub others : (g : ℕ) (other : Option PageId) → IsElsewhere f at g other → link2 g other ≡ link g other
 
--- so many as before
+-- as many as before
 pub record IsAsLarge (c c2 : Chains) : Type 0 where
   pub numbers : c2.numbers ≡ c.numbers
   pub ends : length c2.ends ≡ length c.ends
@@ -117,8 +117,7 @@ pub record HasPrior (c : Chains) (f : ℕ) (at to : Option PageId) (c2 : Chains)
   pub prior : IsRelinked (prior_in c) (prior_in c2) f at to
   pub next : (g : ℕ) (other : Option PageId) → next_in c2 g other ≡ next_in c g other
 
--- on frame f, behind this stop, there is place for a page that isn't there: the stop comes before it, and the next page
--- doesn't
+-- on frame f, after this stop, there is place for a page that isn't there: the stop comes before it, and the next page doesn't
 pub record ComesBehind (c : Chains) (pages : List (List Page)) (f : ℕ) (at : Option PageId) (id : PageId) : Type 0 where
   pub on : IsStop (StandsOn pages f) at
   pub before : IsEarlierStop (ComesBefore c.numbers) at (Some id)

@@ -1,8 +1,8 @@
 -- The page tables of all instances, by place.
 use Rattle.std.specs.Prelude.{ℕ, ◌≡◌, ◌≢◌, ◌≤◌, Bool, true, false, List, [], Some, length, map, replicate, get_or}
-use Rattle.wh_host_model.specs.Space.States.{page_at, resident}
-use Rattle.wh_host_model.specs.declared.states.Page.{Page}
-use Rattle.wh_host_model.specs.declared.states.Page.TheVariants.{Untouched}
+use Rattle.wh_space_model.specs.States.{page_at, resident}
+use Rattle.wh_space_model.specs.declared.states.Page.{Page}
+use Rattle.wh_space_model.specs.declared.states.Page.TheVariants.{Untouched}
 use Rattle.wh_pages.specs.Table.{PageTableState}
 use Rattle.wh_tables.specs.declared.tables.Tables.TheInside.{Inside}
 use Rattle.wh_tables.specs.Index.{Counted, IsIndexOf, Marked}
@@ -47,7 +47,7 @@ without_marks marks = map (map (λ mark. false)) marks
 abbrev pub without_touched : PageTableState → PageTableState
 without_touched table = record table { touched = replicate (length table.pages) false }
 
--- a table of so many untouched pages, of as many as there may be
+-- a table of `pages` untouched pages, of as many as there may be
 abbrev pub new_table : ℕ → ℕ → PageTableState
 new_table pages max = record { pages = replicate pages Untouched; touched = replicate pages false; max = max }
 
@@ -63,8 +63,7 @@ pub record AreIndexed (tables : List PageTableState) (x : Counted) : Type 0 wher
 abbrev pub IsTables : Inside → Type 0
 IsTables a = AreIndexed a.tables.items a.index
 
--- Page p of the instance at place i stands on a frame; if idle ones alone are looked for, it wasn't touched in this
--- epoch.
+-- Page p of the instance at place i is resident; if idle ones alone are looked for, it wasn't touched in this epoch.
 pub record IsSoughtAt (pages : List (List Page)) (marks : List (List Bool)) (i : ℕ) (idle : Bool) (p : ℕ) : Type 0 where
   pub page : Page
   pub there : page_at pages i p ≡ Some page

@@ -1,9 +1,9 @@
-// The index of all frames: who stands on each, to whom it is charged, and how many touched pages stand there.
+// The index of all frames: which pages map to each, to whom it is charged, and how many touched pages map to it.
 
 ghost use Rattle.std.specs.Prelude.{ℕ, ◌≡◌, ◌+◌, ◌-◌, ◌<◌, ◌≤◌, ◌^◌, true, false, Some, None, IfOk, IfSome, IsTrue, OnErr, OnOk, length, map, replicate, get_or, slice_set};
-ghost use Rattle.wh_host_model.specs.declared.states.Page.{Page};
-ghost use Rattle.wh_host_model.specs.declared.states.Page.TheVariants.{Untouched};
-ghost use Rattle.wh_host_model.specs.Space.Charges.{stands_on};
+ghost use Rattle.wh_space_model.specs.declared.states.Page.{Page};
+ghost use Rattle.wh_space_model.specs.declared.states.Page.TheVariants.{Untouched};
+ghost use Rattle.wh_space_model.specs.Charges.{stands_on};
 ghost use Rattle.wh_tables.specs.Index.{CountsOneMore, HoldsOff, HoldsOn, IsIndexBut, IsIndexOf, Marked, counts_at, empty_index, one_if_touched, with_newcomer, without_active, with_mark, with_page};
 ghost use Rattle.wh_tables.specs.Line.{IsLineOf};
 ghost use Rattle.wh_tables.specs.Order.{HasLinks, IsAsLarge, IsInRange, next_in, prior_in};
@@ -12,7 +12,7 @@ use crate::order::{PageOrder, put_row};
 use crate::page_id::PageId;
 use std::alloc::{AllocError, Global};
 use std::marker::Model;
-use wh_host_model::InstId;
+use wh_space_model::InstId;
 
 // How many frames are charged to an instance, and on how many of these a touched page stands.
 #[derive(Clone, Copy)]
@@ -26,7 +26,7 @@ pub struct Index {
     order: PageOrder,
     // By place.
     counts: Vec<Counts>,
-    // By frame, how many touched pages stand on it.
+    // By frame, how many touched pages map to it.
     touchers: Vec<u64>,
 }
 
@@ -132,7 +132,7 @@ impl Index {
         count(&mut self.counts, self.order.next(frame, None), touchers > 0);
     }
 
-    // A page leaves the frame on which it stands.
+    /// Takes a page off the frame to which it maps.
     pub fn leave(&mut self, frame: u32, id: PageId, touched: bool)
         requires { (held : Marked) × HoldsOn self.old held frame id touched }
         ensures index { (held : Marked) → HoldsOn self.old held frame id touched
@@ -145,7 +145,7 @@ impl Index {
         self.take_back(frame);
     }
 
-    // A page comes to a frame.
+    /// Maps a page to a frame.
     pub fn come(&mut self, frame: u32, id: PageId, touched: bool)
         requires held { (held : Marked) × (was : Page) × (page : Page)
             × HoldsOff self.old held id was touched × (stands_on frame page ≡ 1) }
@@ -160,7 +160,7 @@ impl Index {
         self.take_back(frame);
     }
 
-    // A page that stands on a frame is touched, and wasn't.
+    /// Marks a resident page as touched, which it wasn't.
     pub fn mark(&mut self, frame: u32, id: PageId)
         requires { (held : Marked) × HoldsOn self.old held frame id false }
         ensures index { (held : Marked) → HoldsOn self.old held frame id false
@@ -172,7 +172,7 @@ impl Index {
         self.take_back(frame);
     }
 
-    // A page that stands on a frame isn't touched any more.
+    /// Clears the mark of touch of a resident page, which had it.
     pub fn unmark(&mut self, frame: u32, id: PageId)
         requires { (held : Marked) × HoldsOn self.old held frame id true }
         ensures index { (held : Marked) → HoldsOn self.old held frame id true
@@ -184,7 +184,7 @@ impl Index {
         self.take_back(frame);
     }
 
-    // Nobody is there, and no page stands on any of so many frames.
+    /// Creates the index of no instance, in which no page maps to any of `frames` frames.
     pub fn new(alloc: Global, frames: u32) -> Result<Index, AllocError>
         ensures { IfOk result (λ index. index ≡ empty_index frames) }
     {
@@ -197,8 +197,8 @@ impl Index {
         })
     }
 
-    // An instance with this number comes to a place, or to the next one behind all, with links for so many pages. Where
-    // room is refused nothing is done.
+    /// Gives an instance of this number a place, or the next one after all, with links for `pages` pages. Changes
+    /// nothing if an allocation fails.
     pub fn enter(
         &mut self,
         alloc: Global,
@@ -222,7 +222,7 @@ impl Index {
         Ok(())
     }
 
-    // The first page on a frame.
+    /// Returns the first page on a frame.
     pub fn first(&self, frame: u32) -> Option<PageId>
         requires { frame < length self.now.chains.ends }
         ensures { result ≡ next_in self.now.chains frame None }
@@ -230,7 +230,7 @@ impl Index {
         self.order.next(frame, None)
     }
 
-    // The page on a frame that is the last one before a stop there, or the last of all.
+    /// Returns the page on a frame before this one there, or the last of all.
     pub fn prior(&self, frame: u32, at: Option<PageId>) -> Option<PageId>
         requires { HasLinks self.now.chains frame at }
         ensures page { result ≡ prior_in self.now.chains frame at }
@@ -239,14 +239,15 @@ impl Index {
         self.order.prior(frame, at)
     }
 
-    // Whoever came last to each place, in the order of numbers.
+    /// Returns who came last to each place, in the order of numbers.
     pub fn line(&self) -> &[InstId]
         ensures { IsLineOf self.now.chains.numbers result.now }
     {
         self.order.line()
     }
 
-    // How many frames are charged to the instance at a place, and on how many of these a touched page stands.
+    /// Returns the number of frames that are charged to the instance at this place, and on how many of these a page was
+    /// touched.
     pub fn counts(&self, place: usize) -> Counts
         ensures { result ≡ counts_at self.now.counts place }
     {
@@ -260,7 +261,7 @@ impl Index {
         }
     }
 
-    // How many touched pages stand on a frame.
+    /// Returns the number of touched pages on a frame.
     pub fn touchers(&self, frame: u32) -> u64
         requires { frame < length self.now.touchers }
         ensures { result ≡ get_or self.now.touchers frame 0 }
@@ -268,7 +269,7 @@ impl Index {
         self.touchers[frame as usize]
     }
 
-    // No page is touched any more.
+    /// Clears all marks of touch.
     pub fn clear_marks(&mut self)
         ensures { self.new ≡ record self.old {
           counts = map without_active self.old.counts;

@@ -3,13 +3,13 @@
 ghost use Rattle.std.specs.Prelude.{ℕ, ◌<◌, ◌≤◌, ◌≡◌, ◌==◌, List, not, length, vec_len, vec_capacity};
 ghost use Rattle.std.specs.List.{filter};
 ghost use Rattle.std.specs.List.Sorted.{IsNonDecreasingBy, IsPartitionPoint};
-ghost use Rattle.wh_host_model.specs.Space.Places.{with_row};
-ghost use Rattle.wh_host_model.specs.declared.plain.InstId.{InstId};
+ghost use Rattle.wh_space_model.specs.Places.{with_row};
+ghost use Rattle.wh_space_model.specs.declared.plain.InstId.{InstId};
 ghost use Rattle.wh_tables.specs.Line.{IsLineOf};
 
-use wh_host_model::InstId;
+use wh_space_model::InstId;
 
-// How many stand in the line with numbers up to this one.
+/// Returns how many of the line have numbers up to this one.
 pub fn rank_above(line: &[InstId], number: u64) -> usize
     requires { IsNonDecreasingBy (λ (id : InstId). id.number) line.now }
     ensures within { result ≤ length line.now }
@@ -28,7 +28,7 @@ fn leave_line(line: &mut Vec<InstId>, place: usize)
     line.retain(|id| id.place != place);
 }
 
-// A newcomer joins the line behind all with numbers up to its own. Whoever was at its place leaves it.
+/// Inserts a newcomer into the line, after all with numbers up to its own. Removes who was at its place.
 pub fn join_line(line: &mut Vec<InstId>, newcomer: InstId)
     requires line { (numbers : List ℕ) × IsLineOf numbers line.old.items }
     requires room { vec_len line.old < vec_capacity line.old }

@@ -1,11 +1,11 @@
 // The pages on each frame, in order.
 
 ghost use Rattle.std.specs.Prelude.{ℕ, ◌≡◌, ◌<◌, ◌≤◌, ◌^◌, List, [], Some, None, IfOk, IfSome, MatchBool, OnErr, OnOk, length, replicate, get_or, slice_get, vec_len, vec_capacity};
-ghost use Rattle.wh_host_model.specs.Space.Places.{with_row};
-ghost use Rattle.wh_host_model.specs.Space.States.{page_at, put};
-ghost use Rattle.wh_host_model.specs.declared.states.Page.{Page};
-ghost use Rattle.wh_host_model.specs.declared.states.Page.TheVariants.{Untouched};
-ghost use Rattle.wh_host_model.specs.Space.Charges.{stands_on};
+ghost use Rattle.wh_space_model.specs.Places.{with_row};
+ghost use Rattle.wh_space_model.specs.States.{page_at, put};
+ghost use Rattle.wh_space_model.specs.declared.states.Page.{Page};
+ghost use Rattle.wh_space_model.specs.declared.states.Page.TheVariants.{Untouched};
+ghost use Rattle.wh_space_model.specs.Charges.{stands_on};
 ghost use Rattle.wh_tables.specs.Line.{IsLineOf};
 ghost use Rattle.wh_tables.specs.Order.{ComesBefore, ComesBehind, HasLinks, HasNext, HasPrior, IsAsLarge, IsInOrder, IsInRange, StandsNowhere, StandsOn, next_in, prior_in};
 
@@ -13,7 +13,7 @@ use crate::line::join_line;
 use crate::page_id::PageId;
 use std::alloc::{AllocError, Global};
 use std::marker::Model;
-use wh_host_model::InstId;
+use wh_space_model::InstId;
 
 // What leads from a page on a frame to those beside it there: to the next one, and to the one before.
 #[derive(Clone, Copy)]
@@ -52,7 +52,7 @@ impl Model for PageOrder {
     ghost invariant = { IsOrdered };
 }
 
-// Puts a row at a place, which may be the next one.
+/// Writes a row at a place, which may be the next one.
 pub fn put_row<T: Drop>(rows: &mut Vec<T>, place: usize, row: T)
     requires place { place ≤ length rows.old.items }
     requires room { vec_len rows.old < vec_capacity rows.old }
@@ -66,7 +66,7 @@ pub fn put_row<T: Drop>(rows: &mut Vec<T>, place: usize, row: T)
 }
 
 impl PageOrder {
-    // Nobody is there, and no page stands on any of so many frames.
+    /// Creates the order of no instance, in which no page maps to any of `frames` frames.
     pub fn new(alloc: Global, frames: u32) -> Result<PageOrder, AllocError>
         ensures { IfOk result (λ order. order ≡ record {
           numbers = [];
@@ -87,8 +87,8 @@ impl PageOrder {
         })
     }
 
-    // An instance with this number comes to a place, or to the next one behind all, with links for so many pages. Where
-    // room is refused nothing is done.
+    /// Gives an instance of this number a place, or the next one after all, with links for `pages` pages. Changes
+    /// nothing if an allocation fails.
     pub fn enter(
         &mut self,
         alloc: Global,
@@ -118,7 +118,7 @@ impl PageOrder {
         Ok(())
     }
 
-    // Whoever came last to each place, in the order of numbers.
+    /// Returns who came last to each place, in the order of numbers.
     pub fn line(&self) -> &[InstId]
         ensures { IsLineOf self.now.numbers result.now }
     {
@@ -142,7 +142,7 @@ impl PageOrder {
         self.ends[frame as usize]
     }
 
-    // The page on a frame to which the links lead from a stop there.
+    /// Returns the page on a frame after this one there, or the first of all.
     pub fn next(&self, frame: u32, at: Option<PageId>) -> Option<PageId>
         requires { HasLinks self.now frame at }
         ensures { result ≡ next_in self.now frame at }
@@ -153,7 +153,7 @@ impl PageOrder {
         }
     }
 
-    // The page to which they lead in the order that is turned.
+    /// Returns the page on a frame before this one there, or the last of all.
     pub fn prior(&self, frame: u32, at: Option<PageId>) -> Option<PageId>
         requires { HasLinks self.now frame at }
         ensures page { result ≡ prior_in self.now frame at }
@@ -228,7 +228,7 @@ impl PageOrder {
         at
     }
 
-    // Takes a page off the frame on which it stands: those beside it there lead past it now.
+    /// Unlinks a page from the frame to which it maps.
     pub fn take_off(&mut self, frame: u32, id: PageId)
         requires { (pages : List (List Page)) × IsInOrder self.old pages × StandsOn pages frame id }
         ensures in_order { (pages : List (List Page)) → IsInOrder self.old pages
@@ -241,7 +241,7 @@ impl PageOrder {
         self.set_prior(frame, next, prior);
     }
 
-    // Puts a page, which stands on no frame, among those on a frame.
+    /// Links a page, which isn't resident, among those on a frame, in their order.
     pub fn put_on(&mut self, frame: u32, id: PageId)
         requires in_order { (pages : List (List Page)) × IsInOrder self.old pages }
         requires within { IsInRange self.old frame id }

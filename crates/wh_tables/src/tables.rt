@@ -1,12 +1,12 @@
 // The page tables as their caller sees them.
 
 ghost use Rattle.std.specs.Prelude.{ℕ, ◌≡◌, ◌≢◌, ◌<◌, ◌≤◌, ◌+◌, ◌^◌, ◌++◌, [], true, false, Some, None, IfOk, IfSome, IfNone, MatchBool, OnErr, OnOk, length, map, replicate, get_or, slice_set};
-ghost use Rattle.wh_host_model.specs.Space.Places.{with_row};
-ghost use Rattle.wh_host_model.specs.Space.Moves.{frame_of};
-ghost use Rattle.wh_host_model.specs.Space.States.{page_at, put};
-ghost use Rattle.wh_host_model.specs.declared.states.Page.{Page};
-ghost use Rattle.wh_host_model.specs.declared.states.Page.TheVariants.{Untouched};
-ghost use Rattle.wh_host_model.specs.Space.Charges.{IsFirstOn, IsOnFrame, active_in, charged_in, touchers_in};
+ghost use Rattle.wh_space_model.specs.Places.{with_row};
+ghost use Rattle.wh_space_model.specs.Moves.{frame_of};
+ghost use Rattle.wh_space_model.specs.States.{page_at, put};
+ghost use Rattle.wh_space_model.specs.declared.states.Page.{Page};
+ghost use Rattle.wh_space_model.specs.declared.states.Page.TheVariants.{Untouched};
+ghost use Rattle.wh_space_model.specs.Charges.{IsFirstOn, IsOnFrame, active_in, charged_in, touchers_in};
 ghost use Rattle.wh_tables.specs.Index.{number_in};
 ghost use Rattle.wh_tables.specs.Line.{ComesLater, IsNextIn};
 ghost use Rattle.wh_tables.specs.Order.{ComesBefore, StandsOn};
@@ -20,8 +20,8 @@ use crate::order::put_row;
 use crate::page_id::PageId;
 use std::alloc::{AllocError, Global};
 use std::marker::Model;
-use wh_host_model::{InstId, Page};
 use wh_pages::PageTable;
+use wh_space_model::{InstId, Page};
 
 /// The page tables of all instances, by their places, with an index of the frames on which their pages stand.
 #[derive(Drop)]
@@ -50,7 +50,7 @@ fn clear_tables(tables: &mut Vec<PageTable>)
     }
 }
 
-// A table with so many untouched pages.
+// A table with `pages` pages of zeros that have no frames.
 fn table_of(alloc: Global, pages: u32, max: u32) -> Result<PageTable, AllocError>
     requires within { pages ≤ max }
     requires most { max ≤ 65536 }
@@ -62,7 +62,7 @@ fn table_of(alloc: Global, pages: u32, max: u32) -> Result<PageTable, AllocError
 }
 
 impl Tables {
-    /// Tables of nobody, over so many frames.
+    /// Creates the tables of no instance, over `frames` frames.
     ///
     /// # Errors
     /// `AllocError` where room is refused.
@@ -82,7 +82,7 @@ impl Tables {
         })
     }
 
-    /// How many places there are.
+    /// Returns the number of places.
     pub fn places(&self) -> usize
         ensures pages { result ≡ length self.now.pages }
         ensures limits { result ≡ length self.now.limits }
@@ -91,7 +91,7 @@ impl Tables {
         self.tables.len()
     }
 
-    /// How many pages the instance at a place has.
+    /// Returns the number of pages of the instance at this place.
     #[inline(always)]
     pub fn len_at(&self, place: usize) -> u32
         ensures { result ≡ length (get_or self.now.pages place []) }
@@ -103,7 +103,7 @@ impl Tables {
         }
     }
 
-    /// The page of this number of the instance at a place.
+    /// Returns the page of this number of the instance at this place.
     #[inline(always)]
     pub fn page(&self, place: usize, number: u32) -> Page
         requires { number < length (get_or self.now.pages place []) }
@@ -112,8 +112,8 @@ impl Tables {
         self.tables[place].page(number)
     }
 
-    /// The first page of the instance at a place, from this one on, that stands on a frame; with `idle`, of those alone that
-    /// weren't touched in this epoch. It passes over leaves of its page table that have none.
+    /// Returns the first resident page of the instance at this place, from this number on; with `idle`, the first of
+    /// those not touched in this epoch. Skips leaves of its page table that have none.
     pub fn next_resident(&self, place: usize, from: u32, idle: bool) -> Option<u32>
         ensures { IsFirstFrom (IsSoughtAt self.now.pages self.now.marks place idle) from result }
     {
@@ -123,7 +123,7 @@ impl Tables {
         self.tables[place].next_resident(from, idle)
     }
 
-    /// Puts a page there. The mark stays.
+    /// Replaces a page. Its mark of touch stays.
     pub fn set(&mut self, place: usize, number: u32, page: Page)
         requires there { number < length (get_or self.old.pages place []) }
         requires frame { IfSome (frame_of page) (λ frame. frame < self.old.frames) }
@@ -137,7 +137,7 @@ impl Tables {
         }
     }
 
-    // Takes a page off its frame, if it stands on one; it is untouched then.
+    // Takes a page off its frame, if it is resident; it has none then.
     fn lift(&mut self, place: usize, number: u32)
         requires { number < length (get_or self.old.pages place []) }
         ensures { self.new ≡ record self.old { pages = put self.old.pages place number Untouched } }
@@ -148,7 +148,7 @@ impl Tables {
         }
     }
 
-    // Puts a page in place of one that stands on no frame.
+    // Puts a page in place of one that isn't resident.
     fn land(&mut self, place: usize, number: u32, page: Page)
         requires off { (was : Page) × (page_at self.old.pages place number ≡ Some was)
             × (frame_of was ≡ None) }
@@ -184,7 +184,7 @@ impl Tables {
         self.tables[place].set(number, Page::Untouched);
     }
 
-    // Puts a page, which stands on this frame, in place of one that stands on none.
+    // Puts a page, which maps to this frame, in place of one that isn't resident.
     fn come(&mut self, place: usize, number: u32, frame: u32, page: Page)
         requires off { (was : Page) × (page_at self.old.pages place number ≡ Some was)
             × (frame_of was ≡ None) }
@@ -201,7 +201,8 @@ impl Tables {
         self.tables[place].set(number, page);
     }
 
-    /// Adds untouched pages, for which there is room, to an instance of whose number no other one with pages is.
+    /// Adds `count` pages of zeros without frames, for which there is room, to an instance; no other one with pages may
+    /// have its number.
     pub fn grow(&mut self, place: usize, count: u32)
         requires there { place < length self.old.pages }
         requires room { length (get_or self.old.pages place []) + count ≤ get_or self.old.limits place 0 }
@@ -218,7 +219,7 @@ impl Tables {
         let _ = table.grow(count);
     }
 
-    /// Takes all pages of the instance at a place away. The room stays.
+    /// Removes all pages of the instance at this place. The room stays.
     pub fn clear(&mut self, place: usize)
         requires { place < length self.old.pages }
         ensures { self.new ≡ record self.old {
@@ -232,7 +233,7 @@ impl Tables {
         self.forget(place);
     }
 
-    // Takes pages away none of which stands on a frame.
+    // Takes pages away none of which is resident.
     fn forget(&mut self, place: usize)
         requires there { place < length self.old.pages }
         requires off { (p : ℕ) (page : Page) → page_at self.old.pages place p ≡ Some page → frame_of page ≡ None }
@@ -245,7 +246,7 @@ impl Tables {
         table.clear();
     }
 
-    /// Takes the marks of all pages away: a new epoch begins. It goes over all pages.
+    /// Begins an epoch: clears the marks of touch of all pages. Goes over all pages.
     pub fn clear_marks(&mut self)
         ensures { self.new ≡ record self.old { marks = without_marks self.old.marks } }
     {
@@ -253,11 +254,11 @@ impl Tables {
         self.index.clear_marks();
     }
 
-    /// An instance with this number comes to a place, where no pages are, or to the next one behind all, with so many
-    /// untouched pages, of which it may have up to `max`. All room for them is taken now.
+    /// Gives an instance of this number a place without pages, or the next one after all, with `pages` pages of zeros
+    /// that have no frames; it may have up to `max` pages. Reserves the room for them all.
     ///
     /// # Errors
-    /// `AllocError` where room is refused. Nothing is done then.
+    /// `AllocError` if an allocation fails. Nothing has changed then.
     pub fn enter(
         &mut self,
         alloc: Global,
@@ -286,7 +287,7 @@ impl Tables {
         Ok(())
     }
 
-    /// Whether the page of this number of the instance at a place was touched in this epoch.
+    /// Tells whether the page of this number of the instance at this place was touched in this epoch.
     #[inline(always)]
     pub fn is_touched(&self, place: usize, number: u32) -> bool
         requires { number < length (get_or self.now.pages place []) }
@@ -309,7 +310,7 @@ impl Tables {
         }
     }
 
-    /// Takes the mark from a page: it wasn't touched in this epoch.
+    /// Clears the mark of touch of a page.
     pub fn untouch(&mut self, place: usize, number: u32)
         requires { number < length (get_or self.old.pages place []) }
         ensures { self.new ≡ record self.old { marks = put self.old.marks place number false } }
@@ -323,7 +324,7 @@ impl Tables {
         }
     }
 
-    /// The frame on which a page stands, where it was touched in this epoch. It is one look, which changes nothing.
+    /// Returns the frame of a page that was touched in this epoch, in O(1).
     #[inline(always)]
     pub fn touched_frame(&self, place: usize, number: u32) -> Option<u32>
         requires { number < length (get_or self.now.pages place []) }
@@ -333,8 +334,7 @@ impl Tables {
         self.tables[place].touched_frame(number)
     }
 
-    /// The frame on which a page stands alone, where it is `Private` and was touched in this epoch. It is one look, which
-    /// changes nothing.
+    /// Returns the frame of its own, in O(1), of a page that is `Private` and was touched in this epoch.
     #[inline(always)]
     pub fn touched_own_frame(&self, place: usize, number: u32) -> Option<u32>
         requires { number < length (get_or self.now.pages place []) }
@@ -344,8 +344,8 @@ impl Tables {
         self.tables[place].touched_own_frame(number)
     }
 
-    /// Of the instances with pages, the one with the lowest number; or with the lowest above this one. A line of all places by
-    /// number is kept for it, in which it passes over those without pages.
+    /// Returns, of the instances with pages, the one with the lowest number, or with the lowest number above `after`.
+    /// Searches a list of all places by number that is kept for it, and skips those without pages.
     pub fn next_instance(&self, after: Option<u64>) -> Option<InstId>
         ensures some { IfSome result (λ id. IsNextIn self.now.pages self.now.numbers after id) }
         ensures none { IfNone result ((i : ℕ) → ¬ ComesLater self.now.pages self.now.numbers after i) }
@@ -364,7 +364,8 @@ impl Tables {
         None
     }
 
-    /// How many frames are charged to the instance at a place: those of which its page is the first. The number is kept.
+    /// Returns, in O(1), the number of frames that are charged to the instance at this place: those whose first page is
+    /// its.
     pub fn charged(&self, place: usize) -> u32
         ensures is { result ≡ charged_in (number_in self.now.numbers) self.now.pages self.now.frames place }
         ensures most { result ≤ length (get_or self.now.pages place []) }
@@ -372,7 +373,7 @@ impl Tables {
         self.index.counts(place).charged
     }
 
-    /// On how many of these a touched page stands, of whichever instance. The number is kept.
+    /// Returns, in O(1), on how many of these a page of any instance was touched.
     pub fn active(&self, place: usize) -> u32
         ensures is { result ≡ active_in (number_in self.now.numbers) self.now.pages self.now.marks
             self.now.frames place }
@@ -382,7 +383,7 @@ impl Tables {
         self.index.counts(place).active
     }
 
-    /// Whether a touched page stands on a frame, of whichever instance.
+    /// Tells whether a touched page of any instance maps to a frame.
     pub fn has_touched(&self, frame: u32) -> bool
         requires { frame < self.now.frames }
         ensures { MatchBool result (1 ≤ touchers_in self.now.pages self.now.marks frame)
@@ -391,7 +392,8 @@ impl Tables {
         self.index.touchers(frame) > 0
     }
 
-    /// The first page on a frame, by the numbers of instances and then of pages: the frame is charged to its instance.
+    /// Returns the first page on a frame, by the numbers of instances and then of pages: the frame is charged to its
+    /// instance.
     pub fn first_on(&self, frame: u32) -> Option<PageId>
         requires { frame < self.now.frames }
         ensures some { IfSome result (λ id.
@@ -401,7 +403,7 @@ impl Tables {
         self.index.first(frame)
     }
 
-    /// The last page on a frame.
+    /// Returns the last page on a frame.
     pub fn last_on(&self, frame: u32) -> Option<PageId>
         requires { frame < self.now.frames }
         ensures some { IfSome result (λ id. StandsOn self.now.pages frame id
@@ -412,7 +414,7 @@ impl Tables {
         self.index.prior(frame, None)
     }
 
-    /// The last page on a frame before this one, which stands there.
+    /// Returns the last page on a frame before this one, which maps to it.
     pub fn prior_on(&self, frame: u32, id: PageId) -> Option<PageId>
         requires { StandsOn self.now.pages frame id }
         ensures some { IfSome result (λ prior. StandsOn self.now.pages frame prior
@@ -426,7 +428,7 @@ impl Tables {
         self.index.prior(frame, Some(id))
     }
 
-    // Marks a page that stands on this frame and wasn't touched.
+    // Marks a page that maps to this frame and wasn't touched.
     fn mark_on(&mut self, place: usize, number: u32, frame: u32)
         requires on { IsOnFrame self.old.pages place number frame }
         requires mark { page_at self.old.marks place number ≡ Some false }
@@ -458,7 +460,7 @@ impl Tables {
         self.tables[place].untouch(number);
     }
 
-    // Marks a page that stands on no frame.
+    // Marks a page that isn't resident.
     fn mark_off(&mut self, place: usize, number: u32)
         requires { (page : Page) × (page_at self.old.pages place number ≡ Some page)
             × (frame_of page ≡ None) }

@@ -7,9 +7,9 @@ use Rattle.wh_threads.specs.declared.channel.Message.TheVariants.{Turns, Last}
 use Rattle.wh_threads.specs.declared.channel.Traffic.{Traffic}
 use Rattle.wh_threads.specs.Handover.{message_turns, turns_in, turn_numbers, DispatchesLast, HasQuantum, HaveQuantum}
 use Rattle.wh_threads.proofs.Views.{sum_by-new}
-use Rattle.wh_host_model.specs.declared.plain.InstId.{InstId}
+use Rattle.wh_space_model.specs.declared.plain.InstId.{InstId}
 
--- so many turns more
+-- n turns more
 pub turns_in_turns : (messages : List Message) (first count : ℕ) (instance : InstId) (quantum : ℕ)
     → turns_in (messages ++ Turns first count instance quantum ∷ []) ≡ turns_in messages + count
 turns_in_turns messages first count instance quantum =
@@ -25,7 +25,7 @@ pub numbers_last : (messages : List Message)
     → flat_map turn_numbers (messages ++ Last ∷ []) ≡ flat_map turn_numbers messages
 numbers_last messages = flat_map-append turn_numbers messages (Last ∷ []) ∙ append-nil (flat_map turn_numbers messages)
 
--- one message more that has so many charges at most
+-- one message more that has n charges at most
 pub quanta_more : (q : ℕ) (messages : List Message) (m : Message) → HasQuantum q m → HaveQuantum q messages
     → HaveQuantum q (messages ++ m ∷ [])
 quanta_more q [] m is all = (is, tt)

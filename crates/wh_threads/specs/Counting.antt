@@ -3,6 +3,7 @@ use Rattle.std.specs.Prelude.{◌≡◌, ℕ, ◌+◌, Bool, List, length, sum_b
 use Rattle.crossbeam_channel.specs.Claims.{Pass}
 use Rattle.wh_threads.specs.declared.channel.Traffic.{Traffic}
 use Rattle.wh_threads.specs.declared.gate.Sign.{Sign}
+use Rattle.wh_threads.specs.declared.own_count.OwnCount.{OwnCount}
 use Rattle.wh_threads.specs.declared.tally.Tally.{Tally}
 
 -- a worker's counts: with which it began, and which it has now
@@ -10,7 +11,7 @@ pub record WorkerState : Type 0 where
   pub from : Tally
   pub tally : Tally
 
--- it has run so many turns more, which took so many charges
+-- it has run `turns` more turns, which took `taken` charges
 pub record RanTurns (old : WorkerState) (turns taken : ℕ) (new : WorkerState) : Type 0 where
   pub from : new.from ≡ old.from
   pub turns_are : new.tally.turns ≡ old.tally.turns + turns
@@ -31,17 +32,17 @@ pub record HelpedState : Type 0 where
   pub told : Pass Sign (Traffic Sign)
   pub has_begun : Bool
 
--- the counts of all threads: by worker, those of the owner itself, and how many offers and evictions there were
+-- the counts of all threads: by worker, those of the owner itself, and how many offers and evictions there were beside these
 pub record SharesState : Type 0 where
   pub tallies : List Tally
-  pub owner : Tally
+  pub owner : OwnCount
   pub offers : ℕ
   pub evictions : ℕ
 
 -- The same, and how many workers, scanners and reclaimers have parts of the ledgers now.
 pub record LenderState : Type 0 where
   pub tallies : List Tally
-  pub owner : Tally
+  pub owner : OwnCount
   pub offers : ℕ
   pub evictions : ℕ
   pub workers_out : ℕ
@@ -64,25 +65,37 @@ turns_of tallies = sum_by (λ t. t.turns) tallies
 abbrev pub charges_of : List Tally → ℕ
 charges_of tallies = sum_by (λ t. t.charges) tallies
 
--- and those of all: of the workers, and of the owner, which runs turns where no thread works
+-- and those of all: of threads, and of the owner, which does it where no thread works
 abbrev pub all_turns : SharesState → ℕ
 all_turns s = turns_of s.tallies + s.owner.turns
 
 abbrev pub all_charges : SharesState → ℕ
 all_charges s = charges_of s.tallies + s.owner.charges
 
--- The owner has run one turn more, which took so many charges. Nothing else has changed.
-pub record RanOwnTurn (old : SharesState) (taken : ℕ) (new : SharesState) : Type 0 where
-  pub only : new ≡ record old { owner = new.owner }
-  pub turns : new.owner.turns ≡ old.owner.turns + 1
-  pub charges : new.owner.charges ≡ old.owner.charges + taken
+abbrev pub all_offers : SharesState → ℕ
+all_offers s = s.offers + s.owner.offers
+
+abbrev pub all_evictions : SharesState → ℕ
+all_evictions s = s.evictions + s.owner.evictions
+
+-- The owner has run one more turn, which took `taken` charges. Nothing else has changed.
+abbrev pub RanOwnTurn : (old : SharesState) (taken : ℕ) (new : SharesState) → Type 0
+RanOwnTurn old taken new =
+    new ≡ record old { owner = record old.owner { turns = old.owner.turns + 1; charges = old.owner.charges + taken } }
+
+-- It has offered `more` more pages. Nothing else has changed.
+abbrev pub MadeOwnOffers : (old : SharesState) (more : ℕ) (new : SharesState) → Type 0
+MadeOwnOffers old more new = new ≡ record old { owner = record old.owner { offers = old.owner.offers + more } }
+
+-- It has evicted `more` more pages. Nothing else has changed.
+abbrev pub MadeOwnEvictions : (old : SharesState) (more : ℕ) (new : SharesState) → Type 0
+MadeOwnEvictions old more new = new ≡ record old { owner = record old.owner { evictions = old.owner.evictions + more } }
 
 -- nobody has counted anything
 pub record IsZero (s : SharesState) : Type 0 where
   pub seats : length s.tallies ≡ 64
   pub turns : turns_of s.tallies ≡ 0
   pub charges : charges_of s.tallies ≡ 0
-  pub own_turns : s.owner.turns ≡ 0
-  pub own_charges : s.owner.charges ≡ 0
+  pub owner : s.owner ≡ record { turns = 0; charges = 0; offers = 0; evictions = 0 }
   pub offers : s.offers ≡ 0
   pub evictions : s.evictions ≡ 0

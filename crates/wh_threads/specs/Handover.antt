@@ -10,7 +10,7 @@ use Rattle.wh_threads.specs.declared.channel.Traffic.{Traffic}
 abbrev pub traffic : {M : Type 0} → ℕ → List M → List M → Traffic M
 traffic parts sent received = record { parts = parts; sent = sent; received = received }
 
--- into so many parts the right to know the whole is cut
+-- into how many parts the right to know the whole is cut
 abbrev pub all_parts : ℕ
 all_parts = 128
 
@@ -50,7 +50,7 @@ turns_in messages = sum_by message_turns messages
 abbrev pub AreNumbered : List Message → Type 0
 AreNumbered messages = flat_map turn_numbers messages ≡ range_with_len 0 (turns_in messages)
 
--- each turn of a message has so many charges at most
+-- each turn of a message has q charges at most
 abbrev pub HasQuantum : ℕ → Message → Type 0
 HasQuantum q (Turns first count instance quantum) = quantum ≡ q
 HasQuantum q Last = ⊤
@@ -67,8 +67,7 @@ pub record DispatchesLast (old new : Traffic Message) : Type 0 where
   pub numbers : flat_map turn_numbers new.sent ≡ flat_map turn_numbers old.sent
   pub quanta : (q : ℕ) → HaveQuantum q old.sent → HaveQuantum q new.sent
 
--- through a slip that had dispatched nothing, turns of q charges were dispatched, so many and numbered, and nothing was
--- received
+-- through a slip that had dispatched nothing, `count` turns of q charges were dispatched, numbered, and nothing was received
 pub record Dispatches (old : Traffic Message) (count q : ℕ) (new : Traffic Message) : Type 0 where
   pub parts : new.parts ≡ old.parts
   pub received : new.received ≡ old.received

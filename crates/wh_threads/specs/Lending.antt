@@ -1,9 +1,9 @@
 -- Which parts of the ledgers are lent.
-use Rattle.std.specs.Prelude.{◌≡◌, ℕ, ◌+◌, ◌-◌, ◌<◌, ◌≤◌, length}
+use Rattle.std.specs.Prelude.{◌≡◌, ℕ, ◌+◌, ◌-◌, ◌*◌, ◌^◌, ◌<◌, ◌≤◌, length}
 use Rattle.wh_threads.specs.Counting.{LenderState, turns_of, charges_of}
-use Rattle.wh_threads.specs.declared.lender.Lender.TheInside.{Inside}
+use Rattle.wh_threads.specs.declared.lender.ThreadCounts.TheInside.{Inside}
 
--- of the ledgers of turns, charges, offers and evictions, which have so many parts, those are lent that aren't here
+-- of the ledgers of turns, charges, offers and evictions, which have that many parts, those are lent that aren't here
 abbrev pub lender_of : {T C O E : Type 0} → (turns charges offers evictions : ℕ) → Inside T C O E → LenderState
 lender_of turns charges offers evictions l = record {
   tallies = l.tallies.items;
@@ -30,5 +30,6 @@ pub record AddsUp {T C O E : Type 0} (turns charges offers evictions : ℕ) (l :
   pub together : turns - l.turn_share.parts ≡ charges - l.charge_share.parts
   pub turns_are : l.turn_share.amount ≡ turns_of l.tallies.items + l.owner.turns
   pub charges_are : l.charge_share.amount ≡ charges_of l.tallies.items + l.owner.charges
-  pub offers_are : l.offer_share.amount ≡ l.offers
-  pub evictions_are : l.eviction_share.amount ≡ l.evictions
+  pub offers_are : l.offer_share.amount ≡ l.offers + l.owner.offers
+  pub evictions_are : l.eviction_share.amount ≡ l.evictions + l.owner.evictions
+  pub own_charges_few : l.owner.charges ≤ l.owner.turns * 2 ^ 32

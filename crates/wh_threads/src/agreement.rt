@@ -105,16 +105,17 @@ impl<B: AgreementId, V: AgreedValue> Model for Agreement<B, V> {
 }
 
 impl<V: AgreedValue> BlankAgreement<V> {
-    /// A new agreement.
+    /// Creates an agreement.
     ///
     /// # Errors
-    /// Where room was refused.
+    /// `AllocError` if an allocation fails.
     pub fn new(alloc: Global) -> Result<BlankAgreement<V>, AllocError> {
         let (queue, pass) = RuledArrayQueue::ruled(alloc, 1)?;
         Ok(BlankAgreement { queue, pass })
     }
 
-    /// The agreement by the name that its type has, and its two halves. Both know what this makes of what is known of nothing.
+    /// Opens the agreement under the name that its type has; returns it and its two halves. Both know what `by` makes
+    /// of what is known of nothing.
     pub fn open<B: AgreementId, C: Change<V>>(
         self,
         by: &C,
@@ -177,7 +178,7 @@ impl<B: AgreementId, V: AgreedValue> Agreement<B, V> {
         change_passes::<V, K>(&self.queue, &mut first.pass, &mut second.pass);
     }
 
-    /// Whoever has both halves, and so both locks, finds that they agreed, and changes what both know.
+    /// Changes what both halves know. Whoever has both, and so both locks, finds that they agreed.
     pub fn settle<C: Change<V>>(
         &self,
         first: &mut AgreementHalf<B, V>,

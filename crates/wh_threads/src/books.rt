@@ -2,11 +2,12 @@
 
 ghost use Rattle.std.specs.Prelude.{◌≡◌, ◌+◌, ◌-◌, ◌*◌, ◌≤◌, ◌^◌, ◌<◌, IfOk};
 ghost use Rattle.wh_threads.specs.Blanks.{IsBlankOf};
-ghost use Rattle.wh_threads.specs.Counting.{RanOwnTurn, RanTurn, RanTurns, IsZero, all_charges, all_turns};
+ghost use Rattle.wh_threads.specs.Counting.{MadeOwnEvictions, MadeOwnOffers, RanOwnTurn, RanTurn, RanTurns, IsZero, all_charges, all_evictions, all_offers, all_turns};
 
 use crate::count::Count;
 use crate::helper::Helper;
-use crate::lender::Lender;
+use crate::lender::ThreadCounts;
+use crate::own_count::OwnCount;
 use crate::received_turns::ReceivedTurns;
 use crate::shares::Shares;
 use crate::tally::Tally;
@@ -17,13 +18,13 @@ use std::sync::ledger::{Blank, Ledger};
 /// How much was counted of each kind, by all threads: turns, charges, offers, evictions. It is to lie under the lock of
 /// what is counted.
 pub struct Books<T: Ledger, C: Ledger, O: Ledger, E: Ledger> {
-    /// Turns of workers.
+    /// Turns of workers, and of the owner.
     pub turns: Count<T>,
     /// Charges that these took.
     pub charges: Count<C>,
-    /// Pages that a scanner offered.
+    /// Pages that a scanner offered, or the owner.
     pub offers: Count<O>,
-    /// Pages that a reclaimer took.
+    /// Pages that a reclaimer took, or the owner.
     pub evictions: Count<E>,
 }
 
@@ -39,10 +40,10 @@ impl<T: Ledger, C: Ledger, O: Ledger, E: Ledger> Drop for Books<T, C, O, E> {
 }
 
 impl<T: Ledger, C: Ledger, O: Ledger, E: Ledger> Books<T, C, O, E> {
-    /// Books in which nothing is counted, and the shares that belong to them. All memory is taken here.
+    /// Opens books in which nothing is counted; returns them and the shares that belong to them.
     ///
     /// # Errors
-    /// Where room for the counts of 64 workers was refused.
+    /// `AllocError` if the allocation for the counts of 64 workers fails.
     pub fn open(
         alloc: Global,
         turns: Blank,
@@ -63,9 +64,9 @@ impl<T: Ledger, C: Ledger, O: Ledger, E: Ledger> Books<T, C, O, E> {
         let (charges, charge_share) = Count::open(charges);
         let (offers, offer_share) = Count::open(offers);
         let (evictions, eviction_share) = Count::open(evictions);
-        let all = Lender::whole(
+        let all = ThreadCounts::whole(
             tallies,
-            Tally::none(),
+            OwnCount::none(),
             turn_share,
             charge_share,
             offer_share,
@@ -80,7 +81,7 @@ impl<T: Ledger, C: Ledger, O: Ledger, E: Ledger> Books<T, C, O, E> {
         Ok((books, Shares { all }))
     }
 
-    /// Counts one turn of these, which took so many charges: one less is to be run.
+    /// Counts one turn of these, which took `taken` charges: one less is to be run.
     pub fn turn(&mut self, worker: &mut Worker<T, C>, order: &mut ReceivedTurns, taken: u32)
         requires room { worker.old.tally.turns < 2 ^ 64 - 1 }
         requires due { 0 < order.old.count }
@@ -94,7 +95,7 @@ impl<T: Ledger, C: Ledger, O: Ledger, E: Ledger> Books<T, C, O, E> {
         self.turns(worker, order, 1, u64::from(taken));
     }
 
-    /// Counts so many turns of these, which took so many charges, fewer than 2^32 each: so many less are to be run.
+    /// Counts `many` turns of these, which took `taken` charges, fewer than 2^32 each: that many fewer are to be run.
     pub fn turns(
         &mut self,
         worker: &mut Worker<T, C>,
@@ -116,7 +117,8 @@ impl<T: Ledger, C: Ledger, O: Ledger, E: Ledger> Books<T, C, O, E> {
         worker.count(&mut self.turns, &mut self.charges, u64::from(many), taken);
     }
 
-    /// Counts one turn of the owner, which took so many charges. The owner has the shares of all threads: none works meanwhile.
+    /// Counts one turn of the owner, which took `taken` charges. The owner has the shares of all threads: none works
+    /// meanwhile.
     pub fn own_turn(&mut self, shares: &mut Shares<T, C, O, E>, taken: u32)
         requires room { shares.old.owner.turns < 2 ^ 64 - 1 }
         ensures books { self.new ≡ record self.old {
@@ -130,7 +132,25 @@ impl<T: Ledger, C: Ledger, O: Ledger, E: Ledger> Books<T, C, O, E> {
             .count_own(&mut self.turns, &mut self.charges, taken);
     }
 
-    /// One offer of the scanner is counted.
+    /// Counts `count` offers of the owner, which has the shares of all threads: none works meanwhile.
+    pub fn own_offers(&mut self, shares: &mut Shares<T, C, O, E>, count: u64)
+        requires room { shares.old.owner.offers + count < 2 ^ 64 }
+        ensures books { self.new ≡ record self.old { offers = self.old.offers + count } }
+        ensures shares { MadeOwnOffers shares.old count shares.new }
+    {
+        shares.all.count_own_offers(&mut self.offers, count);
+    }
+
+    /// Counts `count` evictions of the owner, which has the shares of all threads: none works meanwhile.
+    pub fn own_evictions(&mut self, shares: &mut Shares<T, C, O, E>, count: u64)
+        requires room { shares.old.owner.evictions + count < 2 ^ 64 }
+        ensures books { self.new ≡ record self.old { evictions = self.old.evictions + count } }
+        ensures shares { MadeOwnEvictions shares.old count shares.new }
+    {
+        shares.all.count_own_evictions(&mut self.evictions, count);
+    }
+
+    /// Counts one offer of the scanner.
     pub fn offer(&mut self, scanner: &mut Helper<O>)
         requires room { scanner.old.count < 2 ^ 64 - 1 }
         ensures books { self.new ≡ record self.old { offers = self.old.offers + 1 } }
@@ -139,7 +159,7 @@ impl<T: Ledger, C: Ledger, O: Ledger, E: Ledger> Books<T, C, O, E> {
         scanner.add(&mut self.offers, 1);
     }
 
-    /// So many offers of the scanner are counted.
+    /// Counts `count` offers of the scanner.
     pub fn offers(&mut self, scanner: &mut Helper<O>, count: u64)
         requires room { scanner.old.count + count < 2 ^ 64 }
         ensures books { self.new ≡ record self.old { offers = self.old.offers + count } }
@@ -149,7 +169,7 @@ impl<T: Ledger, C: Ledger, O: Ledger, E: Ledger> Books<T, C, O, E> {
         scanner.add(&mut self.offers, count);
     }
 
-    /// So many evictions of the reclaimer are counted.
+    /// Counts `count` evictions of the reclaimer.
     pub fn evict(&mut self, reclaimer: &mut Helper<E>, count: u64)
         requires room { reclaimer.old.count + count < 2 ^ 64 }
         ensures books { self.new ≡ record self.old { evictions = self.old.evictions + count } }
@@ -159,12 +179,12 @@ impl<T: Ledger, C: Ledger, O: Ledger, E: Ledger> Books<T, C, O, E> {
         reclaimer.add(&mut self.evictions, count);
     }
 
-    /// Whoever has the shares learns that the books are the sums of their counts. It changes nothing.
+    /// Shows whoever has the shares that the books are the sums of their counts. Changes nothing.
     pub fn agree(&mut self, shares: &mut Shares<T, C, O, E>)
         ensures turns { self.old.turns ≡ all_turns shares.old }
         ensures charges { self.old.charges ≡ all_charges shares.old }
-        ensures offers { self.old.offers ≡ shares.old.offers }
-        ensures evictions { self.old.evictions ≡ shares.old.evictions }
+        ensures offers { self.old.offers ≡ all_offers shares.old }
+        ensures evictions { self.old.evictions ≡ all_evictions shares.old }
         ensures same { (self.new ≡ self.old) × (shares.new ≡ shares.old) }
     {
         let Books {

@@ -11,13 +11,13 @@ use crossbeam_channel::{Pass, RuledReceiver, RuledSender, bounded_with};
 use std::alloc::{AllocError, Global};
 use std::collections::LinkedList;
 use std::sync::Wait;
-use wh_host_model::InstId;
+use wh_space_model::InstId;
 
 /// What is dispatched to a worker.
 #[derive(Clone, Copy, Debug, PartialEq, Eq)]
 pub enum Message {
-    /// A series: so many turns of this instance, one after the other, of so many charges at most each. Turns are numbered in the
-    /// order in which they are dispatched: those of a series from `first` on.
+    /// A series: `count` consecutive turns of this instance, of at most `quantum` charges each. Turns are numbered in
+    /// the order in which they are dispatched: those of a series from `first` on.
     Turns {
         first: u64,
         count: u32,
@@ -119,12 +119,12 @@ pub type TurnSender = RuledSender<Message, Traffic<Message>, Balance>;
 pub type TurnReceiver = RuledReceiver<Message, Traffic<Message>, Balance>;
 
 /// A pass of the channel of turns: who dispatches or receives a message notes it there. It takes no bytes.
-pub type Slip = Pass<Message, Traffic<Message>>;
+pub type MessagePass = Pass<Message, Traffic<Message>>;
 
-/// A channel that holds up to so many messages, with the slip that has all parts.
+/// Opens a channel that holds up to `capacity` messages; returns its ends and the slip that has all parts.
 ///
 /// # Errors
-/// Where room was refused.
+/// `AllocError` if an allocation fails.
 pub fn open_channel<M: Drop>(
     alloc: Global,
     capacity: usize,
@@ -144,7 +144,7 @@ pub fn open_channel<M: Drop>(
     bounded_with(alloc, capacity)
 }
 
-/// Dispatches a message, and waits for room. False where no receiver is left: nothing was dispatched then.
+/// Dispatches a message, and waits for room. Returns `false` if no receiver is left: nothing was dispatched then.
 pub fn dispatch<M: Drop, R: Wait>(
     rt: &R,
     sender: &RuledSender<M, Traffic<M>, Balance>,
@@ -161,7 +161,7 @@ pub fn dispatch<M: Drop, R: Wait>(
     sender.send_as::<Sends, R>(rt, slip, message).is_ok()
 }
 
-/// Waits for a message, and receives it. None where the channel was empty and no sender was left.
+/// Waits for a message, and receives it. Returns `None` if the channel was empty and no sender was left.
 pub fn receive<M: Drop, R: Wait>(
     rt: &R,
     receiver: &RuledReceiver<M, Traffic<M>, Balance>,
@@ -177,7 +177,7 @@ pub fn receive<M: Drop, R: Wait>(
     receiver.recv_as::<Receives, R>(rt, slip).ok()
 }
 
-/// Receives a message, if one is there already, and waits for none. None says nothing of the channel.
+/// Receives a message, if one is there already, without waiting. `None` says nothing of the channel.
 pub fn receive_at_once<M: Drop, R: Wait>(
     rt: &R,
     receiver: &RuledReceiver<M, Traffic<M>, Balance>,
@@ -193,7 +193,7 @@ pub fn receive_at_once<M: Drop, R: Wait>(
     receiver.try_recv_as::<Receives, R>(rt, slip).ok()
 }
 
-/// A slip with one part, for a thread that receives. It begins with nothing received.
+/// Splits one part off a slip, for a thread that receives. It begins with nothing received.
 pub fn pass_for<M: Drop>(
     sender: &RuledSender<M, Traffic<M>, Balance>,
     slip: &mut Pass<M, Traffic<M>>,
@@ -208,7 +208,7 @@ pub fn pass_for<M: Drop>(
     sender.another::<OnePart>(slip)
 }
 
-/// A thread's slip comes back: what was dispatched and received through it was so through this one.
+/// Takes back a thread's slip: what was dispatched and received through it now counts as so through `slip`.
 pub fn put_back<M: Drop>(
     sender: &RuledSender<M, Traffic<M>, Balance>,
     slip: &mut Pass<M, Traffic<M>>,
@@ -225,8 +225,8 @@ pub fn put_back<M: Drop>(
     sender.absorb::<OnePart>(slip, other)
 }
 
-/// Once all parts are in one slip: a message that nobody has received. None only where each message was received as
-/// often as it was dispatched.
+/// Receives, once all parts are in one slip, a message that nobody has received. Returns `None` only if each message
+/// was received as often as it was dispatched.
 pub fn left_over<M: Drop, R: Wait>(
     rt: &R,
     receiver: &RuledReceiver<M, Traffic<M>, Balance>,

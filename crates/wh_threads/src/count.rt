@@ -32,7 +32,7 @@ impl<K: Ledger> Count<K> {
         (Count { low: 0, book }, share)
     }
 
-    // So much more, by who has this share.
+    // Adds `amount`, by who has this share.
     pub(crate) fn add(&mut self, mine: &mut Share<K>, amount: u64)
         requires { 0 < mine.old.parts }
         ensures count { self.new ≡ self.old + amount }
@@ -53,7 +53,7 @@ impl<K: Ledger> Count<K> {
         self.book.audit(all);
     }
 
-    /// The low 64 bits of what was counted.
+    /// Returns the low 64 bits of what was counted.
     pub fn low(&self) -> u64
         ensures { result ≡ self.now % 2 ^ 64 }
     {

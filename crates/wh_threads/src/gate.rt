@@ -72,7 +72,7 @@ impl Gate {
     /// Makes a gate for one thread. All memory for it is taken here.
     ///
     /// # Errors
-    /// Where room was refused.
+    /// `AllocError` if an allocation fails.
     pub fn new(alloc: Global) -> Result<Gate, AllocError> {
         let (sender, receiver, slip) = open_channel(alloc, 1)?;
         Ok(Gate {

@@ -15,7 +15,7 @@ use std::thread;
 use std::thread::{Promise, PromisedHandle, Threads};
 use std::time::Duration;
 
-// So long a helper that waits sleeps at most, in seconds, though nobody rings.
+// How long a helper that waits sleeps at most, in seconds, though it isn't notified.
 const LONGEST_SLEEP_SECONDS: u64 = 1;
 
 /// What came of what a scanner or a reclaimer was to do.
@@ -23,7 +23,7 @@ const LONGEST_SLEEP_SECONDS: u64 = 1;
 pub enum HelpOutcome {
     /// It was done.
     Did,
-    /// There is nothing to do now: its bell rings where there may be something.
+    /// There is nothing to do now: its condition variable is notified when there may be something.
     Waits,
     /// Nothing will be to do any more.
     Ended,
@@ -36,14 +36,14 @@ pub trait Help<K: Ledger> {
         requires room { helper.old.count < 2 ^ 64 - 1 }
         ensures from { helper.new.from ≡ helper.old.from };
 
-    /// What rings where there may be something to do again, and where the thread is told to stop. While it waits it takes no
-    /// processor time.
+    /// Returns the condition variable that is notified when there may be something to do again, and when the thread is
+    /// told to stop. While it waits it takes no processor time.
     fn bell(&self) -> &Condvar;
 
-    /// The same for another thread.
+    /// Returns the same for another thread.
     ///
     /// # Errors
-    /// Where memory was refused.
+    /// `AllocError` if an allocation fails.
     fn share(&self) -> Result<Self, AllocError>;
 }
 

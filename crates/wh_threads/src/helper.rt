@@ -52,21 +52,21 @@ impl<K: Ledger> Helper<K> {
         (count, share)
     }
 
-    /// What it had counted when it began.
+    /// Returns what it had counted when it began.
     pub fn from(&self) -> u64
         ensures { result ≡ self.now.from }
     {
         self.from
     }
 
-    /// What it has counted.
+    /// Returns what it has counted.
     pub fn count(&self) -> u64
         ensures { result ≡ self.now.count }
     {
         self.count
     }
 
-    // So many more, in the book too.
+    // Adds `more` to the count, and to the book too.
     pub(crate) fn add(&mut self, book: &mut Count<K>, more: u64)
         requires room { self.old.count + more < 2 ^ 64 }
         ensures helper { self.new ≡ record self.old { count = self.old.count + more } }

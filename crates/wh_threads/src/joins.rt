@@ -8,17 +8,17 @@ ghost use Rattle.wh_threads.specs.Handover.{TakesBack, traffic, turns_in};
 ghost use Rattle.wh_threads.specs.Working.{HasWorked};
 ghost use Rattle.wh_threads.specs.declared.tally.Tally.{Tally};
 
-use crate::channel::{Slip, TurnSender, put_back};
+use crate::channel::{MessagePass, TurnSender, put_back};
 use crate::help::{Helped, Helps};
 use crate::helper::Helper;
-use crate::lender::Lender;
+use crate::lender::ThreadCounts;
 use crate::start::Unstarted;
 use crate::sweep::{Sweep, Sweeps, Swept};
 use crate::work::{WorkerResult, Works};
 use std::sync::ledger::Ledger;
 use std::thread::{PromisedHandle, Threads};
 
-impl<T: Ledger, C: Ledger, O: Ledger, E: Ledger> Lender<T, C, O, E> {
+impl<T: Ledger, C: Ledger, O: Ledger, E: Ledger> ThreadCounts<T, C, O, E> {
     /// Waits for a worker's thread. What it has counted takes the place of that with which it began, and its slip comes
     /// back: it grew by one turn for each that it received.
     pub fn join_worker<R: Threads>(
@@ -27,7 +27,7 @@ impl<T: Ledger, C: Ledger, O: Ledger, E: Ledger> Lender<T, C, O, E> {
         seat: usize,
         handle: PromisedHandle<WorkerResult<T, C>, Works>,
         sender: &TurnSender,
-        slip: &mut Slip,
+        slip: &mut MessagePass,
     )
         requires channel { IsSeatAt (sends_on sender.now) slip.old }
         requires part { 0 < (view slip.old).parts }
@@ -54,7 +54,7 @@ impl<T: Ledger, C: Ledger, O: Ledger, E: Ledger> Lender<T, C, O, E> {
         seat: usize,
         unstarted: Unstarted<T, C>,
         sender: &TurnSender,
-        slip: &mut Slip,
+        slip: &mut MessagePass,
     )
         requires channel { IsSeatAt (sends_on sender.now) slip.old }
         requires part { 0 < (view slip.old).parts }
@@ -99,8 +99,8 @@ impl<T: Ledger, C: Ledger, O: Ledger, E: Ledger> Lender<T, C, O, E> {
         self.take_scanner(scanner);
     }
 
-    /// Waits for the thread of a scanner's sweep: its value, and whether the sweep was made. What was counted takes the place
-    /// of that with which it began.
+    /// Waits for the thread of a scanner's sweep; returns its value, and whether the sweep was made. What was counted
+    /// takes the place of that with which it began.
     pub fn join_sweep<J: Sweep<O>, R: Threads>(
         &mut self,
         rt: &R,

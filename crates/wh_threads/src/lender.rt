@@ -6,16 +6,17 @@ ghost use Rattle.wh_threads.specs.Counting.{LenderState, HasAllParts, turns_of, 
 
 use crate::count::Count;
 use crate::helper::Helper;
+use crate::own_count::OwnCount;
 use crate::tally::Tally;
 use crate::worker::Worker;
 use std::marker::Model;
 use std::sync::ledger::{Ledger, Share};
 
-/// The counts of all threads, by kind: turns and charges by worker, and those of the owner itself; offers; evictions. With them
-/// are the parts of the ledgers that no thread has. There are 64 seats for workers.
-pub struct Lender<T: Ledger, C: Ledger, O: Ledger, E: Ledger> {
+/// The counts of all threads, by kind: turns and charges by worker; offers; evictions; and what the owner has done itself. With
+/// them are the parts of the ledgers that no thread has. There are 64 seats for workers.
+pub struct ThreadCounts<T: Ledger, C: Ledger, O: Ledger, E: Ledger> {
     tallies: Vec<Tally>,
-    owner: Tally,
+    owner: OwnCount,
     offers: u64,
     evictions: u64,
     turn_share: Share<T>,
@@ -24,9 +25,9 @@ pub struct Lender<T: Ledger, C: Ledger, O: Ledger, E: Ledger> {
     eviction_share: Share<E>,
 }
 
-impl<T: Ledger, C: Ledger, O: Ledger, E: Ledger> Drop for Lender<T, C, O, E> {
+impl<T: Ledger, C: Ledger, O: Ledger, E: Ledger> Drop for ThreadCounts<T, C, O, E> {
     fn drop(self) {
-        let Lender {
+        let ThreadCounts {
             tallies: _,
             owner: _,
             offers: _,
@@ -39,7 +40,7 @@ impl<T: Ledger, C: Ledger, O: Ledger, E: Ledger> Drop for Lender<T, C, O, E> {
     }
 }
 
-impl<T: Ledger, C: Ledger, O: Ledger, E: Ledger> Model for Lender<T, C, O, E> {
+impl<T: Ledger, C: Ledger, O: Ledger, E: Ledger> Model for ThreadCounts<T, C, O, E> {
     ghost use Rattle.wh_threads.specs.Counting.{LenderState};
 
     ghost Value = { LenderState };
@@ -51,19 +52,19 @@ impl<T: Ledger, C: Ledger, O: Ledger, E: Ledger> Model for Lender<T, C, O, E> {
     ghost invariant = { AddsUp T.parts C.parts O.parts E.parts };
 }
 
-impl<T: Ledger, C: Ledger, O: Ledger, E: Ledger> Lender<T, C, O, E> {
+impl<T: Ledger, C: Ledger, O: Ledger, E: Ledger> ThreadCounts<T, C, O, E> {
     // All parts of the ledgers, and no count.
     pub(crate) fn whole(
         tallies: Vec<Tally>,
-        owner: Tally,
+        owner: OwnCount,
         turn_share: Share<T>,
         charge_share: Share<C>,
         offer_share: Share<O>,
         eviction_share: Share<E>,
-    ) -> Lender<T, C, O, E>
+    ) -> ThreadCounts<T, C, O, E>
         requires seats { length tallies.items ≡ 64 }
         requires zero { (turns_of tallies.items ≡ 0) × (charges_of tallies.items ≡ 0) }
-        requires own { (owner.turns ≡ 0) × (owner.charges ≡ 0) }
+        requires own { owner ≡ record { turns = 0; charges = 0; offers = 0; evictions = 0 } }
         requires turns { IsWholeOf T.Ledger 64 turn_share }
         requires charges { IsWholeOf C.Ledger 64 charge_share }
         requires offers { IsWholeOf O.Ledger 1 offer_share }
@@ -78,7 +79,7 @@ impl<T: Ledger, C: Ledger, O: Ledger, E: Ledger> Lender<T, C, O, E> {
           reclaimers_out = 0;
         } }
     {
-        Lender {
+        ThreadCounts {
             tallies,
             owner,
             offers: 0,
@@ -101,8 +102,8 @@ impl<T: Ledger, C: Ledger, O: Ledger, E: Ledger> Lender<T, C, O, E> {
         requires { HasAllParts self.old }
         ensures turns { turns.old ≡ turns_of self.old.tallies + self.old.owner.turns }
         ensures charges { charges.old ≡ charges_of self.old.tallies + self.old.owner.charges }
-        ensures offers { offers.old ≡ self.old.offers }
-        ensures evictions { evictions.old ≡ self.old.evictions }
+        ensures offers { offers.old ≡ self.old.offers + self.old.owner.offers }
+        ensures evictions { evictions.old ≡ self.old.evictions + self.old.owner.evictions }
         ensures same { self.new ≡ self.old }
         ensures books { (turns.new ≡ turns.old) × (charges.new ≡ charges.old)
             × (offers.new ≡ offers.old) × (evictions.new ≡ evictions.old) }
@@ -113,29 +114,58 @@ impl<T: Ledger, C: Ledger, O: Ledger, E: Ledger> Lender<T, C, O, E> {
         evictions.audit(&mut self.eviction_share);
     }
 
-    // Counts one turn of the owner, which took so many charges. No thread works meanwhile.
+    // Counts one turn of the owner, which took `taken` charges. No thread works meanwhile.
     pub(crate) fn count_own(&mut self, turns: &mut Count<T>, charges: &mut Count<C>, taken: u32)
         requires whole { HasAllParts self.old }
         requires room { self.old.owner.turns < 2 ^ 64 - 1 }
-        ensures only { self.new ≡ record self.old { owner = self.new.owner } }
-        ensures turns { (self.new.owner.turns ≡ self.old.owner.turns + 1)
-            × (turns.new ≡ turns.old + 1) }
-        ensures charges { (self.new.owner.charges ≡ self.old.owner.charges + taken)
-            × (charges.new ≡ charges.old + taken) }
+        ensures counted { self.new ≡ record self.old {
+          owner = record self.old.owner {
+            turns = self.old.owner.turns + 1;
+            charges = self.old.owner.charges + taken;
+          };
+        } }
+        ensures turns { turns.new ≡ turns.old + 1 }
+        ensures charges { charges.new ≡ charges.old + taken }
     {
         turns.add(&mut self.turn_share, 1);
         charges.add(&mut self.charge_share, u64::from(taken));
-        self.owner = self.owner.with_turns(1, u64::from(taken));
+        self.owner = self.owner.with_turn(taken);
     }
 
-    /// What the owner itself has counted.
-    pub fn owner(&self) -> Tally
+    // Counts `more` offers of the owner. No thread works meanwhile.
+    pub(crate) fn count_own_offers(&mut self, offers: &mut Count<O>, more: u64)
+        requires whole { HasAllParts self.old }
+        requires room { self.old.owner.offers + more < 2 ^ 64 }
+        ensures counted { self.new ≡ record self.old {
+          owner = record self.old.owner { offers = self.old.owner.offers + more };
+        } }
+        ensures offers { offers.new ≡ offers.old + more }
+    {
+        offers.add(&mut self.offer_share, more);
+        self.owner.offers += more;
+    }
+
+    // Counts `more` evictions of the owner. No thread works meanwhile.
+    pub(crate) fn count_own_evictions(&mut self, evictions: &mut Count<E>, more: u64)
+        requires whole { HasAllParts self.old }
+        requires room { self.old.owner.evictions + more < 2 ^ 64 }
+        ensures counted { self.new ≡ record self.old {
+          owner = record self.old.owner { evictions = self.old.owner.evictions + more };
+        } }
+        ensures evictions { evictions.new ≡ evictions.old + more }
+    {
+        evictions.add(&mut self.eviction_share, more);
+        self.owner.evictions += more;
+    }
+
+    /// Returns what the owner itself has counted.
+    pub fn owner(&self) -> OwnCount
         ensures { result ≡ self.now.owner }
     {
         self.owner
     }
 
-    /// What the worker at this seat has counted.
+    /// Returns what the worker at this seat has counted.
     pub fn tally(&self, seat: usize) -> Tally
         requires { seat < 64 }
         ensures { slice_get self.now.tallies seat ≡ Some result }
@@ -143,21 +173,21 @@ impl<T: Ledger, C: Ledger, O: Ledger, E: Ledger> Lender<T, C, O, E> {
         self.tallies[seat]
     }
 
-    /// How many pages were offered.
+    /// Returns the number of pages that scanners have offered.
     pub fn offers(&self) -> u64
         ensures { result ≡ self.now.offers }
     {
         self.offers
     }
 
-    /// How many pages were evicted.
+    /// Returns the number of pages that reclaimers have evicted.
     pub fn evictions(&self) -> u64
         ensures { result ≡ self.now.evictions }
     {
         self.evictions
     }
 
-    /// A worker that goes on from what the one at this seat had counted.
+    /// Lends a worker that goes on from what the one at this seat had counted.
     pub fn lend_worker(&mut self, seat: usize) -> Worker<T, C>
         requires seat { seat < 64 }
         requires few { self.old.workers_out < 64 }
@@ -188,7 +218,7 @@ impl<T: Ledger, C: Ledger, O: Ledger, E: Ledger> Lender<T, C, O, E> {
         self.tallies[seat] = tally;
     }
 
-    /// A scanner that goes on from what was counted of offers.
+    /// Lends a scanner that goes on from the offers counted so far.
     pub fn lend_scanner(&mut self) -> Helper<O>
         requires { self.old.scanners_out ≡ 0 }
         ensures scanner { result ≡ record { from = self.old.offers; count = self.old.offers } }
@@ -212,7 +242,7 @@ impl<T: Ledger, C: Ledger, O: Ledger, E: Ledger> Lender<T, C, O, E> {
         self.offers = count;
     }
 
-    /// A reclaimer that goes on from what was counted of evictions.
+    /// Lends a reclaimer that goes on from the evictions counted so far.
     pub fn lend_reclaimer(&mut self) -> Helper<E>
         requires { self.old.reclaimers_out ≡ 0 }
         ensures reclaimer { result ≡ record {

@@ -13,6 +13,7 @@ mod helper;
 mod joins;
 mod known;
 mod lender;
+mod own_count;
 mod received_turns;
 mod series_room;
 mod shares;
@@ -26,15 +27,16 @@ pub use agreement::{Agreement, AgreementHalf, AgreementId, BlankAgreement};
 pub use books::Books;
 pub use changes::Change;
 pub use channel::{
-    Balance, Message, Slip, Traffic, TurnReceiver, TurnSender, dispatch, left_over, open_channel,
-    pass_for, put_back, receive, receive_at_once,
+    Balance, Message, MessagePass, Traffic, TurnReceiver, TurnSender, dispatch, left_over,
+    open_channel, pass_for, put_back, receive, receive_at_once,
 };
 pub use count::Count;
 pub use gate::{Gate, Sign, SignReceiver, SignSender, SignSlip};
 pub use help::{Help, HelpOutcome, Helped, Helps, start_helper};
 pub use helper::Helper;
 pub use known::AgreedValue;
-pub use lender::Lender;
+pub use lender::ThreadCounts;
+pub use own_count::OwnCount;
 pub use received_turns::ReceivedTurns;
 pub use series_room::SeriesRoom;
 pub use shares::Shares;

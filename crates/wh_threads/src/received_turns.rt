@@ -3,7 +3,7 @@
 ghost use Rattle.std.specs.Prelude.{◌≡◌, ◌-◌, ◌≤◌};
 
 use std::marker::Model;
-use wh_host_model::InstId;
+use wh_space_model::InstId;
 
 /// Turns of one instance, one after the other, that a worker has received, and is still to run. None are made but where a message
 /// is received, one less is left only where one is counted, and they are let go only where none is left: so what is counted is
@@ -25,7 +25,7 @@ impl Model for ReceivedTurns {
 }
 
 impl ReceivedTurns {
-    // So many of this instance, each for so many charges at most.
+    // `count` turns of this instance, each of at most `quantum` charges.
     pub(crate) fn of(instance: InstId, count: u32, quantum: u32) -> ReceivedTurns
         ensures { result ≡ record { instance = instance; count = count; quantum = quantum } }
     {
@@ -37,33 +37,33 @@ impl ReceivedTurns {
         }
     }
 
-    /// Whose turns they are.
+    /// Returns the instance whose turns they are.
     pub fn instance(&self) -> InstId
         ensures { result ≡ self.now.instance }
     {
         self.instance
     }
 
-    /// How many are still to be run.
+    /// Returns the number of turns that are still to be run.
     pub fn count(&self) -> u32
         ensures { result ≡ self.now.count }
     {
         self.count
     }
 
-    /// How many were received at once: these, and those of them that are run by now.
+    /// Returns the number of turns that were received at once: these, and those of them that have been run.
     pub fn received(&self) -> u32 {
         self.received
     }
 
-    /// How many charges each has at most.
+    /// Returns the most charges that each turn may take.
     pub fn quantum(&self) -> u32
         ensures { result ≡ self.now.quantum }
     {
         self.quantum
     }
 
-    // So many of them are counted.
+    // Counts `many` of them as run.
     pub(crate) fn spend(&mut self, many: u32)
         requires { many ≤ self.old.count }
         ensures { self.new ≡ record self.old { count = self.old.count - many } }
@@ -71,7 +71,7 @@ impl ReceivedTurns {
         self.count -= many;
     }
 
-    /// Lets go of turns that are all run.
+    /// Drops turns that are all run.
     pub fn finish(self)
         requires { self.count ≡ 0 }
     {

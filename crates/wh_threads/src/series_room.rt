@@ -6,7 +6,7 @@ ghost use Rattle.crossbeam_channel.specs.Ends.{receives_on};
 ghost use Rattle.wh_threads.specs.Handover.{turns_in};
 ghost use Rattle.wh_threads.specs.Working.{turns_due};
 
-use crate::channel::{Slip, TurnReceiver, receive_at_once};
+use crate::channel::{MessagePass, TurnReceiver, receive_at_once};
 use crate::received_turns::ReceivedTurns;
 use crate::work::{Turns, series_of};
 use crate::worker::Worker;
@@ -15,7 +15,7 @@ use std::marker::Model;
 use std::sync::Wait;
 use std::sync::ledger::Ledger;
 
-// So many series a worker runs at once at most, whatever its job says.
+// How many series a worker runs at once at most, whatever its job says.
 const MOST_SERIES: usize = 64;
 
 /// Room for the series that a worker runs at once, 64 at most. None is there but while they are run.
@@ -40,12 +40,12 @@ impl Drop for SeriesRoom {
     }
 }
 
-// Receives further series that are there already, until there are so many in the list, no message is there, or the last sign
-// comes. Whether it came.
+// Receives further series that are there already, until there are `most` in the list, no message is there, or the last
+// sign comes. Tells whether it came.
 fn receive_more<R: Wait>(
     rt: &R,
     receiver: &TurnReceiver,
-    slip: &mut Slip,
+    slip: &mut MessagePass,
     orders: &mut Vec<ReceivedTurns>,
     most: usize,
 ) -> bool
@@ -74,23 +74,23 @@ fn receive_more<R: Wait>(
 }
 
 impl SeriesRoom {
-    /// Room for as many series as a worker runs at once. All memory is taken here.
+    /// Reserves room for as many series as a worker runs at once, so that none is allocated later.
     ///
     /// # Errors
-    /// Where it was refused.
+    /// `AllocError` if the allocation fails.
     pub fn new(alloc: Global) -> Result<SeriesRoom, AllocError> {
         let orders = Vec::with_capacity(alloc, MOST_SERIES)?;
         Ok(SeriesRoom { orders })
     }
 
-    // Runs this series, and at once with it further ones that are there already, as many as the job can. Whether the last sign
-    // came behind them.
+    // Runs this series, and at once with it further ones that are there already, as many as the job can. Whether the
+    // last sign came after them.
     pub(crate) fn run_with_more<T: Ledger, C: Ledger, J: Turns<T, C>, R: Wait>(
         &mut self,
         rt: &R,
         job: &J,
         receiver: &TurnReceiver,
-        slip: &mut Slip,
+        slip: &mut MessagePass,
         order: ReceivedTurns,
         worker: &mut Worker<T, C>,
     ) -> bool

@@ -2,7 +2,8 @@
 
 ghost use Rattle.std.specs.Prelude.{◌≡◌, ◌<◌, slice_get, Some};
 
-use crate::lender::Lender;
+use crate::lender::ThreadCounts;
+use crate::own_count::OwnCount;
 use crate::tally::Tally;
 use std::marker::Model;
 use std::sync::ledger::Ledger;
@@ -12,7 +13,7 @@ use std::sync::ledger::Ledger;
 #[derive(Drop)]
 pub struct Shares<T: Ledger, C: Ledger, O: Ledger, E: Ledger> {
     /// Who lends the parts.
-    pub all: Lender<T, C, O, E>,
+    pub all: ThreadCounts<T, C, O, E>,
 }
 
 impl<T: Ledger, C: Ledger, O: Ledger, E: Ledger> Model for Shares<T, C, O, E> {
@@ -26,7 +27,7 @@ impl<T: Ledger, C: Ledger, O: Ledger, E: Ledger> Model for Shares<T, C, O, E> {
 }
 
 impl<T: Ledger, C: Ledger, O: Ledger, E: Ledger> Shares<T, C, O, E> {
-    /// What the worker at this seat has counted.
+    /// Returns what the worker at this seat has counted.
     pub fn tally(&self, seat: usize) -> Tally
         requires { seat < 64 }
         ensures { slice_get self.now.tallies seat ≡ Some result }
@@ -34,21 +35,21 @@ impl<T: Ledger, C: Ledger, O: Ledger, E: Ledger> Shares<T, C, O, E> {
         self.all.tally(seat)
     }
 
-    /// What the owner itself has counted: turns that it ran where no thread worked.
-    pub fn owner(&self) -> Tally
+    /// Returns what the owner itself has counted, without other threads.
+    pub fn owner(&self) -> OwnCount
         ensures { result ≡ self.now.owner }
     {
         self.all.owner()
     }
 
-    /// How many pages were offered.
+    /// Returns the number of pages that scanners have offered.
     pub fn offers(&self) -> u64
         ensures { result ≡ self.now.offers }
     {
         self.all.offers()
     }
 
-    /// How many pages were evicted.
+    /// Returns the number of pages that reclaimers have evicted.
     pub fn evictions(&self) -> u64
         ensures { result ≡ self.now.evictions }
     {

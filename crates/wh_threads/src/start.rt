@@ -7,7 +7,7 @@ ghost use Rattle.wh_threads.specs.Gates.{IsTold};
 ghost use Rattle.wh_threads.specs.Handover.{traffic, DispatchesLast};
 ghost use Rattle.wh_threads.specs.Working.{HasWorked};
 
-use crate::channel::{Message, Slip, TurnReceiver, TurnSender, dispatch};
+use crate::channel::{Message, MessagePass, TurnReceiver, TurnSender, dispatch};
 use crate::gate::Gate;
 use crate::series_room::SeriesRoom;
 use crate::work::{Turns, WorkerResult, Works, work_once_told};
@@ -27,7 +27,7 @@ pub struct Equipment<T: Ledger, C: Ledger, J: Turns<T, C>> {
     /// Its counts.
     pub worker: Worker<T, C>,
     /// What it has received: nothing yet.
-    pub slip: Slip,
+    pub slip: MessagePass,
     /// Where the series are that it runs at once.
     pub room: SeriesRoom,
     /// Where it waits until its thread was made.
@@ -40,11 +40,11 @@ pub struct Unstarted<T: Ledger, C: Ledger> {
     /// Its counts.
     pub worker: Worker<T, C>,
     /// What it has received: nothing.
-    pub slip: Slip,
+    pub slip: MessagePass,
 }
 
-/// Dispatches last signs, one for each of so many workers.
-pub fn stop<R: Wait>(rt: &R, sender: &TurnSender, slip: &mut Slip, workers: usize)
+/// Dispatches last signs, one for each of the `workers`.
+pub fn stop<R: Wait>(rt: &R, sender: &TurnSender, slip: &mut MessagePass, workers: usize)
     requires channel { IsSeatAt (sends_on sender.now) slip.old }
     requires part { 0 < (view slip.old).parts }
     ensures channel { IsSeatAt (sends_on sender.now) slip.new }

@@ -33,7 +33,7 @@ pub struct Swept<K: Ledger, J> {
 }
 
 impl<K: Ledger, J> Swept<K, J> {
-    /// Whether the sweep was made.
+    /// Tells whether the sweep was made.
     pub fn is_done(&self) -> bool
         ensures { result ≡ self.now.told.has_begun }
     {

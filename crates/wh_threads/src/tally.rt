@@ -2,7 +2,7 @@
 
 ghost use Rattle.std.specs.Prelude.{◌≡◌, ◌+◌, ◌-◌, ◌*◌, ◌^◌, ◌<◌, ◌≤◌, ◌↔◌, IsTrue};
 
-// Behind more turns there is no room for 64 series of any length.
+// After more turns there is no room for 64 series of any length.
 const MOST_TURNS_BEFORE_SERIES: u64 = 0xffff_ffc0_0000_0000;
 
 /// How many turns a worker has run, and how many charges these took, since the books were opened.
@@ -26,14 +26,14 @@ impl Tally {
         }
     }
 
-    /// Whether there is no room for 64 series of any length: it has more than 2^64 - 2^38 turns.
+    /// Tells whether there is no room for 64 series of any length: it has more than 2^64 - 2^38 turns.
     pub fn is_full(&self) -> bool
         ensures { IsTrue result ↔ (2 ^ 64 - 2 ^ 38 < self.now.turns) }
     {
         self.turns > MOST_TURNS_BEFORE_SERIES
     }
 
-    // So many turns more, which took so many charges.
+    // The count with `turns` more turns, which took `taken` charges.
     pub(crate) fn with_turns(self, turns: u64, taken: u64) -> Tally
         requires room { self.turns + turns < 2 ^ 64 }
         requires few { taken ≤ turns * 2 ^ 32 }

@@ -8,7 +8,7 @@ ghost use Rattle.wh_threads.specs.Handover.{traffic, turns_in};
 ghost use Rattle.wh_threads.specs.Working.{HasWorked, turns_due};
 ghost use Rattle.wh_threads.specs.declared.channel.Message.TheVariants.{Turns, Last};
 
-use crate::channel::{Message, Slip, TurnReceiver, receive};
+use crate::channel::{Message, MessagePass, TurnReceiver, receive};
 use crate::gate::{Told, Waiting};
 use crate::received_turns::ReceivedTurns;
 use crate::series_room::SeriesRoom;
@@ -30,10 +30,11 @@ pub trait Turns<T: Ledger, C: Ledger> {
     /// Waits until this worker may receive turns. Where turns are run under one lock, whoever waits here doesn't wait there.
     fn acquire_turn_lock<R: Wait>(&self, rt: &R);
 
-    /// This worker receives no further turn, so another one may.
+    /// Releases the right to receive turns: this worker receives no further one, so another may.
     fn release_turn_lock(&self);
 
-    /// How many series it can run at once: a worker receives at most as many before it runs them, and at most 64. 0 counts as 1.
+    /// Returns how many series it can run at once: a worker receives at most that many before it runs them, and at most
+    /// 64. 0 counts as 1.
     fn most_at_once(&self) -> usize;
 
     /// Runs all turns of the series that were received, each of which the worker counts. None of these is left, and the list has
@@ -47,10 +48,10 @@ pub trait Turns<T: Ledger, C: Ledger> {
         ensures done { orders.new.items ≡ [] }
         ensures capacity { vec_capacity orders.old ≤ vec_capacity orders.new };
 
-    /// The same for another worker.
+    /// Returns the same for another worker.
     ///
     /// # Errors
-    /// Where memory was refused.
+    /// `AllocError` if an allocation fails.
     fn share(&self) -> Result<Self, AllocError>;
 }
 
@@ -59,7 +60,7 @@ pub trait Turns<T: Ledger, C: Ledger> {
 #[derive(Drop)]
 pub struct WorkerResult<T: Ledger, C: Ledger> {
     worker: Worker<T, C>,
-    slip: Slip,
+    slip: MessagePass,
     told: Told,
 }
 
@@ -78,7 +79,7 @@ impl<T: Ledger, C: Ledger> Model for WorkerResult<T, C> {
 
 impl<T: Ledger, C: Ledger> WorkerResult<T, C> {
     // Its parts.
-    pub(crate) fn into_parts(self) -> (Worker<T, C>, Slip)
+    pub(crate) fn into_parts(self) -> (Worker<T, C>, MessagePass)
         ensures { (result.0 ≡ self.worker) × (result.1 ≡ self.slip) }
     {
         let (worker, slip, _) = self.into_all();
@@ -86,7 +87,7 @@ impl<T: Ledger, C: Ledger> WorkerResult<T, C> {
     }
 
     // The same, with what it was told before it began.
-    pub(crate) fn into_all(self) -> (Worker<T, C>, Slip, Told)
+    pub(crate) fn into_all(self) -> (Worker<T, C>, MessagePass, Told)
         ensures parts { (result.0 ≡ self.worker) × (result.1 ≡ self.slip) }
         ensures told { (result.2.slip ≡ self.told) × (result.2.has_begun ≡ self.has_begun) }
     {
@@ -111,7 +112,7 @@ impl<T: Ledger, C: Ledger> Promise<WorkerResult<T, C>> for Works {
     ghost kept_by = { λ p r. HasWorked (receives_on p.receiver.value) p.from r.worker r.slip };
 }
 
-// The series that a message is. None for the last sign.
+/// Returns the series of turns that a message dispatches; `None` for the last message.
 pub fn series_of(message: Message) -> Option<ReceivedTurns>
     ensures some { IfSome result (λ order. (first : ℕ)
         × (message ≡ Turns first order.count order.instance order.quantum)) }
@@ -129,13 +130,13 @@ pub fn series_of(message: Message) -> Option<ReceivedTurns>
     }
 }
 
-/// Waits for a message, and receives it: the turns that it is. None at the last sign, and where the channel was empty and no
-/// sender was left.
+/// Waits for a message, and receives it; returns the turns that it is. Returns `None` at the last sign, and if the
+/// channel was empty and no sender was left.
 #[tactic(auto, using(crate::proofs::Runs::turns_in_turns, crate::proofs::Runs::turns_in_last))]
 pub fn receive_turns<R: Wait>(
     rt: &R,
     receiver: &TurnReceiver,
-    slip: &mut Slip,
+    slip: &mut MessagePass,
 ) -> Option<ReceivedTurns>
     requires channel { IsSeatAt (receives_on receiver.now) slip.old }
     requires part { 0 < (view slip.old).parts }
@@ -153,15 +154,15 @@ pub fn receive_turns<R: Wait>(
     series_of(receive(rt, receiver, slip)?)
 }
 
-// Receives series and runs as many at once as its job can, until the last sign.
+// Receives series and runs as many at once as its job can, until the last sign, or the worker is full.
 fn work<T: Ledger, C: Ledger, J: Turns<T, C>, R: Wait>(
     rt: &R,
     job: &J,
     receiver: &TurnReceiver,
     worker: Worker<T, C>,
-    slip: Slip,
+    slip: MessagePass,
     room: SeriesRoom,
-) -> (Worker<T, C>, Slip)
+) -> (Worker<T, C>, MessagePass)
     requires channel { IsSeatAt (receives_on receiver.now) slip }
     requires can { J.can }
     requires new { view slip ≡ traffic 1 [] [] }
@@ -187,13 +188,13 @@ fn work<T: Ledger, C: Ledger, J: Turns<T, C>, R: Wait>(
     (worker, slip)
 }
 
-// Waits until the thread is told to begin, and then works. Where it is told to stay it does nothing.
+/// Waits until the thread is told to begin, and then works; or does nothing if it is told to stay.
 pub fn work_once_told<T: Ledger, C: Ledger, J: Turns<T, C> + Drop, R: Wait + Drop>(
     rt: R,
     job: J,
     receiver: TurnReceiver,
     worker: Worker<T, C>,
-    slip: Slip,
+    slip: MessagePass,
     room: SeriesRoom,
     waiting: Waiting,
 ) -> WorkerResult<T, C>

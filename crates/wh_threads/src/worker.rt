@@ -61,35 +61,35 @@ impl<T: Ledger, C: Ledger> Worker<T, C> {
         (tally, turns, charges)
     }
 
-    /// What it had counted when it began.
+    /// Returns what it had counted when it began.
     pub fn from(&self) -> Tally
         ensures { result ≡ self.now.from }
     {
         self.from
     }
 
-    /// What it has counted.
+    /// Returns what it has counted.
     pub fn tally(&self) -> Tally
         ensures { result ≡ self.now.tally }
     {
         self.tally
     }
 
-    /// Whether there is no room for 64 series of any length: it has run more than 2^64 - 2^38 turns.
+    /// Tells whether there is no room for 64 series of any length: it has run more than 2^64 - 2^38 turns.
     pub fn is_full(&self) -> bool
         ensures { IsTrue result ↔ (2 ^ 64 - 2 ^ 38 < self.now.tally.turns) }
     {
         self.tally.is_full()
     }
 
-    /// Whether it has run no turn since it began.
+    /// Tells whether it has run no turn since it began.
     pub fn is_idle(&self) -> bool
         ensures { IsTrue result ↔ (self.now.tally ≡ self.now.from) }
     {
         self.tally == self.from
     }
 
-    // So many turns more, which took so many charges, in the books too.
+    // Counts `many` turns, which took `taken` charges, in the books too.
     pub(crate) fn count(
         &mut self,
         turns: &mut Count<T>,

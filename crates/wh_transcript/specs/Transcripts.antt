@@ -15,8 +15,8 @@ use Rattle.wh_journal.specs.Calls.{JournalCallState}
 use Rattle.wh_instance.specs.declared.stages.Suspension.{Suspension}
 use Rattle.wh_instance.specs.Tenancy.{RepresentsEach, suspension_of}
 
--- The bytes of a module, what the owner of an instance of it gave, its calls in the order of their coming, how many of the
--- first ones were copied with it, and for what the first open one stands.
+-- The bytes of a module, what the owner of an instance of it gave, its calls in the order of their coming, how many of the first
+-- ones were copied with it, and what the first open one is blocked on.
 pub record TranscriptState : Type 0 where
   pub bytes : List ℕ
   pub params : Params
@@ -24,9 +24,9 @@ pub record TranscriptState : Type 0 where
   pub copied : ℕ
   pub waiting_for : Option Suspension
 
--- The bytes spell a module that is accepted. An instance of it, which is given that, has these calls: those that have
--- ended, all that were copied among them, and then the open ones. They lead to this store, at which the first open one is
--- there, and what it stands for is right, where bytes of memory are wanted, if they are.
+-- The bytes spell a module that is accepted. An instance of it, which is given that, has these calls: those that have ended, all
+-- that were copied among them, and then the open ones. They lead to this store, at which the first open one is there, and what it
+-- is blocked on is right, where bytes of memory are wanted, if they are.
 pub record IsReplayable (t : TranscriptState) : Type 0 where
   pub m : Module
   pub accepted : IsAccepted t.bytes m

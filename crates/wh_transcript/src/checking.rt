@@ -100,11 +100,11 @@ fn first_other(requested: &[RequestedCall], calls: &[JournalCall]) -> Option<usi
     None
 }
 
-/// Whether a transcript is of these requests: the same module, given the same, and as many calls, each of the same
-/// function with the same arguments and the same fuel in all, and ended as was said, where that was said.
+/// Checks that a transcript is of these requests: the same module, given the same, and as many calls, each of the same
+/// function with the same arguments and the same fuel in all, and ended as was said, if that was said.
 ///
 /// # Errors
-/// Where it isn't: the first of the faults that holds, in the order of their declaration.
+/// The first of the faults that applies, in the order of their declaration.
 pub fn check_transcript(requests: &Requests, transcript: &Transcript) -> Result<(), TranscriptFault>
     ensures ok { OnOk result (IsOfRequests requests.now transcript.now) }
     ensures err { OnErr result (¬ (IsOfRequests requests.now transcript.now)) }

@@ -10,8 +10,8 @@ use wh_instance::Suspension;
 use wh_journal::JournalCall;
 
 /// An instance of a host as it was when it was asked for: the bytes of its module, what its owner gave it, its calls in
-/// the order of their coming, the first of which is its start, how many of the first ones were copied with it, and for
-/// what the first open one stands.
+/// the order in which they were asked, the first of which is its start, how many of the first ones were copied with it,
+/// and what the first open one is blocked on.
 #[derive(Drop)]
 pub struct Transcript {
     bytes: Arc<Vec<u8>>,
@@ -41,7 +41,7 @@ impl Model for Transcript {
 }
 
 impl Transcript {
-    /// The transcript of these.
+    /// Creates a transcript of these parts.
     pub fn new(
         bytes: Arc<Vec<u8>>,
         params: Params,
@@ -66,35 +66,36 @@ impl Transcript {
         }
     }
 
-    /// The bytes of its module.
+    /// Returns the bytes of its module.
     pub fn bytes(&self) -> &[u8]
         ensures { result.now ≡ self.now.bytes }
     {
         &self.bytes
     }
 
-    /// What its owner gave it.
+    /// Returns what its owner gave it.
     pub fn params(&self) -> &Params
         ensures { view_params result.now ≡ self.now.params }
     {
         &self.params
     }
 
-    /// Its calls in the order of their coming, the first of which is its start.
+    /// Returns its calls in the order in which they were asked; the first is its start.
     pub fn calls(&self) -> &[JournalCall]
         ensures { result.now ≡ self.now.calls }
     {
         &self.calls
     }
 
-    /// How many of the first calls were copied with it: they were asked of the instance that it is a copy of.
+    /// Returns the number of its first calls that were copied with it: they were asked of the instance that it is a
+    /// copy of.
     pub fn copied(&self) -> usize
         ensures { result ≡ self.now.copied }
     {
         self.copied
     }
 
-    /// For what its first open call stands, if no turn of it is taken.
+    /// Returns what its first open call is blocked on, if it is.
     pub fn waiting_for(&self) -> Option<Suspension>
         ensures { result ≡ self.now.waiting_for }
     {

@@ -1,10 +1,8 @@
 -- One body more is checked; and what is known of checked bodies.
 use Rattle.std.proofs.Common.{◌≡◌, ℕ, zero, suc, ◌+◌, ◌<◌, List, [], ◌∷◌, ◌++◌, length, map, drop, get_or, Some, slice_get, refl, sym, ap, subst, arith, ◌∙◌, append_assoc, append-nil, ◌≤◌, min, ◌-◌, ◌^◌}
 use Rattle.std.proofs.Math.ListN.{drop_of_length-le}
-use Rattle.wh_model.specs.Format.Syntax.{FuncType, Body}
-use Rattle.wh_model.specs.Validity.Typing.{Context}
-use Rattle.wh_model.specs.Validity.Valid.{ValidBody, ValidBodies}
-use Rattle.wh_model.specs.Validity.Heights.{FitsBody, FitBodies}
+use Rattle.wh_model.specs.Format.{FuncType, Body}
+use Rattle.wh_model.specs.Validity.{Context, ValidBody, ValidBodies, FitsBody, FitBodies}
 use Rattle.wh_syntax.specs.View.{view_body}
 use Rattle.wh_syntax.specs.declared.module.Body.{Body as Given}
 use Rattle.wh_bodies.specs.SideTables.{Table, table_of}

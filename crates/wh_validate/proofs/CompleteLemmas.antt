@@ -3,9 +3,8 @@ use Rattle.std.proofs.Common.{◌≡◌, ℕ, zero, suc, ◌<◌, ◌≤◌, Lis
 use Rattle.std.specs.List.{AllByRecursion}
 use Rattle.std.proofs.lemmas.List.{length-map}
 use Rattle.wh_model.specs.Format.Syntax as model
-use Rattle.wh_model.specs.Validity.Typing.{Context}
-use Rattle.wh_model.specs.Validity.Valid.{func_first, ValidType, WithinBound, most_entries, most_pages, imported_funcs, imported_globals, Name, IsContext, ValidGlobal, ValidElement, ValidData, Exported, IsValidIn, Valid, ValidBodies}
-use Rattle.wh_model.specs.Validity.Heights.{FitsTable, FitsIn, Fits, FitBodies}
+use Rattle.wh_model.specs.Validity.{Context, func_first, ValidType, WithinBound, most_entries, most_pages, imported_funcs, imported_globals, Name, IsContext, ValidGlobal, ValidElement, ValidData, Exported, IsValidIn, ValidBodies, FitsTable, FitsIn, Fits, FitBodies}
+use Rattle.wh_model.specs.Validity.Valid.{Valid}
 use Rattle.wh_syntax.specs.declared.module.Module.{Module}
 use Rattle.wh_syntax.specs.declared.module.Import.{Import}
 use Rattle.wh_syntax.specs.declared.module.ImportDesc.{ImportDesc}
@@ -103,10 +102,9 @@ IsRightWith m bs = Valid (with_bodies (view_module m) bs) × Fits (with_bodies (
 pub outline_of : (m : Module) (bs : List model.Body) → IsRightWith m bs → HasValidOutline m
 outline_of m bs both =
     let (c, (valid, fits)) = right_in (with_bodies (view_module m) bs) both in
-    let context = valid.context in
     let below = split_below (λ x. x < length m.types.items) (imported_funcs (map view_import m.imports.items)) m.funcs.items
     (subst (λ n. AllByRecursion (λ x. x < n) (imported_funcs (map view_import m.imports.items) ++ m.funcs.items)) (length-map m.types.items view_type)
-    (named_below (map view_type m.types.items) (imported_funcs (map view_import m.imports.items) ++ m.funcs.items) c.funcs context.funcs)) in
+    (named_below (map view_type m.types.items) (imported_funcs (map view_import m.imports.items) ++ m.funcs.items) c.funcs valid.context.funcs)) in
     record {
       types = from_mapped (λ t. ValidType (view_type t)) ValidType view_type (λ t p. p) m.types.items valid.types;
       imports = recursion_each (NamesType (length m.types.items)) (NamesType (length m.types.items)) (λ i p. p) m.imports.items (imports_name (length m.types.items) m.imports.items below.0);

@@ -4,8 +4,8 @@ use Rattle.wh_model.specs.declared.ValType.{ValType}
 use Rattle.wh_model.specs.declared.ValType.TheVariants.{I32, I64}
 use Rattle.wh_model.specs.declared.Mutability.TheVariants.{Const}
 use Rattle.wh_model.specs.Format.Syntax as model
-use Rattle.wh_model.specs.Format.Syntax.{Op, i32_const, i64_const, global_get, Code, nothing, plain, block, loop, if_then, if_else, single, flatten, expression, end_mark, GlobalType}
-use Rattle.wh_model.specs.Validity.Valid.{ConstantOf}
+use Rattle.wh_model.specs.Format.{Op, i32_const, i64_const, global_get, Code, nothing, plain, block, loop, if_then, if_else, single, flatten, expression, end_mark, GlobalType}
+use Rattle.wh_model.specs.Validity.{ConstantOf}
 use Rattle.wh_syntax.specs.declared.instr.Instr.{Instr}
 use Rattle.wh_syntax.specs.declared.instr.Instr.TheVariants.{I32Const, I64Const, GlobalGet}
 use Rattle.wh_syntax.specs.Shown.{instr_of}

@@ -2,7 +2,7 @@
 use Rattle.std.proofs.Common.{◌≡◌, ◌<◌, length, map, sym, subst}
 use Rattle.wh_model.specs.declared.ExternKind.{ExternKind}
 use Rattle.wh_model.specs.declared.ExternKind.TheVariants.{Func, Table, Memory, Global}
-use Rattle.wh_model.specs.Validity.Valid.{Exported}
+use Rattle.wh_model.specs.Validity.{Exported}
 use Rattle.wh_syntax.specs.View.{view_global_type, view_table, view_limits, view_type}
 use Rattle.wh_syntax.specs.declared.module.Export.{Export}
 use Rattle.wh_bodies.specs.declared.context.Context.{Context as Given}

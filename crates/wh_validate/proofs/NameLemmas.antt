@@ -6,7 +6,7 @@ use Rattle.std.proofs.lemmas.List.{take_more}
 use Rattle.std.proofs.lemmas.List.Folds.{list_any-append}
 use Rattle.std.proofs.lemmas.Bool.{false_from_ne_true}
 use Rattle.std.proofs.lemmas.Slice.Eq.{bytes_eq-Decides}
-use Rattle.wh_model.specs.Validity.Valid.{DifferentNames}
+use Rattle.wh_model.specs.Validity.{DifferentNames}
 use Rattle.wh_syntax.specs.View.{view_export}
 use Rattle.wh_syntax.specs.declared.module.Export.{Export}
 use Rattle.std.specs.Str.{bytes_eq}

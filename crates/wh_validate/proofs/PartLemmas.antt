@@ -1,18 +1,16 @@
 -- Segments are valid where their indices are below the counts and their offsets are constant.
-use Rattle.std.proofs.Common.{◌≡◌, ℕ, ◌<◌, List, length, map, take, sym, subst, All, Some, slice_get, get_or, unwrap_or, ap, ◌∙◌}
+use Rattle.std.proofs.Common.{ℕ, ◌<◌, List, length, map, take, sym, subst, All}
 use Rattle.std.specs.List.{AllByRecursion}
 use Rattle.wh_model.specs.declared.ValType.TheVariants.{I32}
-use Rattle.wh_model.specs.Format.Syntax.{Code}
-use Rattle.wh_model.specs.Validity.Heights.{no_type}
-use Rattle.wh_model.specs.Validity.Valid.{ConstantOf, HasFunc}
+use Rattle.wh_model.specs.Format.{Code}
+use Rattle.wh_model.specs.Validity.{ConstantOf, HasFunc}
 use Rattle.wh_syntax.specs.View.{view_global_type, view_table, view_limits, view_type}
-use Rattle.wh_syntax.specs.declared.module.FuncType.{FuncType as Func}
 use Rattle.wh_syntax.specs.declared.module.Element.{Element}
 use Rattle.wh_syntax.specs.declared.module.Data.{Data}
 use Rattle.wh_bodies.specs.declared.context.Context.{Context as Given}
 use Rattle.wh_bodies.specs.View.{view_context, type_at}
 use Rattle.wh_validate.specs.Parts.{IsValidElement, IsSegment}
-use Rattle.wh_validate.proofs.Lists.{item_at, item_below, take_whole, each_recursion, recursion_each, get_mapped}
+use Rattle.wh_validate.proofs.Lists.{item_at, item_below, take_whole, each_recursion, recursion_each}
 use Rattle.wh_validate.proofs.Deciding.{Same}
 
 -- an offset sees all globals
@@ -46,16 +44,3 @@ segment_same c d = (
   λ p. (item_at view_limits c.memories.now d.memory p.0, (offset_same c d.offset).0 p.1),
   λ p. (item_below view_limits c.memories.now d.memory p.0.0 p.0.1, (offset_same c d.offset).1 p.1),
 )
-
--- the start function's type
-pub start_same : (c : Given) (i d : ℕ) (e : Func) → i < length c.funcs.now → AllByRecursion (λ x. x < length c.types.now) c.funcs.now
-    → Same (view_type (get_or c.types.now (get_or c.funcs.now i d) e) ≡ no_type) (slice_get (view_context c).funcs i ≡ Some no_type)
-start_same c i d e lt named =
-    let types = map view_type c.types.now in
-    let x = get_or c.funcs.now i d in
-    let below = recursion_each (λ y. y < length c.types.now) (λ y. y < length c.types.now) (λ y h. h) c.funcs.now named i d lt in
-    let at : slice_get (view_context c).funcs i ≡ Some (type_at types x) = get_mapped (type_at types) c.funcs.now i d lt in
-    let type : type_at types x ≡ view_type (get_or c.types.now x e) = ap (λ o. unwrap_or o no_type) (get_mapped view_type c.types.now x e below) in (
-      λ p. at ∙ ap (λ t. Some t) (type ∙ p),
-      λ q. let same : type_at types x ≡ no_type = cc (at, q) in sym type ∙ same,
-    )

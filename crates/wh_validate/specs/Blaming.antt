@@ -11,7 +11,7 @@ use Rattle.wh_bodies.specs.BodyFaults.{IsOfBody, HasInstr}
 
 -- ---- in a function
 
--- the body of the function that stands there among the module's own, which has this instruction
+-- the body of the function that is there among the module's own, which has this instruction
 pub record IsBadBody (c : Context) (funcs : List ℕ) (bodies : List Body) (at instr : ℕ) : Type 0 where
   pub index : ℕ
   pub type : FuncType
@@ -22,7 +22,7 @@ pub record IsBadBody (c : Context) (funcs : List ℕ) (bodies : List Body) (at i
   pub refused : ¬ (ValidBody c type body × FitsBody c type body)
   pub has_instr : HasInstr body instr
 
--- behind so many imported functions, with a fault that bodies have
+-- after `imported` imported functions, with a fault that bodies have
 abbrev pub Blames : Context → ℕ → List ℕ → List Body → Option ℕ → ℕ → ValidKind → Type 0
 Blames c imported funcs bodies None instr kind = ⊥
 Blames c imported funcs bodies (Some func) instr kind =

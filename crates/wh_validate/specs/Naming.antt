@@ -4,7 +4,7 @@ use Rattle.wh_syntax.specs.declared.module.Import.{Import}
 use Rattle.wh_syntax.specs.declared.module.ImportDesc.{ImportDesc}
 use Rattle.wh_syntax.specs.declared.module.ImportDesc.TheVariants.{Func, Global}
 
--- the type of a function is one of so many
+-- the type of a function is one of `types`
 abbrev pub NamesTypeOf : ℕ → ImportDesc → Type 0
 NamesTypeOf types (Func x) = x < types
 NamesTypeOf types (Global t) = Unit {0}

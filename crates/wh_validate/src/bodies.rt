@@ -15,7 +15,7 @@ use wh_bodies::{Context, SideTable, check_body};
 use wh_model::ValidKind;
 use wh_syntax::Body;
 
-/// Checks each function's body, and finds where its branches lead. The first so many functions are imported.
+/// Checks each function's body, and finds where its branches lead. The first `imported` functions are imported.
 ///
 /// # Errors
 /// The fault of the first body that has one, with the index of its function.

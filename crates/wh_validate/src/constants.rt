@@ -9,11 +9,11 @@ ghost use Rattle.wh_validate.specs.ConstantInstructions.{IsConstant};
 use wh_model::{Mutability, ValType, ValidKind};
 use wh_syntax::{Expr, GlobalType, Instr};
 
-/// Whether an expression is constant and of this type. It sees the first so many of the globals.
+/// Checks that an expression is constant and of this type. It may read the first `seen` globals.
 ///
 /// # Errors
-/// `Const` where the expression is another, or its global is written or not seen; `Index` where there is no such global;
-/// `BadType` where the type is another.
+/// `Const` if the expression is no constant, or its global is mutable or not among these; `Index` if there is no such
+/// global; `BadType` if the type is another.
 pub fn check_constant(
     expr: &Expr,
     wanted: ValType,

@@ -12,7 +12,7 @@ use wh_model::ValidKind;
 #[derive(Clone, Copy, Debug, PartialEq, Eq, Error)]
 #[error("{kind}")]
 pub struct ValidError {
-    /// The function in whose body the fault lies, where it lies in one. Imported functions count first.
+    /// The function in whose body the fault is, if it is in one. Imported functions count first.
     pub func: Option<u32>,
     /// The instruction of that body, where opcodes count from 0, `else` and `end` included; 0 without a function.
     pub instr: u32,
@@ -21,7 +21,7 @@ pub struct ValidError {
 }
 
 impl ValidError {
-    /// A fault that lies in no function.
+    /// Returns a fault that is in no function.
     pub fn of_module(kind: ValidKind) -> ValidError
         ensures { result ≡ record { func = None; instr = 0; kind = kind } }
     {
@@ -32,7 +32,7 @@ impl ValidError {
         }
     }
 
-    /// A fault in the body of the function that stands so far behind the imported ones.
+    /// Returns a fault in the body of the function that is at place `at` after the imported ones.
     pub fn in_body(imported: usize, at: usize, fault: BodyFault) -> ValidError
         ensures { result
             ≡ record {
@@ -50,7 +50,7 @@ impl ValidError {
     }
 }
 
-// A growth that was refused. It lies in no function.
+// A failed allocation. It is in no function.
 impl<T: Drop> From<AllocFailed<T>> for ValidError {
     ghost from_gives = { λ failed error. error.kind ≡ Memory };
 

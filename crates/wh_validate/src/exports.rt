@@ -53,10 +53,10 @@ fn add_name<'a>(names: &mut BTreeMap<&'a str, ()>, name: &'a str) -> Result<(), 
     }
 }
 
-/// Whether all exports are there, and have different names.
+/// Checks that all exports name something that the module has, and have different names.
 ///
 /// # Errors
-/// Of the first that fails: `Index` where it isn't there, else `DuplicateExport`.
+/// Of the first that fails: `Index` if it names nothing, else `DuplicateExport`. `Memory` if an allocation fails.
 pub fn check_exports(
     alloc: Global,
     context: &Context<'_>,

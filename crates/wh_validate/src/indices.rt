@@ -20,10 +20,10 @@ pub struct Indices {
     pub globals: Vec<GlobalType>,
 }
 
-/// Whether the index names one of the items.
+/// Checks that the index is one of the items'.
 ///
 /// # Errors
-/// `Index` where it doesn't.
+/// `Index` if it isn't.
 pub fn check_index<T>(items: &[T], index: u32) -> Result<(), ValidKind>
     ensures decides { Decides result (index < length items.now) }
     ensures err { IfErr result (λ k. k ≡ ValidKind.Index) }
@@ -35,10 +35,10 @@ pub fn check_index<T>(items: &[T], index: u32) -> Result<(), ValidKind>
     }
 }
 
-/// Whether each index is below a count.
+/// Checks that each index is below `count`.
 ///
 /// # Errors
-/// `Index` where one isn't.
+/// `Index` if one isn't.
 pub fn check_indices(count: usize, indices: &[u32]) -> Result<(), ValidKind>
     ensures decides { Decides result (All (λ x. x < count) indices.now) }
     ensures err { IfErr result (λ k. k ≡ ValidKind.Index) }
@@ -51,10 +51,10 @@ pub fn check_indices(count: usize, indices: &[u32]) -> Result<(), ValidKind>
     Ok(())
 }
 
-/// What the imports bring, in order.
+/// Returns what the imports add to the index spaces of functions and globals, in order.
 ///
 /// # Errors
-/// `Index` where the type of a function isn't there.
+/// `Index` if the type of a function isn't there; `Memory` if an allocation fails.
 pub fn imported(alloc: Heap, types: &[FuncType], imports: &[Import]) -> Result<Indices, ValidKind>
     ensures funcs { IfOk result
         (λ i. i.funcs.items ≡ imported_funcs (map view_import imports.now)) }
@@ -83,7 +83,7 @@ pub fn imported(alloc: Heap, types: &[FuncType], imports: &[Import]) -> Result<I
     Ok(Indices { funcs, globals })
 }
 
-/// Puts the functions that the module defines behind those that it imports.
+/// Puts the functions that the module defines after those that it imports.
 pub fn add_funcs(funcs: &mut Vec<u32>, own: &[u32]) -> Result<(), ValidKind>
     ensures ok { OnOk result (funcs.new.items ≡ funcs.old.items ++ own.now) }
     ensures err { IfErr result (λ k. k ≡ ValidKind.Memory) }
@@ -94,7 +94,7 @@ pub fn add_funcs(funcs: &mut Vec<u32>, own: &[u32]) -> Result<(), ValidKind>
     }
 }
 
-/// Puts the types of the globals that the module defines behind those of the ones that it imports.
+/// Puts the types of the globals that the module defines after those of the ones that it imports.
 pub fn add_globals(globals: &mut Vec<GlobalType>, own: &[Global]) -> Result<(), ValidKind>
     ensures ok { OnOk result
         (globals.new.items ≡ globals.old.items ++ map (λ g. g.global_type) own.now) }

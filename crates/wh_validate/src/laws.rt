@@ -5,7 +5,7 @@ ghost use Rattle.wh_model.specs.Format.Syntax.{Module};
 ghost use Rattle.wh_model.specs.Validity.Typing.{Context};
 ghost use Rattle.wh_model.specs.Validity.Valid.{IsContext};
 
-/// A module has one context at most. The function does nothing; what it ensures is the law.
+/// States that a module has at most one context. Does nothing when run: its contract is the law.
 pub fn one_context()
     ensures { (m : Module) (c d : Context) → IsContext m c → IsContext m d → c ≡ d }
 {}

@@ -1,4 +1,4 @@
-//! The validator (section 3 of the W3C WebAssembly Core Specification 1.0), and the limits that this host sets beside it
+//! The validator (section 3 of the W3C WebAssembly Core Specification 1.0), and the limits that this host sets besides it
 //! (section 7.2).
 //!
 //! `validate` takes a module that was decoded, and gives it back as a `ValidModule`, or the first fault. Proved: what

@@ -16,8 +16,8 @@ use wh_bodies::Context;
 use wh_model::{ValType, ValidKind};
 use wh_syntax::{Data, Element, FuncType, Global, GlobalType};
 
-/// Whether a global's own expression is a constant of its type. It sees the imported globals, which are the first so
-/// many of all.
+/// Whether a global's own expression is a constant of its type. It may read the imported globals, which are the first
+/// `imported` of all.
 ///
 /// # Errors
 /// As `check_constant`'s.
@@ -67,10 +67,10 @@ fn check_segment(context: &Context<'_>, segment: &Data) -> Result<(), ValidKind>
     )
 }
 
-/// Whether all globals are valid.
+/// Checks that all globals are valid.
 ///
 /// # Errors
-/// As `check_global`'s, of the first that isn't.
+/// As `check_constant`'s, of the first that isn't.
 pub fn check_globals(
     own: &[Global],
     globals: &[GlobalType],
@@ -86,7 +86,7 @@ pub fn check_globals(
     Ok(())
 }
 
-/// Whether all element segments are valid.
+/// Checks that all element segments are valid.
 ///
 /// # Errors
 /// As `check_element`'s, of the first that isn't.
@@ -101,7 +101,7 @@ pub fn check_elements(context: &Context<'_>, elements: &[Element]) -> Result<(),
     Ok(())
 }
 
-/// Whether all data segments are valid.
+/// Checks that all data segments are valid.
 ///
 /// # Errors
 /// As `check_segment`'s, of the first that isn't.
@@ -115,10 +115,10 @@ pub fn check_segments(context: &Context<'_>, segments: &[Data]) -> Result<(), Va
     Ok(())
 }
 
-/// Whether the start function is there, and takes and gives nothing.
+/// Checks that the start function, if any, is there, and has no parameters and no result.
 ///
 /// # Errors
-/// `Index` where it isn't there; `Start` where it takes or gives something.
+/// `Index` if it isn't there; `Start` if it has parameters or a result.
 pub fn check_start(context: &Context<'_>, start: Option<u32>) -> Result<(), ValidKind>
     requires named { AllByRecursion (λ x. x < length context.now.types.now) context.now.funcs.now }
     ensures decides { Decides result (ValidStart (view_context context.now) start) }

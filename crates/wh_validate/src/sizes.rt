@@ -13,10 +13,10 @@ use wh_syntax::{Limits, TableType};
 
 const MOST_FIRST_ENTRIES: u32 = 4096;
 
-/// Whether there is one table at most, with 4096 entries at first at most, and no more than at last.
+/// Checks that there is at most one table, of at most 4096 entries initially, and of no more than its maximum.
 ///
 /// # Errors
-/// `Limits` where it isn't so.
+/// `Limits` if not.
 pub fn check_tables(tables: &[TableType]) -> Result<(), ValidKind>
     ensures decides { Decides result
         ((length tables.now ≤ 1) × All (λ t. IsTable (view_table t)) tables.now) }
@@ -38,10 +38,10 @@ fn is_table(limits: Limits) -> bool
     }
 }
 
-/// Whether there is one memory at most, with 65536 pages at most, and no more at first than at last.
+/// Checks that there is at most one memory, of at most 65536 pages of 65536 bytes, initially no more than its maximum.
 ///
 /// # Errors
-/// `Limits` where it isn't so.
+/// `Limits` if not.
 pub fn check_memories(memories: &[Limits]) -> Result<(), ValidKind>
     ensures decides { Decides result
         ((length memories.now ≤ 1)

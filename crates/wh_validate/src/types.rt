@@ -9,10 +9,10 @@ ghost use Rattle.wh_validate.specs.Deciding.{Decides};
 use wh_model::ValidKind;
 use wh_syntax::FuncType;
 
-/// Whether each function type has one result at most (3.2.3).
+/// Checks that each function type has at most one result (3.2.3).
 ///
 /// # Errors
-/// `Limits` where one has more.
+/// `Limits` if one has more.
 pub fn check_types(types: &[FuncType]) -> Result<(), ValidKind>
     ensures decides { Decides result (All (λ t. ValidType (view_type t)) types.now) }
     ensures err { IfErr result (λ k. k ≡ ValidKind.Limits) }

@@ -44,7 +44,7 @@ impl Model for ValidModule {
 }
 
 impl ValidModule {
-    /// The module.
+    /// Returns the module.
     pub fn module(&self) -> &Module
         ensures same { result.now ≡ self.now.decoded }
         // It is valid, it fits, and its bodies have their tables.
@@ -53,7 +53,7 @@ impl ValidModule {
         &self.decoded
     }
 
-    /// The branch targets of each body, in the order of the functions that the module defines.
+    /// Returns the branch targets of each body, in the order of the functions that the module defines.
     pub fn tables(&self) -> &[SideTable]
         ensures { result.now ≡ self.now.tables }
     {

@@ -7,10 +7,10 @@ use Rattle.wh_threads.specs.declared.channel.Message.TheVariants.{Turns}
 use Rattle.wh_threads.specs.declared.channel.Traffic.{Traffic}
 use Rattle.wh_threads.specs.Handover.{turns_in, turn_numbers, AreNumbered, Dispatches, DispatchesLast}
 use Rattle.wh_threads.proofs.Runs.{quanta_more, turns_in_turns}
-use Rattle.wh_host_model.specs.declared.plain.InstId.{InstId}
+use Rattle.wh_space_model.specs.declared.plain.InstId.{InstId}
 use Rattle.wh_workers.specs.Serving.{AreTurns}
 
--- so many numbers, and then so many that go on from there
+-- n numbers, and then n that go on from there
 range-then : (a m n b all : ℕ) → a + m ≡ b → m + n ≡ all → range_with_len a all ≡ range_with_len a m ++ range_with_len b n
 range-then a zero n b all begin sum =
     let begins : a ≡ b = omega (arith, begin) in
@@ -81,25 +81,6 @@ turns_still sent sent2 same count q were = rw same were
 -- nothing was dispatched
 pub turns_none : (sent : List Message) → sent ≡ [] → (q : ℕ) → AreTurns 0 q sent
 turns_none sent none q = rw none (record { many = refl; numbered = refl; quanta = tt })
-
--- so many turns more
-pub turns_more : (sent sent2 : List Message) (count more q : ℕ) (instance : InstId) → AreTurns count q sent
-    → sent2 ≡ sent ++ Turns count more instance q ∷ [] → AreTurns (count + more) q sent2
-turns_more sent sent2 count more q instance were is = rw is (record {
-  many = omega (arith, turns_in_turns sent count more instance q, were.many);
-  numbered = numbered_turns sent count more instance q were.numbered were.many;
-  quanta = quanta_more q sent (Turns count more instance q) (λ i. q) were.quanta;
-})
-
--- so many turns were dispatched already, and nothing since
-pub dispatches_none : (v : Traffic Message) (count q : ℕ) → AreTurns count q v.sent → Dispatches v count q v
-dispatches_none v count q were = record {
-  parts = refl;
-  received = refl;
-  turns = were.many;
-  numbered = were.numbered;
-  quanta = were.quanta;
-}
 
 -- ---- slips
 

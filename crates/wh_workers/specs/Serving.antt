@@ -3,13 +3,13 @@ use Rattle.std.specs.Prelude.{◌≡◌, ℕ, ◌+◌, List, [], ◌∷◌, ◌+
 use Rattle.wh_threads.specs.declared.channel.Message.{Message}
 use Rattle.wh_threads.specs.Handover.{AreNumbered, HaveQuantum, turns_in}
 
--- so many turns are among the messages, of q charges each, and numbered from 0 on in order
+-- `turns` turns are among the messages, of q charges each, and numbered from 0 on in order
 pub record AreTurns (turns q : ℕ) (messages : List Message) : Type 0 where
   pub many : turns_in messages ≡ turns
   pub numbered : AreNumbered messages
   pub quanta : HaveQuantum q messages
 
--- behind these messages comes the one that was left over, if one was
+-- after these messages comes the one that was left over, if one was
 abbrev pub followed_by : List Message → Option Message → List Message
 followed_by messages None = messages
 followed_by messages (Some last) = messages ++ last ∷ []

@@ -11,14 +11,14 @@ ghost use Rattle.wh_workers.specs.Serving.{AreTurns};
 
 use crate::feed::{Next, Supply, feed};
 use crate::helpers::Helpers;
-use crate::serving::Crew;
+use crate::serving::WorkerSetup;
 use std::alloc::{AllocError, Global};
 use std::sync::Wait;
 use std::sync::ledger::Ledger;
 use std::thread::{PromisedHandle, Threads};
 use wh_threads::{
-    Equipment, Gate, Help, Lender, Message, SeriesRoom, Slip, TurnReceiver, TurnSender, Turns,
-    WorkerResult, Works, pass_for, start_worker, stop,
+    Equipment, Gate, Help, Message, MessagePass, SeriesRoom, ThreadCounts, TurnReceiver,
+    TurnSender, Turns, WorkerResult, Works, pass_for, start_worker, stop,
 };
 
 /// Why not all turns were run.
@@ -36,7 +36,7 @@ pub struct Served {
     /// How many were dispatched.
     pub turns: u64,
     /// What was dispatched and received.
-    pub slip: Slip,
+    pub slip: MessagePass,
     /// What no worker received, where that was found: the last message that was received.
     pub left: Option<Message>,
     /// Whether all of it was done: each turn that was dispatched was run.
@@ -72,7 +72,7 @@ pub struct WorkerRoom {
     gate: Gate,
 }
 
-// Rooms for so many workers.
+// Rooms for `workers` workers.
 fn rooms_for(alloc: Global, workers: usize) -> Result<Vec<WorkerRoom>, AllocError>
     ensures { IfOk result (λ rooms. vec_len rooms ≡ workers) }
 {
@@ -97,8 +97,8 @@ fn start_all<
 >(
     rt: R,
     team: &Team<J>,
-    lender: &mut Lender<T, C, O, E>,
-    slip: &mut Slip,
+    lender: &mut ThreadCounts<T, C, O, E>,
+    slip: &mut MessagePass,
     workers: usize,
     running: Vec<PromisedHandle<WorkerResult<T, C>, Works>>,
     rooms: Vec<WorkerRoom>,
@@ -156,8 +156,8 @@ fn start_all<
 fn join_all<T: Ledger, C: Ledger, O: Ledger, E: Ledger, R: Threads>(
     rt: &R,
     sender: &TurnSender,
-    lender: &mut Lender<T, C, O, E>,
-    slip: &mut Slip,
+    lender: &mut ThreadCounts<T, C, O, E>,
+    slip: &mut MessagePass,
     running: Vec<PromisedHandle<WorkerResult<T, C>, Works>>,
 )
     requires channel { IsSeatAt (sends_on sender.now) slip.old × (0 < (view slip.old).parts) }
@@ -182,8 +182,7 @@ fn join_all<T: Ledger, C: Ledger, O: Ledger, E: Ledger, R: Threads>(
     }
 }
 
-// Dispatches all turns, of so many charges each, and then the last signs. It gives how many turns there were, and whether these
-// were all.
+// Dispatches the turns, and then the last signs. Returns the number of turns dispatched, and the error of `feed`.
 #[tactic(auto, using(crate::proofs::Turns::handed_with_last))]
 fn dispatch_all<
     T: Ledger,
@@ -198,11 +197,11 @@ fn dispatch_all<
     rt: R,
     supply: &mut S,
     helpers: &mut Helpers<O, E, H, P>,
-    lender: &mut Lender<T, C, O, E>,
+    lender: &mut ThreadCounts<T, C, O, E>,
     sender: &TurnSender,
-    slip: &mut Slip,
+    slip: &mut MessagePass,
     first: Next,
-    run_config: Crew,
+    run_config: WorkerSetup,
 ) -> (u64, Result<(), ServeError>)
     requires channel { IsSeatAt (sends_on sender.now) slip.old × (0 < (view slip.old).parts) }
     requires begun { AreTurns 0 run_config.quantum (view slip.old).sent }
@@ -215,14 +214,14 @@ fn dispatch_all<
       reclaimers_out = lender.new.reclaimers_out;
     } }
 {
-    let Crew { workers, quantum } = run_config;
+    let WorkerSetup { workers, quantum } = run_config;
     let fed = feed(rt, supply, helpers, lender, sender, slip, first, quantum);
     stop(&rt, sender, slip, workers);
     fed
 }
 
-// Starts the workers, dispatches all turns, and joins the workers. It gives how many turns there were, and whether all workers were
-// started and these were all turns.
+/// Starts the workers, dispatches the turns, and joins the workers. Returns the number of turns dispatched, and an
+/// error if memory, a worker's thread or a reclaimer was lacking.
 #[tactic(auto, using(crate::proofs::Turns::turns_handed, crate::proofs::Turns::turns_still))]
 pub fn run_crew<
     T: Ledger + Send + 'static,
@@ -240,10 +239,10 @@ pub fn run_crew<
     team: &Team<J>,
     supply: &mut S,
     helpers: &mut Helpers<O, E, H, P>,
-    lender: &mut Lender<T, C, O, E>,
-    slip: &mut Slip,
+    lender: &mut ThreadCounts<T, C, O, E>,
+    slip: &mut MessagePass,
     first: Next,
-    run_config: Crew,
+    run_config: WorkerSetup,
 ) -> (u64, Result<(), ServeError>)
     requires can { J.can }
     requires channel { IsSeatAt (sends_on team.now.sender) slip.old }

@@ -14,19 +14,19 @@ use crate::helpers::Helpers;
 use std::sync::Wait;
 use std::sync::ledger::Ledger;
 use std::thread::Threads;
-use wh_host_model::InstId;
-use wh_threads::{Help, Lender, Message, Slip, TurnSender, dispatch};
+use wh_space_model::InstId;
+use wh_threads::{Help, Message, MessagePass, ThreadCounts, TurnSender, dispatch};
 
-// The scanner is started behind so many turns: half of those for which a page is owed.
+// After how many turns the scanner is started: half of those for which a page is owed.
 const TURNS_BEFORE_A_SCANNER: u64 = 32;
 
-// Behind more turns there isn't room for a series of any length.
+// After more turns there isn't room for a series of any length.
 const MOST_TURNS_BEFORE_A_SERIES: u64 = 0xffff_ffff_0000_0000;
 
 /// What is to be done next.
 #[derive(Clone, Copy, Debug, PartialEq, Eq)]
 pub enum Next {
-    /// So many turns of this instance are to be dispatched, one after the other.
+    /// This many turns of this instance are to be dispatched, one after the other.
     Turns(InstId, u32),
     /// A reclaimer is to be started: a call waits for a frame, and none is at work.
     Reclaimer,
@@ -36,11 +36,12 @@ pub enum Next {
 
 /// Which turns are dispatched.
 pub trait Supply {
-    /// What is to be done next, once it is known. Where no reclaimer is at work it says so rather than wait for one.
+    /// Returns what is to be done next, once it is known. If a call waits for a frame and no reclaimer is at work,
+    /// returns `Reclaimer` rather than wait for one.
     fn next<R: Wait>(&mut self, rt: &R, has_reclaimer: bool) -> Next;
 }
 
-// Behind so many turns the scanner is started, unless it was before. Where it can't be, it is done without.
+// Starts the scanner after `TURNS_BEFORE_A_SCANNER` turns, unless it was before. If it can't be, goes on without it.
 fn begin_scanner<
     T: Ledger,
     C: Ledger,
@@ -49,7 +50,7 @@ fn begin_scanner<
     H: Help<O> + Drop + Send + 'static,
     P,
     R: Threads + Wait + Copy + Send + 'static,
->(rt: R, count: u64, helpers: &mut Helpers<O, E, H, P>, lender: &mut Lender<T, C, O, E>)
+>(rt: R, count: u64, helpers: &mut Helpers<O, E, H, P>, lender: &mut ThreadCounts<T, C, O, E>)
     requires lent { AreLent helpers.old.scanner helpers.old.reclaimer lender.old }
     ensures lent { AreLent helpers.new.scanner helpers.new.reclaimer lender.new }
     ensures only { lender.new ≡ record lender.old {
@@ -75,9 +76,10 @@ fn next_of<S: Supply, R: Wait>(
     }
 }
 
-// Dispatches series of turns of so many charges as they come, the first one as the supply has said already, until no further one
-// comes, no worker is left, or a reclaimer is wanted that can't be started. It gives how many turns there were, and whether the
-// last was the last. A scanner that can't be started is done without.
+/// Dispatches series of turns of at most `quantum` charges each, the first as the supply has said already, until the
+/// supply ends, no worker is left, so many turns were dispatched (over 2^64 - 2^32) that a further series might not be
+/// counted, or a reclaimer is wanted that can't be started. Returns the number of turns, and an error only in the last
+/// case. If the scanner can't be started, goes on without it.
 pub fn feed<
     T: Ledger,
     C: Ledger,
@@ -91,9 +93,9 @@ pub fn feed<
     rt: R,
     supply: &mut S,
     helpers: &mut Helpers<O, E, H, P>,
-    lender: &mut Lender<T, C, O, E>,
+    lender: &mut ThreadCounts<T, C, O, E>,
     sender: &TurnSender,
-    slip: &mut Slip,
+    slip: &mut MessagePass,
     first: Next,
     quantum: u32,
 ) -> (u64, Result<(), ServeError>)

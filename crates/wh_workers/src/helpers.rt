@@ -11,7 +11,7 @@ use std::sync::atomic::{AtomicU64, Ordering};
 use std::sync::ledger::Ledger;
 use std::sync::{Arc, Wait};
 use std::thread::{PromisedHandle, Threads};
-use wh_threads::{Gate, Help, Helped, Helps, Lender, start_helper};
+use wh_threads::{Gate, Help, Helped, Helps, ThreadCounts, start_helper};
 
 // A helper that was started, and the flag that tells it to stop.
 #[derive(Drop)]
@@ -20,25 +20,25 @@ pub struct Started<K: Ledger> {
     pub flag: Arc<AtomicU64, Global>,
 }
 
-// What a helper's thread gets beside its counts.
+// What a helper's thread gets besides its counts.
 #[derive(Drop)]
-pub struct Means<H> {
+pub struct HelperParts<H> {
     job: H,
     stop: Arc<AtomicU64, Global>,
     flag: Arc<AtomicU64, Global>,
     gate: Gate,
 }
 
-// All memory for a helper's thread but its stack.
+/// Allocates everything that a helper's thread needs but its stack.
 pub fn means_of<K: Ledger, H: Help<K> + Drop>(
     alloc: Global,
     job: &H,
-) -> Result<Means<H>, AllocError> {
+) -> Result<HelperParts<H>, AllocError> {
     let job = job.share()?;
     let stop = Arc::new(alloc, AtomicU64::new(0))?;
     let flag = Arc::try_clone(&stop)?;
     let gate = Gate::new(alloc)?;
-    Ok(Means {
+    Ok(HelperParts {
         job,
         stop,
         flag,
@@ -46,7 +46,7 @@ pub fn means_of<K: Ledger, H: Help<K> + Drop>(
     })
 }
 
-// Starts a scanner, which scans until so many pages were offered in all, or it is told to stop.
+/// Starts a scanner, which scans until `wanted` pages were offered in all, or it is told to stop.
 pub fn start_scanner<
     T: Ledger,
     C: Ledger,
@@ -56,8 +56,8 @@ pub fn start_scanner<
     R: Threads + Wait + Copy + Send + 'static,
 >(
     rt: R,
-    means: Means<H>,
-    lender: &mut Lender<T, C, O, E>,
+    means: HelperParts<H>,
+    lender: &mut ThreadCounts<T, C, O, E>,
     wanted: u64,
 ) -> Result<Started<O>, ServeError>
     requires { lender.old.scanners_out ≡ 0 }
@@ -65,7 +65,7 @@ pub fn start_scanner<
         × (lender.new ≡ record lender.old { scanners_out = 1 })) }
     ensures err { OnErr result (lender.new ≡ lender.old) }
 {
-    let Means {
+    let HelperParts {
         job,
         stop,
         flag,
@@ -89,13 +89,17 @@ fn start_reclaimer<
     E: Ledger + Send + 'static,
     P: Help<E> + Drop + Send + 'static,
     R: Threads + Wait + Copy + Send + 'static,
->(rt: R, means: Means<P>, lender: &mut Lender<T, C, O, E>) -> Result<Started<E>, ServeError>
+>(
+    rt: R,
+    means: HelperParts<P>,
+    lender: &mut ThreadCounts<T, C, O, E>,
+) -> Result<Started<E>, ServeError>
     requires { lender.old.reclaimers_out ≡ 0 }
     ensures ok { IfOk result (λ s. (s.handle.promise.from ≡ lender.old.evictions)
         × (lender.new ≡ record lender.old { reclaimers_out = 1 })) }
     ensures err { OnErr result (lender.new ≡ lender.old) }
 {
-    let Means {
+    let HelperParts {
         job,
         stop,
         flag,
@@ -112,13 +116,13 @@ fn start_reclaimer<
 }
 
 /// A helper that is started where it is wanted. Contracts see with which count it began, where it was started.
-pub struct Standby<K: Ledger, H> {
+pub struct LazyHelper<K: Ledger, H> {
     // What its thread is to get; none where it was started, or couldn't be.
-    means: Option<Means<H>>,
+    means: Option<HelperParts<H>>,
     started: Option<Started<K>>,
 }
 
-impl<K: Ledger, H> Model for Standby<K, H> {
+impl<K: Ledger, H> Model for LazyHelper<K, H> {
     ghost use Rattle.std.specs.Prelude.{ℕ, Option};
     ghost use Rattle.std.specs.Option.{option_map};
 
@@ -127,31 +131,31 @@ impl<K: Ledger, H> Model for Standby<K, H> {
     ghost view = { λ s. option_map (λ h. h.handle.promise.from) s.started };
 }
 
-impl<K: Ledger, H: Help<K> + Drop> Standby<K, H> {
+impl<K: Ledger, H: Help<K> + Drop> LazyHelper<K, H> {
     // A helper that isn't started, whose thread is to get this.
-    fn new(means: Means<H>) -> Standby<K, H>
+    fn new(means: HelperParts<H>) -> LazyHelper<K, H>
         ensures { result ≡ None }
     {
-        Standby {
+        LazyHelper {
             means: Some(means),
             started: None,
         }
     }
 
-    // Whether it was started.
+    /// Tells whether it was started.
     pub fn is_started(&self) -> bool {
         self.started.is_some()
     }
 }
 
-impl<K: Ledger + Send + 'static, H: Help<K> + Drop + Send + 'static> Standby<K, H> {
-    // Starts it as a scanner, unless it was started before. An error where it can't be, or couldn't before.
+impl<K: Ledger + Send + 'static, H: Help<K> + Drop + Send + 'static> LazyHelper<K, H> {
+    /// Starts it as a scanner, unless it was started before. Returns an error if it can't be, or couldn't before.
     pub fn start_scanner<
         T: Ledger,
         C: Ledger,
         E: Ledger,
         R: Threads + Wait + Copy + Send + 'static,
-    >(&mut self, rt: R, lender: &mut Lender<T, C, K, E>) -> Result<(), ServeError>
+    >(&mut self, rt: R, lender: &mut ThreadCounts<T, C, K, E>) -> Result<(), ServeError>
         requires { IsLent self.old lender.old.offers lender.old.scanners_out }
         ensures ok { OnOk result (IsSome self.new) }
         ensures lent { IsLent self.new lender.new.offers lender.new.scanners_out }
@@ -169,13 +173,13 @@ impl<K: Ledger + Send + 'static, H: Help<K> + Drop + Send + 'static> Standby<K, 
         Ok(())
     }
 
-    // The same as a reclaimer.
+    /// Starts it as a reclaimer, unless it was started before. Returns an error if it can't be, or couldn't before.
     pub fn start_reclaimer<
         T: Ledger,
         C: Ledger,
         O: Ledger,
         R: Threads + Wait + Copy + Send + 'static,
-    >(&mut self, rt: R, lender: &mut Lender<T, C, O, K>) -> Result<(), ServeError>
+    >(&mut self, rt: R, lender: &mut ThreadCounts<T, C, O, K>) -> Result<(), ServeError>
         requires { IsLent self.old lender.old.evictions lender.old.reclaimers_out }
         ensures ok { OnOk result (IsSome self.new) }
         ensures lent { IsLent self.new lender.new.evictions lender.new.reclaimers_out }
@@ -194,19 +198,19 @@ impl<K: Ledger + Send + 'static, H: Help<K> + Drop + Send + 'static> Standby<K, 
     }
 }
 
-// The scanner is told to stop, where it was started, and gives back its part.
+/// Tells the scanner to stop, if it was started, and takes back its part.
 pub fn join_scanner<T: Ledger, C: Ledger, O: Ledger, E: Ledger, H: Help<O> + Drop, R: Threads>(
     rt: &R,
     scans: &H,
-    lender: &mut Lender<T, C, O, E>,
-    scanner: Standby<O, H>,
+    lender: &mut ThreadCounts<T, C, O, E>,
+    scanner: LazyHelper<O, H>,
 )
     requires { IsLent scanner lender.old.offers lender.old.scanners_out }
     ensures grown { lender.old.offers ≤ lender.new.offers }
     ensures only { lender.new
         ≡ record lender.old { offers = lender.new.offers; scanners_out = 0 } }
 {
-    let Standby { means: _, started } = scanner;
+    let LazyHelper { means: _, started } = scanner;
     if let Some(Started { handle, flag }) = started {
         flag.store(1, Ordering::SeqCst);
         scans.bell().notify_all();
@@ -214,19 +218,19 @@ pub fn join_scanner<T: Ledger, C: Ledger, O: Ledger, E: Ledger, H: Help<O> + Dro
     }
 }
 
-// The reclaimer is told to stop, where it was started, and gives back its part.
+/// Tells the reclaimer to stop, if it was started, and takes back its part.
 pub fn join_reclaimer<T: Ledger, C: Ledger, O: Ledger, E: Ledger, P: Help<E> + Drop, R: Threads>(
     rt: &R,
     reclaims: &P,
-    lender: &mut Lender<T, C, O, E>,
-    reclaimer: Standby<E, P>,
+    lender: &mut ThreadCounts<T, C, O, E>,
+    reclaimer: LazyHelper<E, P>,
 )
     requires { IsLent reclaimer lender.old.evictions lender.old.reclaimers_out }
     ensures grown { lender.old.evictions ≤ lender.new.evictions }
     ensures only { lender.new
         ≡ record lender.old { evictions = lender.new.evictions; reclaimers_out = 0 } }
 {
-    let Standby { means: _, started } = reclaimer;
+    let LazyHelper { means: _, started } = reclaimer;
     if let Some(Started { handle, flag }) = started {
         flag.store(1, Ordering::SeqCst);
         reclaims.bell().notify_all();
@@ -237,21 +241,21 @@ pub fn join_reclaimer<T: Ledger, C: Ledger, O: Ledger, E: Ledger, P: Help<E> + D
 /// The helpers of a call of `serve`.
 pub struct Helpers<O: Ledger, E: Ledger, H, P> {
     /// Who offers pages.
-    pub scanner: Standby<O, H>,
+    pub scanner: LazyHelper<O, H>,
     /// Who evicts them.
-    pub reclaimer: Standby<E, P>,
+    pub reclaimer: LazyHelper<E, P>,
 }
 
 impl<O: Ledger, E: Ledger, H: Help<O> + Drop, P: Help<E> + Drop> Helpers<O, E, H, P> {
-    // Helpers that aren't started. All memory for their threads but the stacks is taken here.
+    /// Creates helpers that aren't started. Allocates everything that their threads need but the stacks.
     pub fn new(alloc: Global, scans: &H, reclaims: &P) -> Result<Helpers<O, E, H, P>, AllocError>
         ensures { IfOk result (λ h. (h.scanner ≡ None) × (h.reclaimer ≡ None)) }
     {
         let for_scanner = means_of::<O, H>(alloc, scans)?;
         let for_reclaimer = means_of::<E, P>(alloc, reclaims)?;
         Ok(Helpers {
-            scanner: Standby::new(for_scanner),
-            reclaimer: Standby::new(for_reclaimer),
+            scanner: LazyHelper::new(for_scanner),
+            reclaimer: LazyHelper::new(for_reclaimer),
         })
     }
 }

@@ -10,5 +10,5 @@ mod sweeping;
 
 pub use crew::{ServeError, Served};
 pub use feed::{Next, Supply};
-pub use serving::{Crew, Jobs, serve};
+pub use serving::{Jobs, WorkerSetup, serve};
 pub use sweeping::serve_sweep;

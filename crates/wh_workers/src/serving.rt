@@ -14,7 +14,7 @@ use std::alloc::Global;
 use std::sync::Wait;
 use std::sync::ledger::Ledger;
 use std::thread::Threads;
-use wh_threads::{Help, Lender, Shares, Slip, Turns, left_over, open_channel};
+use wh_threads::{Help, MessagePass, Shares, ThreadCounts, Turns, left_over, open_channel};
 
 // How many messages the channel holds: room for all last signs.
 const CAPACITY: usize = 128;
@@ -24,7 +24,7 @@ const TURNS_FOR_AN_OFFER: u64 = 64;
 
 /// Who runs the turns of a call of `serve`.
 #[derive(Clone, Copy, Debug, PartialEq, Eq)]
-pub struct Crew {
+pub struct WorkerSetup {
     /// How many workers there are, 1 to 64.
     pub workers: usize,
     /// How many charges a turn has at most.
@@ -42,8 +42,8 @@ pub struct Jobs<J, H, P> {
     pub reclaims: P,
 }
 
-// A crew runs the turns, with a scanner and a reclaimer beside it where they are wanted. All memory for their threads but the
-// stacks is taken here.
+// Runs the turns by workers, with a scanner and a reclaimer where they are wanted. Allocates everything for their
+// threads but the stacks.
 fn crew_with_helpers<
     T: Ledger + Send + 'static,
     C: Ledger + Send + 'static,
@@ -61,10 +61,10 @@ fn crew_with_helpers<
     supply: &mut S,
     scans: &H,
     reclaims: &P,
-    lender: &mut Lender<T, C, O, E>,
-    slip: &mut Slip,
+    lender: &mut ThreadCounts<T, C, O, E>,
+    slip: &mut MessagePass,
     first: Next,
-    run_config: Crew,
+    run_config: WorkerSetup,
 ) -> (u64, Result<(), ServeError>)
     requires can { J.can }
     requires channel { IsSeatAt (sends_on team.now.sender) slip.old }
@@ -103,8 +103,8 @@ fn crew_with_helpers<
     ended
 }
 
-// A crew runs the turns, if there are any. It gives how many there were, and whether all threads were started that were wanted and
-// these were all turns.
+// Runs the turns, if there are any. Returns how many were dispatched, and an error if memory, a worker's thread or a
+// reclaimer was lacking.
 #[tactic(auto, using(crate::proofs::Turns::turns_none))]
 fn run_turns<
     T: Ledger + Send + 'static,
@@ -123,9 +123,9 @@ fn run_turns<
     supply: &mut S,
     scans: &H,
     reclaims: &P,
-    lender: &mut Lender<T, C, O, E>,
-    slip: &mut Slip,
-    run_config: Crew,
+    lender: &mut ThreadCounts<T, C, O, E>,
+    slip: &mut MessagePass,
+    run_config: WorkerSetup,
 ) -> (u64, Result<(), ServeError>)
     requires can { J.can }
     requires channel { IsSeatAt (sends_on team.now.sender) slip.old }
@@ -151,7 +151,7 @@ fn run_turns<
     )
 }
 
-// All turns, through a channel of their own.
+// Runs all turns, through a channel of their own.
 fn serve_turns<
     T: Ledger + Send + 'static,
     C: Ledger + Send + 'static,
@@ -169,8 +169,8 @@ fn serve_turns<
     supply: &mut S,
     scans: &H,
     reclaims: &P,
-    lender: &mut Lender<T, C, O, E>,
-    run_config: Crew,
+    lender: &mut ThreadCounts<T, C, O, E>,
+    run_config: WorkerSetup,
 ) -> Result<Served, ServeError>
     requires can { J.can }
     requires crew { run_config.workers ≤ 64 }
@@ -213,7 +213,7 @@ fn serve_turns<
     })
 }
 
-// So many pages are offered in all, by a further scanner where there were fewer.
+// Sees that `wanted` pages are offered in all, by a further scanner if there were fewer.
 fn settle_offers<
     T: Ledger,
     C: Ledger,
@@ -225,7 +225,7 @@ fn settle_offers<
     rt: R,
     alloc: Global,
     scans: &H,
-    lender: &mut Lender<T, C, O, E>,
+    lender: &mut ThreadCounts<T, C, O, E>,
     wanted: u64,
 ) -> Result<(), ServeError>
     requires { lender.old.scanners_out ≡ 0 }
@@ -246,7 +246,7 @@ fn settle_offers<
     Ok(())
 }
 
-// As many pages are offered, since there were so many, as are owed for these turns.
+// Sees that, since there were `before`, as many pages are offered as are owed for these turns.
 fn pay_offers<
     T: Ledger,
     C: Ledger,
@@ -258,7 +258,7 @@ fn pay_offers<
     rt: R,
     alloc: Global,
     scans: &H,
-    lender: &mut Lender<T, C, O, E>,
+    lender: &mut ThreadCounts<T, C, O, E>,
     before: u64,
     turns: u64,
 ) -> Result<(), ServeError>
@@ -273,20 +273,21 @@ fn pay_offers<
     settle_offers(rt, alloc, scans, lender, wanted)
 }
 
-/// Runs all turns that come: a crew does, each worker in a thread of its own, and the calling thread dispatches them and runs none.
-/// Beside the crew a scanner offers pages and a reclaimer evicts them, each in a thread that is started where it is first wanted:
-/// the scanner with the 32nd turn, the reclaimer where the supply says that a call waits for a frame. Where no turn comes at all no
-/// thread is started.
+/// Runs all turns that come: workers do, each in a thread of its own, and the calling thread dispatches them and runs
+/// none. Meanwhile a scanner offers pages and a reclaimer evicts them, each in a thread that is started where it is
+/// first wanted: the scanner once 32 turns are dispatched, the reclaimer when the supply says that a call waits for a
+/// frame. If no turn comes at all, no thread is started.
 ///
-/// Turns are numbered in the order in which they are dispatched, and the workers' counts grow by those that they received.
-/// Where it ends well each turn that was dispatched was received once, and for each 64 turns a page was offered. What was
-/// done before it ended otherwise is told too (`Served`), and no count gets smaller.
+/// Turns are numbered in the order in which they are dispatched, and the workers' counts grow by those that they
+/// received. If it ends well, each turn that was dispatched was received once, and for each 64 turns a page was
+/// offered. What was done before it ended otherwise is told too (`Served`), and no count gets smaller.
 ///
 /// # Errors
-/// `Memory` where room for the channel was refused: no turn was run then. `Served::end` says so where room for the crew was refused,
-/// and that or `NoThread` where not all workers could be started: no turn was run then either. It is `NoThread` too where a reclaimer was wanted that couldn't be started: no further turn was dispatched then; where a turn was left that no worker
-/// received; and, or `Memory`, where a further scanner couldn't be started for pages that are owed, or came to its end before all
-/// were offered.
+/// `Memory` if the allocation for the channel fails: no turn was run then. `Served::end` says so if one for the crew
+/// fails, and that or `NoThread` if not all workers could be started: no turn was run then either. It is `NoThread` too
+/// if a reclaimer was wanted that couldn't be started: no further turn was dispatched then; if a turn was left that no
+/// worker received; and, or `Memory`, if a further scanner couldn't be started for pages that are owed, or came to its
+/// end before all were offered.
 pub fn serve<
     T: Ledger + Send + 'static,
     C: Ledger + Send + 'static,
@@ -303,7 +304,7 @@ pub fn serve<
     jobs: Jobs<J, H, P>,
     supply: &mut S,
     shares: &mut Shares<T, C, O, E>,
-    run_config: Crew,
+    run_config: WorkerSetup,
 ) -> Result<Served, ServeError>
     requires can { J.can }
     requires crew { (0 < run_config.workers) × (run_config.workers ≤ 64) }

@@ -8,7 +8,7 @@ use std::alloc::Global;
 use std::sync::Wait;
 use std::sync::ledger::Ledger;
 use std::thread::Threads;
-use wh_threads::{Gate, Lender, Shares, Sweep, start_sweep};
+use wh_threads::{Gate, Shares, Sweep, ThreadCounts, start_sweep};
 
 // The scanner's thread is started and joined.
 fn sweep_there<
@@ -18,7 +18,7 @@ fn sweep_there<
     E: Ledger,
     J: Sweep<O> + Drop + Send + 'static,
     R: Threads + Wait + Copy + Send + 'static,
->(rt: R, gate: Gate, job: J, lender: &mut Lender<T, C, O, E>) -> (Result<(), ServeError>, J)
+>(rt: R, gate: Gate, job: J, lender: &mut ThreadCounts<T, C, O, E>) -> (Result<(), ServeError>, J)
     requires { lender.old.scanners_out ≡ 0 }
     ensures ok { OnOk result.0 (J.sweeps job lender.old.offers result.1 lender.new.offers) }
     ensures err { OnErr result.0 ((result.1 ≡ job) × (lender.new.offers ≡ lender.old.offers)) }

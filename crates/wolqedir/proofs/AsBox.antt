@@ -8,7 +8,7 @@ use Rattle.std_heap.specs.contracts.GlobalAllocator.TheImpl.{ghosts, dict}
 use Rattle.std_heap.proofs.Global.TheLaws as heap
 use Rattle.wh_hand.specs.contracts.hand.Hand as Hand
 use Rattle.wh_hand.proofs.hand.Hand.TheLaws as hand
-use Rattle.wh_sealing.specs.contracts.SealedParts as Parts
+use Rattle.wolqedir.specs.contracts.sealing.SealedParts as Parts
 use Rattle.wolqedir.specs.contracts.slot.HandleSlot as Place
 
 abbrev pub E : Bx

@@ -1,10 +1,10 @@
 -- The codes that C gets: 0 where it was done; else a number of the library's own, or 256 times a family and the number that
--- scripts show behind the family's letter: D 1, V 2, L 3, M 4, A 5, H 6, T 7, S 8.
+-- scripts show after the family's letter: D 1, V 2, L 3, M 4, A 5, H 6, T 7, S 8.
 use Rattle.std.specs.Prelude.{ℕ, ◌+◌, Result, Ok, Err}
 use Rattle.wh_model.specs.declared.Trap.{Trap}
 use Rattle.wh_model.specs.Format.Numbering.{fault_number, valid_number, import_number, trap_number}
-use Rattle.wh_host_model.specs.declared.plain.SwapError.{SwapError}
-use Rattle.wh_host_model.specs.SwapFaults.{swap_number}
+use Rattle.wh_space_model.specs.declared.plain.SwapError.{SwapError}
+use Rattle.wh_space_model.specs.SwapFaults.{swap_number}
 use Rattle.wh_imports.specs.declared.error.LinkError.{LinkError}
 use Rattle.wh_imports.specs.declared.error.LinkError.TheVariants as links
 use Rattle.wh_load.specs.declared.error.LoadError.TheVariants.{Decode, Valid, Link}
@@ -63,7 +63,7 @@ host_error_code e = 1536 + host_number e
 abbrev pub trap_code : Trap → ℕ
 trap_code trap = 1792 + trap_number trap
 
--- why it stands for the swap device
+-- why it is blocked on the swap device
 abbrev pub swap_code : SwapError → ℕ
 swap_code e = 2048 + swap_number e
 

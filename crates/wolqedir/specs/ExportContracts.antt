@@ -1,13 +1,13 @@
 -- What an export does: the handle before and after, the code, and what is written for the caller.
 use Rattle.std.specs.Prelude.{◌≡◌, ◌≢◌, ◌⊎◌, ℕ, ℤ, List, length, map, option_map, Option, Some, None, Result, Ok, Err, IfOk, IfErr, OnOk, OnErr, IfSome, IfNone, IsSome, IsUtf8, ◌+◌}
-use Rattle.wh_host_model.specs.declared.plain.InstId.{InstId}
-use Rattle.wh_host_model.specs.Hash.{fnv64}
+use Rattle.wh_space_model.specs.declared.plain.InstId.{InstId}
+use Rattle.wh_space_model.specs.Hash.{fnv64}
 use Rattle.wh_host_model.specs.Owners.{Params}
 use Rattle.wh_host_model.specs.Host.Worlds.{World, promised}
 use Rattle.wh_host_model.specs.Host.Happens.{CallAnswer}
-use Rattle.wh_host_model.specs.Space.Places.{Enters, Exits}
-use Rattle.wh_host_model.specs.Space.Scanning.{IsDistinct}
-use Rattle.wh_host_model.specs.Space.Stores.{Epochs}
+use Rattle.wh_space_model.specs.Places.{Enters, Exits}
+use Rattle.wh_space_model.specs.Scanning.{IsDistinct}
+use Rattle.wh_space_model.specs.Stores.{Epochs}
 use Rattle.wh_admit.specs.declared.error.AdmitError.{AdmitError}
 use Rattle.wh_instance.specs.declared.stages.CallStatus.{CallStatus}
 use Rattle.wh_reclaim.specs.Whole.{IsAsWhole}

@@ -1,6 +1,6 @@
 -- How a host comes into a handle.
 use Rattle.std.specs.Prelude.{◌≡◌, ◌⊎◌, ◌<◌, ◌≤◌, ℕ, [], Option, Some, None}
-use Rattle.wh_host_model.specs.declared.Tax.{Tax}
+use Rattle.wh_space_model.specs.declared.Tax.{Tax}
 use Rattle.wh_host.specs.Hosting.{IsNewHost}
 use Rattle.wh_hand.specs.HandStates.{HandState}
 use Rattle.wolqedir.specs.Codes.{full_code, memory_code, tax_code}

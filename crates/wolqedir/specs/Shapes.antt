@@ -1,8 +1,8 @@
--- What C reads and writes, and what it stands for.
+-- What C reads and writes, and what it represents.
 use Rattle.std.specs.Prelude.{ℕ, Bool, true, false, List, length, Option, Some, None}
 use Rattle.wh_model.specs.declared.ValType.{ValType}
 use Rattle.wh_model.specs.declared.ValType.TheVariants.{I32, I64}
-use Rattle.wh_host_model.specs.declared.plain.InstId.{InstId}
+use Rattle.wh_space_model.specs.declared.plain.InstId.{InstId}
 use Rattle.wh_host_model.specs.Owners as owners
 use Rattle.wh_instance.specs.declared.stages.CallStatus.{CallStatus}
 use Rattle.wh_instance.specs.declared.stages.CallStatus.TheVariants.{Returned, Trapped, Cancelled, Dead, Waiting, Present}
@@ -38,7 +38,7 @@ given_by p inputs = record {
   inputs = inputs;
 }
 
--- what a run came to
+-- the outcome of a run
 abbrev pub flag : Bool → ℕ
 flag true = 1
 flag false = 0
@@ -72,7 +72,7 @@ standing_code (Some Fuel) = 0
 standing_code (Some Frame) = 0
 standing_code (Some (Device e)) = swap_code e
 
--- how far a call is that has taken so many charges
+-- the status of a call that has taken `charges` charges
 abbrev pub shown_status : CallStatus → ℕ → RawStatus
 shown_status Waiting charges = record { kind = 1; code = 0; bits = 0; value = 0; charges = charges }
 shown_status (Present stands taken) charges =

@@ -1,7 +1,7 @@
 -- A transcript as words.
 use Rattle.std.specs.Prelude.{◌≡◌, ◌++◌, ◌^◌, ◌-◌, ℕ, List, [], ◌∷◌, length, flat_map, Option, Some, None, Result, IfOk}
 use Rattle.wh_model.specs.Format.Numbering.{trap_number}
-use Rattle.wh_host_model.specs.declared.plain.InstId.{InstId}
+use Rattle.wh_space_model.specs.declared.plain.InstId.{InstId}
 use Rattle.wh_journal.specs.Calls.{JournalCallState}
 use Rattle.wh_journal.specs.declared.calls.CallEnd.{CallEnd}
 use Rattle.wh_journal.specs.declared.calls.CallEnd.TheVariants.{Open, Returned, Trapped, Cancelled, Dead}
@@ -27,8 +27,8 @@ end_words (Trapped trap) = 7 ∷ 0 ∷ trap_number trap ∷ []
 end_words Cancelled = 8 ∷ 0 ∷ 0 ∷ []
 end_words Dead = 9 ∷ 0 ∷ 0 ∷ []
 
--- its function, its fuel in all, the pieces of data that it wrote, its charges, how it has ended, and its arguments behind
--- their number
+-- its function, its fuel in all, the pieces of data that it wrote, its charges, how it has ended, and its arguments after their
+-- number
 abbrev pub entry_words : JournalCallState → List ℕ
 entry_words c =
     (func_word c.func ∷ c.fuel ∷ c.pieces ∷ c.charges ∷ []) ++ end_words c.end ++ (length c.words ∷ c.words)

@@ -62,13 +62,14 @@ fn widened(alloc: Global, args: &[i64]) -> Result<Vec<i128>, AllocError>
     Ok(wide)
 }
 
-/// Asks for a call of the function that an instance exports by this name, with these arguments and so much fuel: its place
-/// among the instance's calls, where the start is 0. It runs by `wq_run`, behind the calls that are open.
+/// Queues a call of the function that an instance exports by this name, with these arguments and `fuel` charges; gives
+/// its place among the instance's calls, where the start is 0. `wq_run` runs it, after the open calls.
 ///
-/// An argument is a number in the bits of its type, signed or unsigned; an i64 above 2^63 - 1 is given by its signed reading.
+/// An argument is a number in the bits of its type, signed or unsigned; an i64 above 2^63 - 1 is given by its signed
+/// reading.
 ///
-/// It answers NAME where the name isn't UTF-8, MEMORY where there is no room for a copy of the arguments, NONE, or a code of the
-/// family H.
+/// It answers NAME where the name isn't UTF-8, MEMORY where there is no room for a copy of the arguments, NONE, or a
+/// code of the family H.
 #[unsafe(no_mangle)]
 pub extern "C" fn wq_invoke(
     alloc: Global,
@@ -97,8 +98,8 @@ pub extern "C" fn wq_invoke(
     tell_place(answer, call)
 }
 
-/// Gives the present call of an instance so much more fuel; what passes 2^64 - 1 is lost. A call that waits for fuel can then
-/// go on, if it was given any.
+/// Adds `fuel` charges to the present call of an instance, up to 2^64 - 1 in all. A call that waits for fuel can then
+/// make progress, if it was given any.
 ///
 /// It answers NONE, H1, or H8 where no call is open.
 #[unsafe(no_mangle)]
@@ -120,9 +121,10 @@ pub extern "C" fn wq_refuel(
     code_of(answer)
 }
 
-/// Lets the present call of an instance be tried again, if it stands for a fault of the swap device. A device in memory has none.
+/// Retries the present call of an instance, if it is blocked on a fault of the swap device. A device in memory has
+/// none.
 ///
-/// It answers NONE, H1, or H8 where it doesn't stand for one.
+/// It answers NONE, H1, or H8 where it isn't blocked on one.
 #[unsafe(no_mangle)]
 pub extern "C" fn wq_retry(alloc: Global, handle: &mut Handle, instance: &RawInstance) -> u32
     ensures { ServesHandle handle.old.slot.held
@@ -137,8 +139,8 @@ pub extern "C" fn wq_retry(alloc: Global, handle: &mut Handle, instance: &RawIns
     code_of(answer)
 }
 
-/// Ends the present call of an instance where it is; what it has written stays. A start that is cancelled leaves the instance
-/// dead, and the calls behind it end as dead.
+/// Ends the present call of an instance where it is; what it has written stays. A start that is cancelled leaves the
+/// instance dead, and the calls after it end as dead.
 ///
 /// It answers NONE, H1, or H8 where no call is open.
 #[unsafe(no_mangle)]
@@ -155,8 +157,8 @@ pub extern "C" fn wq_cancel(alloc: Global, handle: &mut Handle, instance: &RawIn
     code_of(answer)
 }
 
-/// Lets an instance go, whatever its calls are: how many bytes it had put out. They lie in the host until the next release, and
-/// `wq_taken` copies them from there.
+/// Releases an instance, whatever its calls are; gives the number of bytes that it had put out. They stay in the host
+/// until the next release, and `wq_taken` copies them from there.
 ///
 /// It answers NONE or H1.
 #[unsafe(no_mangle)]

@@ -1,14 +1,14 @@
-//! The codes that exports answer: 0 where it was done; else a number below 256 of the library's own, or a family in steps of
-//! 256 and the number that scripts show behind the family's letter.
+//! The codes that exports answer: 0 where it was done; else a number below 256 of the library's own, or a family in
+//! steps of 256 and the number that scripts show after the family's letter.
 
 ghost use Rattle.std.specs.Prelude.{◌≡◌};
 ghost use Rattle.wolqedir.specs.Codes.{admit_error_code, host_error_code, link_error_code, module_error_code, swap_code, trap_code};
 
 use wh_hand::{AdmitError, HostError, ModuleError};
-use wh_host_model::SwapError;
 use wh_imports::LinkError;
 use wh_load::LoadError;
 use wh_model::Trap;
+use wh_space_model::SwapError;
 
 /// It was done.
 pub const DONE: u32 = 0;
@@ -37,7 +37,7 @@ fn of_link(error: LinkError) -> u32
     }
 }
 
-/// Why a module isn't kept: D, V, L or M and the number of its fault.
+/// Returns the code for why a module isn't kept: that of D, V, L or M and the number of its fault.
 pub fn of_module(error: ModuleError) -> u32
     ensures { result ≡ module_error_code error }
 {
@@ -50,28 +50,28 @@ pub fn of_module(error: ModuleError) -> u32
     }
 }
 
-/// Why an instance isn't admitted: A and the number of its fault.
+/// Returns the code for why an instance isn't admitted: that of A and the number of its fault.
 pub fn of_admit(error: AdmitError) -> u32
     ensures { result ≡ admit_error_code error }
 {
     0x500 + u32::from(error.number())
 }
 
-/// Why a host doesn't do what is asked of it: H and the number of its fault.
+/// Returns the code for why a host doesn't do what is asked of it: that of H and the number of its fault.
 pub fn of_host(error: HostError) -> u32
     ensures { result ≡ host_error_code error }
 {
     0x600 + u32::from(error.number())
 }
 
-/// Why a call has trapped: T and its number.
+/// Returns the code for why a call has trapped: that of T and its number.
 pub fn of_trap(trap: Trap) -> u32
     ensures { result ≡ trap_code trap }
 {
     0x700 + u32::from(trap.number())
 }
 
-/// Why a call stands for the swap device: S and its number.
+/// Returns the code for why a call is blocked on the swap device: that of S and its number.
 pub fn of_swap(error: SwapError) -> u32
     ensures { result ≡ swap_code error }
 {

@@ -3,11 +3,11 @@
 ghost use Rattle.std.specs.Prelude.{◌≡◌, ◌≢◌, true, false, Some, None, IfSome, IfNone, IsNone, IsSome};
 ghost use Rattle.wh_hand.specs.HandStates.{IsSoundByEvents};
 
+use crate::sealing::SealedParts;
 use crate::slot::HandleSlot;
 use std::alloc::Global;
 use std::mem;
 use wh_hand::Hand;
-use wh_sealing::SealedParts;
 
 /// A host, or none. All bytes 0 is none.
 #[repr(C)]
@@ -49,7 +49,7 @@ impl Handle {
         }
     }
 
-    /// Whether it holds a host.
+    /// Tells whether it holds a host.
     pub fn is_full(&self) -> bool
         ensures full { result ≡ true → IsSome self.now.slot.held }
         ensures empty { result ≡ false → self.now.slot.held ≡ None }
@@ -70,7 +70,7 @@ impl Handle {
         Some(slot.into_parts().into_box())
     }
 
-    /// Puts a host in. Events alone lead to it, as to each.
+    /// Puts a host in. It was reached by events alone, as each is.
     pub fn put(&mut self, hand: Box<Hand>)
         requires { self.old.slot.held ≡ None }
         ensures held { self.new.slot.held ≡ Some hand.value }

@@ -21,11 +21,12 @@ fn tax_of(num: u32, den: u32) -> Option<Tax>
     Some(Tax { num, den })
 }
 
-/// Puts a new host into the handle, with so many frames of 4096 bytes and so many slots in memory, and the tax num / den on
-/// frames on which no page was touched.
+/// Puts a new host into the handle, with `frames` frames of 4096 bytes and `slots` slots in memory, and the tax
+/// `tax_num / tax_den` on frames on which no page was touched.
 ///
-/// It answers FULL where the handle holds a host already, TAX where the tax isn't a fraction below one with a denominator of
-/// 1 to 1000, MEMORY where room is refused; the first of them that holds. The handle is as it was then.
+/// It answers FULL where the handle holds a host already, TAX where the tax isn't a fraction below one with a
+/// denominator of 1 to 1000, MEMORY where an allocation fails; the first of them that holds. The handle is as it was
+/// then.
 #[unsafe(no_mangle)]
 pub extern "C" fn wq_host_new(
     alloc: Global,

@@ -14,6 +14,7 @@ mod handle;
 mod hosting;
 mod rooms;
 mod running;
+mod sealing;
 mod shapes;
 mod slot;
 mod telling;

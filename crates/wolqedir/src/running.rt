@@ -8,8 +8,8 @@ use crate::handle::Handle;
 use crate::shapes::{Progress, progress_of};
 use std::alloc::Global;
 
-/// Lets the calls of all instances go on, until none can or they have taken so many charges together: how many they took, and
-/// whether a call can go on.
+/// Runs the calls of all instances, until none can make progress or they have taken `charges` charges together; gives
+/// how many they took, and whether a call can make progress.
 ///
 /// It answers NONE or 0.
 #[unsafe(no_mangle)]
@@ -30,7 +30,7 @@ pub extern "C" fn wq_run(
     DONE
 }
 
-/// Offers all pages of all instances for sharing, so that equal ones come to lie on one frame. Nobody sees it.
+/// Offers all pages of all instances for sharing, so that equal ones come to share one frame. Nobody sees it.
 ///
 /// It answers NONE, or LARGE where frames and slots are 2^32 together or more; nothing is done then.
 #[unsafe(no_mangle)]

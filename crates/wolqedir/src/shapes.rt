@@ -37,7 +37,7 @@ pub struct RawParams {
     pub base: u32,
 }
 
-/// What a run came to.
+/// The outcome of a run.
 #[repr(C)]
 #[derive(Drop)]
 pub struct Progress {
@@ -52,7 +52,7 @@ pub struct Progress {
 #[derive(Drop)]
 pub struct RawStatus {
     /// 1 waits behind another call, 2 goes on, 3 waits for fuel, 4 for a frame, 5 for the swap device; 6 has returned,
-    /// 7 trapped, 8 was cancelled, 9 did nothing behind a start that failed.
+    /// 7 trapped, 8 was cancelled, 9 did nothing after a start that failed.
     pub kind: u32,
     /// The code of the trap, or of the device's fault; else 0.
     pub code: u32,
@@ -108,7 +108,7 @@ pub struct RawInstanceReport {
     pub swapped: u32,
 }
 
-/// The instance that C names.
+/// Converts an instance's name from C.
 pub fn named(instance: &RawInstance) -> InstId
     ensures { result ≡ id_of instance.now }
 {
@@ -118,7 +118,7 @@ pub fn named(instance: &RawInstance) -> InstId
     }
 }
 
-/// The name of an instance for C.
+/// Converts an instance's name for C.
 pub fn name_of(id: InstId) -> RawInstance
     ensures { result ≡ instance_of id }
 {
@@ -159,7 +159,7 @@ fn result_word(value: Option<CallValue>) -> u64
     }
 }
 
-// The kind of a call that waits for its next turn or stands for something, and the code of its fault.
+// The kind of a call that waits for its next turn or is blocked on something, and the code of its fault.
 fn standing(waiting_for: Option<Suspension>) -> (u32, u32)
     ensures { result ≡ (standing_kind waiting_for, standing_code waiting_for) }
 {
@@ -171,7 +171,7 @@ fn standing(waiting_for: Option<Suspension>) -> (u32, u32)
     }
 }
 
-/// How far a call is that has taken so many charges.
+/// Converts the status of a call that has taken `charges` charges for C.
 pub fn shown(status: CallStatus, charges: u64) -> RawStatus
     ensures { result ≡ shown_status status charges }
 {
@@ -195,7 +195,7 @@ pub fn shown(status: CallStatus, charges: u64) -> RawStatus
     }
 }
 
-/// What a run came to, for C.
+/// Converts the outcome of a run for C.
 pub fn progress_of(ran: Ran) -> Progress
     ensures { result ≡ progress_as ran }
 {
@@ -205,7 +205,7 @@ pub fn progress_of(ran: Ran) -> Progress
     }
 }
 
-/// The numbers of a report for C.
+/// Converts the numbers of a report for C.
 pub fn raw_report(report: &Report) -> RawReport
     ensures { result ≡ raw_report_of (view_report report.now) }
 {
@@ -240,7 +240,10 @@ fn raw_row(row: InstanceReport) -> RawInstanceReport
     }
 }
 
-/// The numbers of these instances for C.
+/// Converts the numbers of these instances for C.
+///
+/// # Errors
+/// `AllocError` if the allocation fails.
 pub fn raw_rows(
     alloc: Global,
     rows: &[InstanceReport],

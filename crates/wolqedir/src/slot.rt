@@ -4,11 +4,11 @@ ghost use Rattle.std.specs.Prelude.{◌≡◌, Option, Some, None, IsSome};
 ghost use Rattle.wh_hand.specs.HandStates.{HandState};
 ghost use Rattle.wolqedir.specs.Held.{held_coded, slot_owns};
 
+use crate::sealing::SealedParts;
 use std::alloc::Global;
 use std::marker::Model;
 use std::ptr;
 use wh_hand::Hand;
-use wh_sealing::SealedParts;
 
 /// What C sees of what lies at a pointer: nothing.
 #[repr(C)]
@@ -34,7 +34,7 @@ impl Model for HandleSlot {
 unsafe impl Send for HandleSlot {}
 
 impl HandleSlot {
-    /// One without a host.
+    /// Creates a slot without a host.
     pub fn empty(alloc: Global) -> HandleSlot
         ensures { result.held ≡ None }
     {
@@ -44,7 +44,7 @@ impl HandleSlot {
         }
     }
 
-    /// One with the host of these parts.
+    /// Creates a slot with the host of these parts.
     pub fn of_parts(parts: SealedParts<Hand, Global>) -> HandleSlot
         ensures { result.held ≡ Some parts.value }
     {
@@ -55,7 +55,7 @@ impl HandleSlot {
         }
     }
 
-    /// The parts of the host.
+    /// Returns the parts of the host, which the slot has to hold.
     pub fn into_parts(self) -> SealedParts<Hand, Global>
         requires { IsSome self.held }
         ensures { self.held ≡ Some result.value }

@@ -16,7 +16,7 @@ use crate::texts::sentence;
 use crate::transcripts::words_of;
 use std::alloc::Global;
 
-/// How far the call at this place of an instance is, where its start is at 0.
+/// Gives the status of the call at this place of an instance, where its start is at 0.
 ///
 /// It answers NONE, or UNKNOWN where there is no such instance or no such call.
 #[unsafe(no_mangle)]

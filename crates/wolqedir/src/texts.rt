@@ -96,7 +96,7 @@ const TRAP: [&str; 10] = [
     "calls nested deeper than 128",
 ];
 
-// Why it stands for the swap device: S1 to S3.
+// Why it is blocked on the swap device: S1 to S3.
 const SWAP: [&str; 3] = [
     "a page couldn't be read",
     "a page couldn't be written, as where there is no room",
@@ -120,7 +120,7 @@ fn sentences(family: u32) -> &'static [&'static str]
     }
 }
 
-/// The sentence for a code, if it is one.
+/// Returns the sentence for a code of the library; `None` for any other number.
 pub fn sentence(code: u32) -> Option<&'static str>
     ensures { MatchOption result (¬ IsLibraryCode code) (λ _. IsLibraryCode code) }
 {

@@ -30,7 +30,7 @@ fn words_of_end(end: CallEnd) -> [u64; 3]
     }
 }
 
-// Puts the words of a call behind others.
+// Puts the words of a call after others.
 fn push_call(words: &mut Vec<u64>, call: &JournalCall) -> Result<(), AllocError>
     ensures { OnOk result (words.new.items ≡ words.old.items ++ entry_words call.now) }
 {
@@ -47,7 +47,10 @@ fn push_call(words: &mut Vec<u64>, call: &JournalCall) -> Result<(), AllocError>
     words.extend_from_slice(args)
 }
 
-/// The words of these calls, one behind the other.
+/// Encodes these calls as words, one after the other.
+///
+/// # Errors
+/// `AllocError` if an allocation fails.
 pub fn words_of(alloc: Global, calls: &[JournalCall]) -> Result<Vec<u64>, AllocError>
     ensures { IfOk result (λ words. words.items ≡ all_words calls.now) }
 {

@@ -1,33 +1,24 @@
 -- An admission that meets no fault can be accepted.
 use Rattle.std.proofs.Common.{◌≡◌, ℕ, ◌+◌, ◌*◌, ◌/◌, ◌<◌, ◌≤◌, inl, inr, false, replicate, List, [], ◌∷◌, reverse, Option, Some, None, length, refl, sym, ap, subst, ◌∙◌, arith}
 use Rattle.std.proofs.lemmas.List.{length-replicate}
-use Rattle.wh_model.specs.Format.Syntax.{Body, FuncType, Module, nothing}
-use Rattle.wh_model.specs.Validity.Typing.{Context}
-use Rattle.wh_model.specs.Validity.Valid.{Valid, ValidStart}
-use Rattle.wh_model.specs.Linking.Accepting.{IsAccepted}
-use Rattle.wh_model.specs.Soundness.StoreTyping.{InstanceType}
-use Rattle.wh_model.specs.Execution.Configuration.{called}
-use Rattle.wh_model.specs.Execution.Instance.{AreGiven, Beginning, IsInitial, Parameters, Piece, begins, first_size, in_bounds, memory_min, needs_more, out_of_bounds, segment_bounds}
-use Rattle.wh_model.specs.Execution.Replay.{pending}
-use Rattle.wh_model.specs.Execution.Store.{FuncInst, Instance, Store, host, own, signature}
+use Rattle.wh_model.specs.Format.{Body, FuncType, Module, nothing}
+use Rattle.wh_model.specs.Validity.{Context, ValidStart}
+use Rattle.wh_model.specs.Validity.Valid.{Valid}
+use Rattle.wh_model.specs.Linking.{IsAccepted}
+use Rattle.wh_model.specs.Soundness.{InstanceType}
+use Rattle.wh_model.specs.Execution.{called, AreGiven, Beginning, IsInitial, Parameters, Piece, begins, first_size, in_bounds, memory_min, needs_more, out_of_bounds, segment_bounds, pending, FuncInst, host, own, signature}
+use Rattle.wh_model.specs.Execution.Store.{Instance, Store}
 use Rattle.wh_model.specs.declared.host.HostFunc.TheVariants.{Emit, Input, Put}
 use Rattle.wh_model.proofs.Beginnings.{some_beginning}
 use Rattle.wh_model.proofs.BeginsTypedLemmas.{begins_typed}
 use Rattle.wh_model.proofs.PreservationLemmas.{func_there}
 use Rattle.wh_model.proofs.SpelledBytesLemmas.{spelled_has_bytes}
-use Rattle.wh_host_model.specs.declared.plain.InstId.{InstId}
-use Rattle.wh_host_model.specs.declared.states.Page.TheVariants.{Untouched}
-use Rattle.wh_host_model.specs.Space.Parts.{Space, minima}
-use Rattle.wh_host_model.specs.Space.Places.{newcomer, with_row}
-use Rattle.wh_host_model.specs.Host.Spaces.{Arrives}
-use Rattle.wh_host_model.specs.Host.Worlds.{Doing, Loaded, World, computing, empty_world, has_left, loaded_of, promised, resting}
-use Rattle.wh_host_model.specs.Owners.{Entry, start_entry}
-use Rattle.wh_host_model.specs.Owners.{Params, given_of, AdmitFault, frames, memory, min_max, no_module, segments, shares, swap, most_fuel}
-use Rattle.wh_host_model.specs.Host.CallAnswers.{Faces}
-use Rattle.wh_host_model.specs.Host.Admission.{MeetsFault, StartsAs}
+use Rattle.wh_space_model.specs.declared.plain.InstId.{InstId}
+use Rattle.wh_space_model.specs.declared.states.Page.TheVariants.{Untouched}
+use Rattle.wh_space_model.specs.{Space, minima, newcomer, with_row}
+use Rattle.wh_host_model.specs.Host.{Arrives, Doing, Loaded, World, computing, empty_world, has_left, loaded_of, promised, resting, Faces, MeetsFault, StartsAs, IsAdmit, admit_ok, is_admitted, AdmissionsAreTaken}
+use Rattle.wh_host_model.specs.{Entry, start_entry, Params, given_of, AdmitFault, frames, memory, min_max, no_module, segments, shares, swap, most_fuel}
 use Rattle.wh_host_model.specs.Host.Admission as admission
-use Rattle.wh_host_model.specs.Host.Happens.{IsAdmit, admit_ok, is_admitted}
-use Rattle.wh_host_model.specs.Host.Progress.{AdmissionsAreTaken}
 use Rattle.wh_host_model.proofs.Host.Deciding.{loaded_or_not}
 use Rattle.wh_host_model.proofs.Host.Empty.{good_empty}
 use Rattle.wh_host_model.proofs.Host.Leaving.{enters_alone}

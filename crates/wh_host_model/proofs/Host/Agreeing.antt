@@ -1,19 +1,13 @@
 -- A turn that isn't answered Frame is determined.
 use Rattle.std.proofs.Common.{◌≡◌, ◌≢◌, ℕ, ◌+◌, ◌<◌, true, false, List, [], ◌∷◌, ◌++◌, Option, Some, None, refl, sym, ap, subst, ◌∙◌, arith}
 use Rattle.wh_model.specs.Execution.Store.{Instance, Store}
-use Rattle.wh_model.specs.Execution.Configuration.{Term, config}
-use Rattle.wh_model.specs.Execution.Reduction.{stays, IsNext}
-use Rattle.wh_model.specs.Execution.Replay.{Outcome}
+use Rattle.wh_model.specs.Execution.{Term, config, stays, IsNext, Outcome}
 use Rattle.wh_model.proofs.Journals.{invocation_same}
 use Rattle.wh_host_model.specs.declared.plain.TurnEnd.{TurnEnd}
 use Rattle.wh_host_model.specs.declared.plain.TurnEnd.TheVariants.{Again, Fuel, Frame, Ended}
-use Rattle.wh_host_model.specs.Space.Parts.{Space, view}
-use Rattle.wh_host_model.specs.Host.Worlds.{Rest, Doing, computing, Suspension, for_fuel, Tenant, store_with, store_in}
-use Rattle.wh_host_model.specs.Owners.{Entry}
-use Rattle.wh_host_model.specs.Host.Turns.{Upshot, to_end, out_of_fuel, to_go_on}
-use Rattle.wh_host_model.specs.Host.CallAnswers.{gone_further, ended_by, gone_on, Faces, Closes, faces_next, is_dead, Turn, is_idle, has_ended, has_no_fuel, has_no_frame, can_go_on, keeps_its_fault}
-use Rattle.wh_host_model.specs.Host.Admission.{rest_of}
-use Rattle.wh_host_model.specs.Host.Laws.{SameTurn, OneTurn}
+use Rattle.wh_space_model.specs.{Space, view}
+use Rattle.wh_host_model.specs.Host.{Rest, Doing, computing, Suspension, for_fuel, Tenant, store_with, store_in, Upshot, to_end, out_of_fuel, to_go_on, gone_further, ended_by, gone_on, Faces, Closes, faces_next, is_dead, Turn, is_idle, has_ended, has_no_fuel, has_no_frame, can_go_on, keeps_its_fault, rest_of, SameTurn, OneTurn}
+use Rattle.wh_host_model.specs.{Entry}
 use Rattle.wh_host_model.proofs.Host.Stopping.{Reached, by_steps, at_turn, is_settled, reached, SameReach, reach_same}
 
 -- ---- the present call
@@ -35,7 +29,6 @@ reaches {q} {k2 = k2} {n2 = n2} s t {e = e} {e2 = e2} {es = es} {es2 = es2} {to2
 kept_reach : (q : ℕ) (s : Space) (t : Tenant) (e : Entry) (term : Term) → t.doing ≡ computing term → q ≡ 0 → IsNext t.inst (config (store_in s t) [] term) → e.call.charges < e.call.fuel
     → Reached t.inst q e.call (store_in s t) t.doing to_go_on 0 0 (store_in s t) (computing term)
 kept_reach q s t e term doing none next fuel =
-    let c = config (store_in s t) [] term in
     let at : Reached t.inst q e.call (store_in s t) (computing term) to_go_on 0 0 (store_in s t) (computing term) =
     by_steps (refl, refl) (stays, is_settled next) (omega arith) (omega (arith, fuel)) (at_turn refl next (sym none) (omega (arith, fuel))) in
     subst (λ d. Reached t.inst q e.call (store_in s t) d to_go_on 0 0 (store_in s t) (computing term)) (sym doing) at
@@ -136,9 +129,7 @@ fault_stays : {q k n : ℕ} (s s2 : Space) (t : Tenant) {e e2 : Entry} {es es2 :
     → Reached t.inst q e2.call (store_in s t) t.doing to_go_on k n (store_with (view s2 t.place) r) d → k + n ≡ 0
 fault_stays {q} s s2 t {e = e} term x y doing none next fuel h =
     let both = reaches s t x y (kept_reach q s t e term doing none next fuel) h in
-    let p = both.pieces in
-    let c = both.charges in
-    omega (arith, p, c)
+    omega (arith, both.pieces, both.charges)
 
 turns_agree : {q : ℕ} {s s2 s3 : Space} {t t2 t3 : Tenant} {a b : TurnEnd} → Turn q s t a s2 t2 → Turn q s t b s3 t3 → a ≢ Frame → b ≢ Frame → SameTurn a b t2 t3 s2 s3
 turns_agree {q} {s = s} {t = t} (is_idle a1) (is_idle a2) na nb = record { answers = refl; tenants = refl; views = refl }

@@ -2,22 +2,17 @@
 use Rattle.std.proofs.Common.{◌≡◌, inl, inr, ℕ, Bool, true, false, Option, Some, List, [], ◌∷◌, ℤ, map, reverse, refl, sym, ap, ◌∙◌, subst}
 use Rattle.std.specs.Bool.{MatchBool}
 use Rattle.std.specs.List.{AllByRecursion}
-use Rattle.wh_model.specs.Format.Syntax.{nothing, Module}
-use Rattle.wh_model.specs.Execution.Store.{Value, Instance, Store}
-use Rattle.wh_model.specs.Execution.Configuration.{Config, code, config, trapped}
-use Rattle.wh_model.specs.Execution.Instance.{AreGiven, Parameters, Piece, begins, IsInitial, memory_min}
-use Rattle.wh_model.specs.Execution.Reduction.{After}
-use Rattle.wh_model.specs.Execution.Replay.{Outcome, returned, stopped, cancelled, dead, pending, Call, with_pieces, Invocation, Ends, has_returned, has_trapped, has_written, was_cancelled, never_began, Standing, store_at, Waits, Replays, ended, at_work, fails, IsDead, IsNotDead, IsJournal, Replay}
-use Rattle.wh_model.specs.Laws.ReplayLaws.{Alike}
+use Rattle.wh_model.specs.Format.{nothing, Module}
+use Rattle.wh_model.specs.Execution.Store.{Instance, Store}
+use Rattle.wh_model.specs.Execution.{Value, Config, code, config, trapped, AreGiven, Parameters, Piece, begins, IsInitial, memory_min, After, Outcome, returned, stopped, cancelled, dead, pending, Call, with_pieces, Invocation, Ends, has_returned, has_trapped, has_written, was_cancelled, never_began, Standing, store_at, Waits, Replays, ended, at_work, fails, IsDead, IsNotDead, IsJournal}
+use Rattle.wh_model.specs.Execution.Replay.{Replay}
+use Rattle.wh_model.specs.Laws.{Alike}
 use Rattle.wh_model.proofs.Journals.{after_same, one_end, not_open, from_beginning, replays_alike}
 use Rattle.wh_model.proofs.Opened.{opened_store}
 use Rattle.std.proofs.lemmas.List.{reverse-reverse}
-use Rattle.wh_host_model.specs.Space.Parts.{view}
-use Rattle.wh_host_model.specs.Host.Worlds.{Doing, Loaded, Rest, Tenant, World, computing, has_left, journal, journal_calls, loaded_of, resting, standing_with, store_with}
-use Rattle.wh_host_model.specs.Owners.{Entry}
-use Rattle.wh_host_model.specs.Owners.{given_of}
-use Rattle.wh_host_model.specs.Host.Apart.{AreTreatedAlike, ComeToTheSame, NoBytesReachAnother, asked, call_asked, unanswered}
-use Rattle.wh_host_model.specs.Host.Laws.{IsReplayed}
+use Rattle.wh_space_model.specs.{view}
+use Rattle.wh_host_model.specs.Host.{Doing, Loaded, Rest, Tenant, World, computing, has_left, journal, journal_calls, loaded_of, resting, standing_with, store_with, AreTreatedAlike, ComeToTheSame, NoBytesReachAnother, asked, call_asked, unanswered, IsReplayed}
+use Rattle.wh_host_model.specs.{Entry, given_of}
 use Rattle.wh_host_model.proofs.Host.Entries.{invoked_alike}
 use Rattle.wh_host_model.proofs.Host.Holding.{instances_replay}
 use Rattle.wh_host_model.proofs.Host.Limits.{SameLimit, initial_still, limit_is}

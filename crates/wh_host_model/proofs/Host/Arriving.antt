@@ -1,10 +1,10 @@
 -- A copy of an instance arrives, and sees what the instance sees.
 use Rattle.std.proofs.Common.{◌*◌, inl, List, Option, get_or, None, ap, ◌≡◌, ◌∙◌}
-use Rattle.wh_host_model.specs.Space.Parts.{Occupant, Pins, Space, claim_of, kept_by, need_of, pinned_by, promised_to}
-use Rattle.wh_host_model.specs.Host.Bridges.{CopiesArrive}
+use Rattle.wh_space_model.specs.{Occupant, Pins, Space, claim_of, kept_by, need_of, pinned_by, promised_to}
+use Rattle.wh_host_model.specs.Host.{CopiesArrive}
 use Rattle.wh_host_model.proofs.Host.Leaving.{enters_alone}
-use Rattle.wh_host_model.proofs.Space.Entered.{enters_soundly}
-use Rattle.wh_host_model.proofs.Space.Forked.{IsKept, copies_are_right, lent_first}
+use Rattle.wh_space_model.proofs.Entered.{enters_soundly}
+use Rattle.wh_space_model.proofs.Forked.{IsKept, copies_are_right, lent_first}
 
 pub copies_arrive : CopiesArrive
 copies_arrive s i j c s2 sound copies =

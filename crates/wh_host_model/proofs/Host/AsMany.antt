@@ -1,21 +1,16 @@
 -- Pages that come with whatever bytes the device gives: all see as many bytes as before.
 use Rattle.std.proofs.Common.{◌≡◌, ℕ, ◌*◌, inl, inr, Bool, List, [], ◌∷◌, length, get_or, ap, sym, ◌∙◌}
 use Rattle.wh_model.specs.declared.memory.Need.{Need}
-use Rattle.wh_host_model.specs.declared.states.FetchEnd.{FetchEnd}
-use Rattle.wh_host_model.specs.declared.states.Page.{Page}
-use Rattle.wh_host_model.specs.declared.states.Page.TheVariants.{Private, Swapped}
-use Rattle.wh_host_model.specs.Space.Parts.{Space}
-use Rattle.wh_host_model.specs.Space.Provide.{Move, Serves, comes, goes}
-use Rattle.wh_host_model.specs.Space.Sound.{IsSound}
-use Rattle.wh_host_model.specs.Space.States.{put}
-use Rattle.wh_host_model.specs.Space.Tickets.{CommitsFetch}
-use Rattle.wh_host_model.specs.Host.Bridges.{FailuresSeeAsMany, FetchesSeeAsMany, ProvisionsSeeAsMany}
-use Rattle.wh_host_model.specs.Host.Misreading.{AllSeeAsMany}
-use Rattle.wh_host_model.proofs.Space.Chained.{fails_soundly}
-use Rattle.wh_host_model.proofs.Space.Come.{commits_fetch_soundly}
-use Rattle.wh_host_model.proofs.Space.Evicted.{row_length}
-use Rattle.wh_host_model.proofs.Space.Provided.{provision_is_right, serves_way}
-use Rattle.wh_host_model.proofs.Space.Reading.{view_length}
+use Rattle.wh_space_model.specs.declared.states.FetchEnd.{FetchEnd}
+use Rattle.wh_space_model.specs.declared.states.Page.{Page}
+use Rattle.wh_space_model.specs.declared.states.Page.TheVariants.{Private, Swapped}
+use Rattle.wh_space_model.specs.{Space, Move, Serves, comes, goes, IsSound, put, CommitsFetch}
+use Rattle.wh_host_model.specs.Host.{FailuresSeeAsMany, FetchesSeeAsMany, ProvisionsSeeAsMany, AllSeeAsMany}
+use Rattle.wh_space_model.proofs.Chained.{fails_soundly}
+use Rattle.wh_space_model.proofs.Come.{commits_fetch_soundly}
+use Rattle.wh_space_model.proofs.Evicted.{row_length}
+use Rattle.wh_space_model.proofs.Provided.{provision_is_right, serves_way}
+use Rattle.wh_space_model.proofs.Reading.{view_length}
 use Rattle.wh_host_model.proofs.Host.Moving.{Claims, claims_of, fetch_claims}
 
 -- page tables are as long as before

@@ -1,21 +1,16 @@
 -- The calls that were copied with an instance have ended, and stay so.
 use Rattle.std.proofs.Common.{ℕ, ℤ, ◌≤◌, Option, List, [], ◌∷◌, ◌++◌, length, map, sym, subst, ◌∙◌, arith, length-append}
 use Rattle.wh_model.specs.declared.memory.Need.{Need}
-use Rattle.wh_model.specs.Format.Syntax.{Module}
-use Rattle.wh_model.specs.Execution.Instance.{Parameters}
-use Rattle.wh_model.specs.Execution.Replay.{dead}
-use Rattle.wh_host_model.specs.declared.Tax.{Tax}
+use Rattle.wh_model.specs.Format.{Module}
+use Rattle.wh_model.specs.Execution.{Parameters, dead}
+use Rattle.wh_space_model.specs.declared.Tax.{Tax}
 use Rattle.wh_host_model.specs.declared.plain.TurnEnd.{TurnEnd}
-use Rattle.wh_host_model.specs.Space.Parts.{Space}
-use Rattle.wh_host_model.specs.Owners.{Entry}
-use Rattle.wh_host_model.specs.Host.CallAnswers.{Closes, Turn, can_go_on, ended_by, faces_next, has_ended, has_no_frame, has_no_fuel, is_dead, is_idle, keeps_its_fault}
-use Rattle.wh_host_model.specs.Host.Laws.{CopiedCallsHaveEnded}
-use Rattle.wh_host_model.specs.Host.Misreading.{AllBefall, AllSeeAsMany, Befalls, CopiedStayEnded, Step, by_event, by_misreading}
+use Rattle.wh_space_model.specs.{Space}
+use Rattle.wh_host_model.specs.{Entry}
+use Rattle.wh_host_model.specs.Host.{Closes, Turn, can_go_on, ended_by, faces_next, has_ended, has_no_frame, has_no_fuel, is_dead, is_idle, keeps_its_fault, CopiedCallsHaveEnded, AllBefall, AllSeeAsMany, Befalls, CopiedStayEnded, Step, by_event, by_misreading, Cancels, Refuels, Retries, TakesCall, has_more, may_try, Rest, Tenant, World, empty_world}
 use Rattle.wh_host_model.specs.Host.OwnerCalls as requests
-use Rattle.wh_host_model.specs.Host.OwnerCalls.{Cancels, Refuels, Retries, TakesCall, has_more, may_try}
-use Rattle.wh_host_model.specs.Host.Worlds.{Rest, Tenant, World, empty_world}
 use Rattle.wh_host_model.proofs.Host.Running.{IsGoodBy, IsKeptUp, events_keep, runs_keep}
-use Rattle.wh_host_model.proofs.Space.Chained.{empty_sound}
+use Rattle.wh_space_model.proofs.Chained.{empty_sound}
 
 abbrev HasCopied : Module → Parameters → Tenant → List ℕ → Option Need → Type 0
 HasCopied m p t bytes want = t.copied ≤ length t.ended

@@ -1,26 +1,18 @@
 -- Where no fault is met there is a copy, without a frame more.
 use Rattle.std.proofs.Common.{◌≡◌, ◌≢◌, ℕ, zero, suc, ◌+◌, ◌*◌, ◌<◌, ◌≤◌, inl, inr, replicate, false, List, [], ◌∷◌, Some, length, get_or, slice_get, refl, sym, ap, subst, ◌∙◌, arith}
-use Rattle.wh_host_model.specs.declared.plain.InstId.{InstId}
-use Rattle.wh_host_model.specs.declared.states.Page.{Page}
-use Rattle.wh_host_model.specs.declared.states.Page.TheVariants.{Untouched, Private, Shared, Leaving, LeavingShared, Coming, Swapped}
-use Rattle.wh_host_model.specs.Space.Claims.{stays}
-use Rattle.wh_host_model.specs.Space.Forks.{Copies, Lends, LendsFirst, one_more}
-use Rattle.wh_host_model.specs.Space.Parts.{Claimed, Space, minima}
-use Rattle.wh_host_model.specs.Space.Places.{Enters, newcomer, with_row}
-use Rattle.wh_host_model.specs.Space.Sound.{IsSound}
-use Rattle.wh_host_model.specs.Space.States.{page_at, put, untouched}
-use Rattle.wh_host_model.specs.Owners.{ForkFault, Quota, frames, min_max, not_admitted, other_limit, page_away, shares, swap, with_quota}
-use Rattle.wh_host_model.specs.Host.Forking.{IsAway, MeetsForkFault}
-use Rattle.wh_host_model.specs.Host.Happens.{IsFork, IsLive, fork_ok, is_forked}
-use Rattle.wh_host_model.specs.Host.Progress.{ForksAreTaken}
-use Rattle.wh_host_model.specs.Host.Worlds.{Tenant, World, empty_world, promised}
+use Rattle.wh_space_model.specs.declared.plain.InstId.{InstId}
+use Rattle.wh_space_model.specs.declared.states.Page.{Page}
+use Rattle.wh_space_model.specs.declared.states.Page.TheVariants.{Untouched, Private, Shared, Leaving, LeavingShared, Coming, Swapped}
+use Rattle.wh_space_model.specs.{stays, Copies, IsAway, Lends, LendsFirst, Claimed, Space, minima, Enters, newcomer, with_row, IsSound, page_at, put, untouched}
+use Rattle.wh_host_model.specs.{ForkFault, Quota, frames, min_max, not_admitted, other_limit, page_away, shares, swap, with_quota}
+use Rattle.wh_host_model.specs.Host.{MeetsForkFault, IsFork, IsLive, fork_ok, is_forked, ForksAreTaken, Tenant, World, empty_world, promised}
 use Rattle.wh_host_model.proofs.Host.Admitting.{at_least}
 use Rattle.wh_host_model.proofs.Host.Empty.{good_empty}
 use Rattle.wh_host_model.proofs.Host.Numbering.{AreAdmitted, next_is_fresh, none_admitted, run_below}
 use Rattle.wh_host_model.proofs.Host.Progress.{claimed_there}
 use Rattle.wh_host_model.proofs.Host.Running.{IsGood, good_run}
-use Rattle.wh_host_model.proofs.Space.Forked.{copies_are_right, entered_row}
-use Rattle.wh_host_model.proofs.Space.Putting.{here_or, put_other, put_other_row, there_of}
+use Rattle.wh_space_model.proofs.Forked.{copies_are_right, entered_row}
+use Rattle.wh_space_model.proofs.Putting.{here_or, put_other, put_other_row, there_of}
 
 -- ---- there is one
 
@@ -45,7 +37,7 @@ put_apart t i p k q x other = elim (here_or i k) [
 
 lent_apart : (s : Space) (i j p : ℕ) (s2 : Space) → Lends s i j p s2 → (k q : ℕ) → q ≢ p → page_at s2.tables k q ≡ page_at s.tables k q
 lent_apart s i j p s2 l k q other = go l.page l.lends where
-  go : (page : Page) → Rattle.wh_host_model.specs.Space.Forks.LendsPage s i j p page s2 → page_at s2.tables k q ≡ page_at s.tables k q
+  go : (page : Page) → Rattle.wh_space_model.specs.Forks.LendsPage s i j p page s2 → page_at s2.tables k q ≡ page_at s.tables k q
   go Untouched is = ap (λ (a : Space). page_at a.tables k q) is
   go (Private f) is = ap (λ (a : Space). page_at a.tables k q) is ∙ (put_apart (put s.tables i p (Shared f)) j p k q (Shared f) other ∙ put_apart s.tables i p k q (Shared f) other)
   go (Shared f) is = ap (λ (a : Space). page_at a.tables k q) is ∙ put_apart s.tables j p k q (Shared f) other
@@ -54,7 +46,7 @@ lent_apart s i j p s2 l k q other = go l.page l.lends where
   go (Coming k2) is = absurd is
   go (Swapped k2) is = absurd is
 
--- so many pages are lent, and those behind them are as they were
+-- n pages are lent, and those behind them are as they were
 record SomeLent (s : Space) (i j n : ℕ) : Type 0 where
   space : Space
   lends : LendsFirst s i j n space

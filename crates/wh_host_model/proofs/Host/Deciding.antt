@@ -6,24 +6,17 @@ use Rattle.wh_model.specs.declared.ExternKind.{ExternKind}
 use Rattle.wh_model.specs.declared.ExternKind.TheVariants.{Func, Table, Memory, Global}
 use Rattle.wh_model.specs.declared.ValType.{ValType}
 use Rattle.wh_model.specs.declared.ValType.TheVariants.{I32, I64}
-use Rattle.wh_model.specs.Execution.Instance.{Beginning, IsInitial, Parameters, begins, last_size, memory_min, segment_bounds}
-use Rattle.wh_model.specs.Execution.Numbers.{unsigned}
-use Rattle.wh_model.specs.Execution.Store.{FuncInst, Instance, Value, host, own, value}
-use Rattle.wh_model.specs.Format.Syntax.{Body, Export, FuncType, Module}
+use Rattle.wh_model.specs.Execution.{Beginning, IsInitial, Parameters, begins, last_size, memory_min, segment_bounds, unsigned, FuncInst, Value, host, own, value}
+use Rattle.wh_model.specs.Execution.Store.{Instance}
+use Rattle.wh_model.specs.Format.{Body, Export, FuncType, Module}
 use Rattle.wh_model.proofs.Instance.{one_beginning}
-use Rattle.wh_host_model.specs.Space.Parts.{Space, minima, spreads}
-use Rattle.wh_host_model.specs.Host.Worlds.{Loaded, Tenant, World, journal, loaded_of, tenant}
-use Rattle.wh_host_model.specs.Owners.{Params, given_of, AdmitFault, admit_rank, frames, instances, memory, min_max, most_instances, no_module, segments, shares, swap, AreArguments, ExportsOwn, InvokeFault, IsArgument, arguments, instance_dead, journal_full, most_calls, most_open, no_export, queue_full, rank}
-use Rattle.wh_host_model.specs.Host.OwnerCalls.{IsFirst, Meets, open_count}
-use Rattle.wh_model.specs.Linking.Accepting.{IsAccepted}
-use Rattle.wh_host_model.specs.Host.Admission.{IsFirstMet, IsUnused, MeetsFault, live_count}
-use Rattle.wh_host_model.specs.Host.Forking.{IsAway, IsFirstForkFault, MeetsForkFault}
-use Rattle.wh_host_model.specs.declared.states.Page.{Page}
-use Rattle.wh_host_model.specs.Space.Claims.{stays}
-use Rattle.wh_host_model.specs.Space.States.{page_at, untouched}
-use Rattle.wh_host_model.specs.Owners.{Entry, ForkFault, Quota, call_open, fork_rank, not_admitted, other_limit, page_away, start_failed, with_quota}
+use Rattle.wh_space_model.specs.{Space, minima, spreads, IsAway, stays, page_at, untouched}
+use Rattle.wh_host_model.specs.Host.{Loaded, Tenant, World, journal, loaded_of, tenant, IsFirst, Meets, open_count, IsFirstMet, IsUnused, MeetsFault, live_count, IsFirstForkFault, MeetsForkFault}
+use Rattle.wh_host_model.specs.{Params, given_of, AdmitFault, admit_rank, frames, instances, memory, min_max, most_instances, no_module, segments, shares, swap, AreArguments, ExportsOwn, InvokeFault, IsArgument, arguments, instance_dead, journal_full, most_calls, most_open, no_export, queue_full, rank, Entry, ForkFault, Quota, call_open, fork_rank, not_admitted, other_limit, page_away, start_failed, with_quota}
+use Rattle.wh_model.specs.Linking.{IsAccepted}
+use Rattle.wh_space_model.specs.declared.states.Page.{Page}
 use Rattle.wh_model.proofs.Beginnings.{some_beginning}
-use Rattle.wh_host_model.proofs.Space.Putting.{here_or}
+use Rattle.wh_space_model.proofs.Putting.{here_or}
 
 abbrev pub Decided : Type 0 → Type 0
 Decided A = A ⊎ ¬ A

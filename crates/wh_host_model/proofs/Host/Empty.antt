@@ -1,8 +1,8 @@
 -- A host in which nothing was loaded or admitted.
 use Rattle.std.proofs.Common.{ℕ}
-use Rattle.wh_host_model.specs.declared.Tax.{Tax}
-use Rattle.wh_host_model.specs.Host.Worlds.{empty_world}
-use Rattle.wh_host_model.proofs.Space.Chained.{empty_sound}
+use Rattle.wh_space_model.specs.declared.Tax.{Tax}
+use Rattle.wh_host_model.specs.Host.{empty_world}
+use Rattle.wh_space_model.proofs.Chained.{empty_sound}
 use Rattle.wh_host_model.proofs.Host.Running.{IsGood}
 
 pub good_empty : (frames slots : ℕ) (tax : Tax) → IsGood (empty_world frames slots tax)

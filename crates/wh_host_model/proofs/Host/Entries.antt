@@ -2,14 +2,10 @@
 use Rattle.std.proofs.Common.{◌≡◌, ℕ, List, [], ◌∷◌, ◌++◌, map, refl, sym, ap, subst}
 use Rattle.std.specs.List.{AllByRecursion}
 use Rattle.wh_model.specs.Execution.Store.{Instance, Store}
-use Rattle.wh_model.specs.Execution.Configuration.{Config}
-use Rattle.wh_model.specs.Execution.Instance.{Piece}
-use Rattle.wh_model.specs.Execution.Replay.{dead, pending, Call, Invocation, never_began, Standing, idle, Stands, is_invoked, Waits, Replays, at_rest, at_work}
-use Rattle.wh_model.specs.Execution.Histories.{Past, none_yet, one_more}
+use Rattle.wh_model.specs.Execution.{Config, Piece, dead, pending, Call, Invocation, never_began, Standing, idle, Stands, is_invoked, Waits, Replays, at_rest, at_work, Past, none_yet, one_more}
 use Rattle.wh_model.proofs.Histories.{past_then}
-use Rattle.wh_host_model.specs.Host.Worlds.{Rest, Doing, journal_calls, store_with, standing_with}
-use Rattle.wh_host_model.specs.Owners.{Entry}
-use Rattle.wh_host_model.specs.Host.CallAnswers.{ended_by, Faces}
+use Rattle.wh_host_model.specs.Host.{Rest, Doing, journal_calls, store_with, standing_with, ended_by, Faces}
+use Rattle.wh_host_model.specs.{Entry}
 
 -- ---- calls that are open
 

@@ -2,20 +2,15 @@
 use Rattle.std.proofs.Common.{◌≡◌, ℕ, ◌≤◌, Option, List, [], ◌∷◌, refl, sym, subst, arith, length-append}
 use Rattle.std.specs.List.{AllByRecursion}
 use Rattle.wh_model.specs.declared.memory.Need.{Need}
-use Rattle.wh_model.specs.Format.Syntax.{Module}
+use Rattle.wh_model.specs.Format.{Module}
 use Rattle.wh_model.specs.Execution.Store.{Instance}
-use Rattle.wh_model.specs.Execution.Configuration.{Term, config}
-use Rattle.wh_model.specs.Execution.Asking.{Asks}
-use Rattle.wh_model.specs.Execution.Instance.{Parameters}
-use Rattle.wh_model.specs.Execution.Replay.{Call, Replays, Replay}
+use Rattle.wh_model.specs.Execution.{Term, config, Asks, Parameters, Call, Replays}
+use Rattle.wh_model.specs.Execution.Replay.{Replay}
 use Rattle.wh_model.specs.Laws.ReplayLaws as laws
 use Rattle.wh_model.proofs.Histories.{replays_then}
 use Rattle.wh_model.proofs.Journals.{fuel_suffices}
-use Rattle.wh_host_model.specs.Host.Worlds.{Rest, Doing, Tenant, computing, journal, journal_calls, store_with, standing_with, standing_in, empty_world}
-use Rattle.wh_host_model.specs.Owners.{Entry}
-use Rattle.wh_host_model.specs.Host.Turns.{to_wait, to_go_on, Proceeds, waits, waits_to_write, has_had_its_turn}
-use Rattle.wh_host_model.specs.Host.CallAnswers.{has_no_frame, can_go_on, keeps_its_fault}
-use Rattle.wh_host_model.specs.Host.Laws.{MemoryIsSound, PlacesAreRight, InstancesReplay, ChargesAreWithin, JournalsAreInOrder, SuspensionsAreRight, FrameIsLacking, AgainIsReady}
+use Rattle.wh_host_model.specs.Host.{Rest, Doing, Tenant, computing, journal, journal_calls, store_with, standing_with, standing_in, empty_world, to_wait, to_go_on, Proceeds, waits, waits_to_write, has_had_its_turn, has_no_frame, can_go_on, keeps_its_fault, MemoryIsSound, PlacesAreRight, InstancesReplay, ChargesAreWithin, JournalsAreInOrder, SuspensionsAreRight, FrameIsLacking, AgainIsReady}
+use Rattle.wh_host_model.specs.{Entry}
 use Rattle.wh_host_model.proofs.Host.Entries.{now_replays, calls_join}
 use Rattle.wh_host_model.proofs.Host.Ordered.{order_journal}
 use Rattle.wh_host_model.proofs.Host.Keeping.{Kept}
@@ -72,8 +67,7 @@ pub suspensions_are_right : SuspensionsAreRight
 suspensions_are_right frames slots tax events w r i t x =
     let good = good_run events (empty_world frames slots tax) w (good_empty frames slots tax) r in
     let f = good.each i t x in
-    let k = f.kept in
-    k.duly
+    f.kept.duly
 
 -- ---- a turn's answers
 

@@ -1,11 +1,8 @@
 -- The words of an instance's input never change.
 use Rattle.std.proofs.Common.{◌≡◌, ℕ, List, refl, ◌∙◌}
-use Rattle.wh_model.specs.Format.Syntax.{Code, Module}
-use Rattle.wh_model.specs.Execution.Store.{Value, FuncInst, Instance, Store}
-use Rattle.wh_model.specs.Execution.Configuration.{Config, store_of}
-use Rattle.wh_model.specs.Execution.Rules.{Invokes, enter, too_deep, input, put, put_full, emit, emit_long, emit_beyond, emit_full, Base, pure, traps, get_local, set_local, tee_local, get_global, set_global, load_bytes, store_bytes, size_pages, grow_pages, grow_too_far, invoke}
-use Rattle.wh_model.specs.Execution.Reduction.{Reduces, base, in_label, in_frame, trap_label, trap_frame, leave_label, leave_frame, branch, returns, Leads, stays, goes_on}
-use Rattle.wh_model.specs.Execution.Instance.{Parameters, Piece, begins, IsInitial, in_bounds}
+use Rattle.wh_model.specs.Format.{Code, Module}
+use Rattle.wh_model.specs.Execution.Store.{Instance, Store}
+use Rattle.wh_model.specs.Execution.{Value, FuncInst, Config, store_of, Invokes, enter, too_deep, input, put, put_full, emit, emit_long, emit_beyond, emit_full, Base, pure, traps, get_local, set_local, tee_local, get_global, set_global, load_bytes, store_bytes, size_pages, grow_pages, grow_too_far, invoke, Reduces, base, in_label, in_frame, trap_label, trap_frame, leave_label, leave_frame, branch, returns, Leads, stays, goes_on, Parameters, Piece, begins, IsInitial, in_bounds}
 
 invokes_inputs : {d : ℕ} {s : Store} {f vs : List Value} {h : FuncInst} {is : Code} {b : Config} → Invokes d s f h vs is b → (store_of b).inputs ≡ s.inputs
 invokes_inputs (enter takes low) = refl

@@ -2,29 +2,20 @@
 use Rattle.std.proofs.Common.{◌≡◌, ◌≢◌, ℕ, suc, zero, ◌+◌, ◌-◌, ◌<◌, ◌≤◌, ⊎_elim, false, Option, Some, None, List, [], ◌∷◌, ◌++◌, length, map, take, drop, min, refl, sym, ap, subst, ◌∙◌, arith, ℤ, append_assoc, length-append}
 use Rattle.std.specs.List.{AllByRecursion}
 use Rattle.wh_model.specs.declared.memory.Need.{Need}
-use Rattle.wh_model.specs.Format.Syntax.{Module}
-use Rattle.wh_model.specs.Execution.Store.{Value, Instance, Store}
-use Rattle.wh_model.specs.Execution.Instance.{Piece, Parameters, AreGiven, IsInitial, begins}
+use Rattle.wh_model.specs.Format.{Module}
+use Rattle.wh_model.specs.Execution.Store.{Instance, Store}
+use Rattle.wh_model.specs.Execution.{Value, Piece, Parameters, AreGiven, IsInitial, begins, returned, stopped, cancelled, dead, pending, Call, with_pieces, Ends, Standing, idle, store_at, Stands, has_pieces, is_invoked, is_under_way, Waits, Writes, Past, none_yet, one_more}
 use Rattle.wh_model.specs.Execution.Replay as replays
-use Rattle.wh_model.specs.Execution.Replay.{Outcome, returned, stopped, cancelled, dead, pending, Call, with_pieces, Ends, Standing, idle, writing, running, store_at, Stands, has_pieces, is_invoked, is_under_way, Waits}
-use Rattle.wh_model.specs.Execution.Taking.{Writes}
-use Rattle.wh_model.specs.Execution.Histories.{Past, none_yet, one_more}
+use Rattle.wh_model.specs.Execution.Replay.{writing}
 use Rattle.wh_model.proofs.Journals.{pieces_then, cancelled_stays}
 use Rattle.std.proofs.lemmas.List.{take-append-drop, length-drop, length-take, length-map}
 use Rattle.std.proofs.Math.Seq.{take-append_seam, drop-append_seam}
 use Rattle.wh_host_model.specs.declared.plain.TurnEnd.{TurnEnd}
-use Rattle.wh_host_model.specs.Space.Parts.{Space, view, wants}
-use Rattle.wh_host_model.specs.Host.Spaces.{WaitsAlone}
-use Rattle.wh_host_model.specs.Host.Worlds.{Rest, Doing, resting, has_left, computing, Suspension, for_fuel, for_frame, for_device, Tenant, journal_calls, store_with, store_in, standing_with}
-use Rattle.wh_host_model.specs.Owners.{Entry, start_entry, new_entry}
-use Rattle.wh_host_model.specs.Owners.{Params, most_fuel, most_calls, most_open}
-use Rattle.wh_host_model.specs.Host.Turns.{HaveTypes, Upshot, to_end, out_of_fuel, to_wait, to_go_on, Proceeds, returns, traps, writes_all, uses_fuel, waits, waits_to_write, has_had_its_turn}
-use Rattle.wh_host_model.specs.Host.CallAnswers.{gone_further, ended_by, gone_on, Faces, Closes, faces_next, is_dead, at_frame, Turn, is_idle, has_ended, has_no_fuel, has_no_frame, can_go_on, keeps_its_fault}
+use Rattle.wh_space_model.specs.{Space, view, wants}
+use Rattle.wh_host_model.specs.Host.{WaitsAlone, Rest, Doing, resting, has_left, computing, Suspension, for_fuel, for_frame, for_device, Tenant, journal_calls, store_with, store_in, standing_with, HaveTypes, Upshot, to_end, out_of_fuel, to_wait, to_go_on, Proceeds, returns, traps, writes_all, uses_fuel, waits, waits_to_write, has_had_its_turn, gone_further, ended_by, gone_on, Faces, Closes, faces_next, is_dead, at_frame, Turn, is_idle, has_ended, has_no_fuel, has_no_frame, can_go_on, keeps_its_fault, open_count, TakesCall, more_fuel, WaitsAfter, Refuels, has_more, Cancels, Retries, may_try, StartsAs, writes, runs, rest_of, IsOpenCall, ReturnsTyped, HasEnded, InOrder, is_starting, has_started, NextAsks, a_piece, a_step, WaitsDuly, FirstWaitsDuly}
+use Rattle.wh_host_model.specs.{Entry, start_entry, new_entry, Params, most_fuel, most_calls, most_open}
 use Rattle.wh_host_model.specs.Host.OwnerCalls as requests
-use Rattle.wh_host_model.specs.Host.OwnerCalls.{open_count, TakesCall, more_fuel, WaitsAfter, Refuels, has_more, Cancels, Retries, may_try}
-use Rattle.wh_host_model.specs.Host.Admission.{StartsAs, writes, runs, ends, rest_of}
-use Rattle.wh_host_model.specs.Host.Journals.{IsOpenCall, ReturnsTyped, HasEnded, InOrder, is_starting, has_started}
-use Rattle.wh_host_model.specs.Host.Suspensions.{NextAsks, a_piece, a_step, WaitsDuly, FirstWaitsDuly}
+use Rattle.wh_host_model.specs.Host.Admission.{ends}
 use Rattle.wh_host_model.proofs.Host.Entries.{Now, faces_now, past_dead, calls_join, all_join, joined, invoked_alike}
 use Rattle.wh_host_model.proofs.Host.Ordered.{SameCall, order_on, order_ends, order_dies, order_comes, order_fuel}
 use Rattle.wh_host_model.proofs.Host.Limits.{SameLimit, given_still, initial_still}
@@ -119,8 +110,7 @@ closes_kept {t = t} {es = es} pr e2 s3 r end same h typed none (is_dead died) = 
   few =
       let n = length-append t.ended (e2 ∷ map (λ w. ended_by w dead) es) in
       let l = length-map es (λ w. ended_by w dead) in
-      let few = pr.few in
-      omega (arith, n, l, few);
+      omega (arith, n, l, pr.few);
   few_open = omega arith;
   duly = (none, refl);
 }
@@ -282,9 +272,7 @@ more_duly inst s d call want f le (Some for_fuel) o duly after =
     ⊎_elim
     (λ (x : (call.charges < f) × (o ≡ None)). subst (λ z. WaitsDuly inst s d (record call { fuel = f }) want z) (sym x.1) duly.0)
     (λ (x : (f ≤ call.charges) × (o ≡ Some for_fuel)).
-    let used = duly.1 in
-    let low = x.0 in
-    let same : call.charges ≡ f = omega (arith, used, low, le) in
+    let same : call.charges ≡ f = omega (arith, duly.1, x.0, le) in
     subst (λ z. WaitsDuly inst s d (record call { fuel = f }) want z) (sym x.1) (duly.0, same, duly.2))
     after
 more_duly inst s d call want f le (Some for_frame) o duly after = subst (λ z. WaitsDuly inst s d (record call { fuel = f }) want z) (sym after) (duly.0, duly.1, more_asks f le duly.2)

@@ -2,26 +2,17 @@
 use Rattle.std.proofs.Common.{◌≡◌, ◌≢◌, ℕ, zero, suc, ◌+◌, ◌≤◌, inl, inr, Bool, Option, Some, None, List, [], ◌∷◌, length, map, refl, sym, ap, subst, ◌∙◌, arith, length-append, ℤ}
 use Rattle.std.proofs.lemmas.List.{length-map}
 use Rattle.wh_model.specs.declared.memory.Need.{Need}
-use Rattle.wh_model.specs.Format.Syntax.{Module}
+use Rattle.wh_model.specs.Format.{Module}
 use Rattle.wh_model.specs.Execution.Store.{Instance, Store}
-use Rattle.wh_model.specs.Execution.Configuration.{Config, store_of}
-use Rattle.wh_model.specs.Execution.Instance.{Piece, Parameters, AreGiven, IsInitial, begins}
-use Rattle.wh_model.specs.Execution.Replay.{Outcome, returned, cancelled, dead, pending, Call}
-use Rattle.wh_model.specs.Execution.Taking.{Takes, took_all, took}
-use Rattle.wh_host_model.specs.declared.Tax.{Tax}
+use Rattle.wh_model.specs.Execution.{Config, store_of, Piece, Parameters, AreGiven, IsInitial, begins, Outcome, returned, cancelled, dead, pending, Call, Takes, took_all, took}
+use Rattle.wh_space_model.specs.declared.Tax.{Tax}
 use Rattle.wh_host_model.specs.declared.plain.TurnEnd.{TurnEnd}
-use Rattle.wh_host_model.specs.Space.Parts.{Space, view, wants}
-use Rattle.wh_host_model.specs.Host.Worlds.{Rest, Doing, Suspension, for_fuel, for_frame, for_device, Tenant, World, empty_world}
-use Rattle.wh_host_model.specs.Owners.{Entry, new_entry}
-use Rattle.wh_host_model.specs.Owners.{Params, most_fuel, most_calls, most_open}
-use Rattle.wh_host_model.specs.Host.Turns.{Opens, by_invocation, as_it_was, Computes, Upshot, to_end, Proceeds, returns, traps, writes_all, uses_fuel, waits, waits_to_write, has_had_its_turn}
-use Rattle.wh_host_model.specs.Host.CallAnswers.{gone_further, ended_by, Closes, faces_next, is_dead, at_frame, Turn, is_idle, has_ended, has_no_fuel, has_no_frame, can_go_on, keeps_its_fault}
+use Rattle.wh_space_model.specs.{Space, view, wants}
+use Rattle.wh_host_model.specs.Host.{Rest, Doing, Suspension, for_fuel, for_frame, for_device, Tenant, World, empty_world, Opens, by_invocation, as_it_was, Computes, Upshot, to_end, Proceeds, returns, traps, writes_all, uses_fuel, waits, waits_to_write, has_had_its_turn, gone_further, ended_by, Closes, faces_next, is_dead, at_frame, Turn, is_idle, has_ended, has_no_fuel, has_no_frame, can_go_on, keeps_its_fault, open_count, TakesCall, more_fuel, WaitsAfter, Refuels, has_more, Cancels, Retries, may_try, StartsAs, writes, runs, IsOpenCall, ReturnsTyped, HasEnded, InOrder, is_starting, has_started, AllSeeAsMany, Step, by_event, by_misreading, Befalls, AllBefall, ComesAbout, MemoryStaysSound, PlacesStayRight, ModulesStayAccepted, JournalsStayInOrder, InputsStay, FramesAreAwaited}
+use Rattle.wh_host_model.specs.{Entry, new_entry, Params, most_fuel, most_calls, most_open}
 use Rattle.wh_host_model.specs.Host.OwnerCalls as requests
-use Rattle.wh_host_model.specs.Host.OwnerCalls.{open_count, TakesCall, more_fuel, WaitsAfter, Refuels, has_more, Cancels, Retries, may_try}
-use Rattle.wh_host_model.specs.Host.Admission.{StartsAs, writes, runs, ends}
-use Rattle.wh_host_model.specs.Host.Journals.{IsOpenCall, ReturnsTyped, HasEnded, InOrder, is_starting, has_started}
-use Rattle.wh_host_model.specs.Host.Misreading.{AllSeeAsMany, Step, by_event, by_misreading, Befalls, AllBefall, ComesAbout, MemoryStaysSound, PlacesStayRight, ModulesStayAccepted, JournalsStayInOrder, InputsStay, FramesAreAwaited}
-use Rattle.wh_host_model.proofs.Space.Chained.{empty_sound}
+use Rattle.wh_host_model.specs.Host.Admission.{ends}
+use Rattle.wh_space_model.proofs.Chained.{empty_sound}
 use Rattle.wh_host_model.proofs.Host.Inputs.{leads_inputs, initial_inputs}
 use Rattle.wh_host_model.proofs.Host.Keeping.{beginner, some_func, types_alike}
 use Rattle.wh_host_model.proofs.Host.Ordered.{SameCall, order_on, order_ends, order_dies, order_comes}
@@ -36,7 +27,7 @@ IsWanted want None = Unit {0}
 IsWanted want (Some for_fuel) = Unit {0}
 IsWanted want (Some other) = (need : Need) × (want ≡ Some need)
 
--- its calls are in order, and not too many, its input is as it was given, and it wants bytes where it stands for them
+-- its calls are in order, and not too many, its input is as it was given, and it wants bytes where it is blocked on them
 pub record Lasts (m : Module) (p : Parameters) (t : Tenant) (bytes : List ℕ) (want : Option Need) : Type 0 where
   pub order : InOrder m t.inst t.dead t.ended t.open_calls
   pub few : length t.ended + length t.open_calls ≤ most_calls
@@ -172,7 +163,6 @@ retry_lasting k (may_try there stands) = fault_lasting k stands (λ e. cc e) (λ
 accept_lasting : {m mm : Module} {p : Parameters} {t t2 : Tenant} {name : List ℕ} {given : List ℤ} {fuel at : ℕ} (s : Space) → Lasts m p t (view s t.place) (wants s t.place) → TakesCall mm s t name given fuel at t2 → Lasts m p t2 (view s t.place) (wants s t.place)
 accept_lasting {m} {p = p} {t = t} {given = given} {fuel = fuel} s k a =
     let few = a.few_calls in
-    let room = a.few_open in
     let n = length-append t.ended t.open_calls in
     let more = length-append t.open_calls (new_entry a.func a.vs given fuel ∷ []) in
     let asked : IsOpenCall t.inst (new_entry a.func a.vs given fuel) = record {
@@ -182,7 +172,7 @@ accept_lasting {m} {p = p} {t = t} {given = given} {fuel = fuel} s k a =
     subst (λ z. Lasts m p z (view s t.place) (wants s t.place)) (sym a.after) (record {
       order = order_comes (new_entry a.func a.vs given fuel) a.alive asked k.order;
       few = omega (arith, few, n, more);
-      few_open = omega (arith, room, more);
+      few_open = omega (arith, a.few_open, more);
       inputs = k.inputs;
       wanted = k.wanted;
     })
@@ -305,5 +295,4 @@ pub frames_are_awaited : FramesAreAwaited
 frames_are_awaited w c i t x stands =
     let last = is_lasting w c in
     let f = last.each i t x in
-    let k = f.kept in
-    subst (IsWanted (wants w.space t.place)) stands k.wanted
+    subst (IsWanted (wants w.space t.place)) stands f.kept.wanted

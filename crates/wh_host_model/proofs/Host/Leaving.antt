@@ -2,24 +2,15 @@
 use Rattle.std.proofs.Common.{◌≡◌, ℕ, ◌+◌, ◌*◌, ◌<◌, ◌≤◌, ◌⊎◌, inl, inr, ◌==◌, cond, Bool, true, false, List, [], ◌∷◌, Option, Some, None, zero, suc, length, get_or, slice_get, refl, sym, ap, subst, ◌∙◌, arith, length-append}
 use Rattle.std.proofs.lemmas.List.{get_or-set_same, get_or-set_other}
 use Rattle.wh_model.specs.declared.memory.Need.{Need}
-use Rattle.wh_host_model.specs.Space.States.{joined}
-use Rattle.wh_host_model.specs.Space.Parts.{Space, Occupant, Pins, Claimed, occupant_at, all_bytes, claim_of, need_of, promised_to, kept, kept_by, pinned_by}
-use Rattle.wh_host_model.specs.Space.Sound.{IsSound}
-use Rattle.wh_host_model.specs.Space.Ready.{Ready, may_take}
-use Rattle.wh_host_model.specs.Space.Moves.{has_pins, unpinned}
-use Rattle.wh_host_model.specs.Space.Places.{IsFreePlace, newcomer, Enters, Exits, with_row}
-use Rattle.wh_host_model.specs.Space.Errands.{ticket_of}
-use Rattle.wh_host_model.specs.Space.Tickets.{stays_occupant}
-use Rattle.wh_host_model.specs.Frames.{tally}
-use Rattle.wh_host_model.proofs.Space.Exited.{exits_soundly}
-use Rattle.wh_host_model.proofs.Space.Entered.{enters_soundly, enters_at_zeros}
-use Rattle.wh_host_model.proofs.Space.Rows.{same_there, row_same, row_other}
+use Rattle.wh_space_model.specs.{joined, Space, Occupant, Pins, Claimed, occupant_at, all_bytes, claim_of, need_of, promised_to, kept, kept_by, pinned_by, IsSound, may_take, has_pins, unpinned, IsFreePlace, newcomer, Enters, Exits, with_row, ticket_of, stays_occupant, tally, Epochs, Touches, awaiting, stood, ended, HasNoPins}
+use Rattle.wh_space_model.specs.Ready.{Ready}
+use Rattle.wh_space_model.proofs.Exited.{exits_soundly}
+use Rattle.wh_space_model.proofs.Entered.{enters_soundly, enters_at_zeros}
+use Rattle.wh_space_model.proofs.Rows.{same_there, row_same, row_other}
 use Rattle.std.proofs.lemmas.Bool.Decides.{nat_tests}
-use Rattle.wh_host_model.specs.Space.Stores.{Epochs, Touches, awaiting, stood, ended}
-use Rattle.wh_host_model.specs.Space.Sight.{HasNoPins}
-use Rattle.wh_host_model.proofs.Space.Quiet.{steps_quiet, enters_own, exits_own, pins_end}
-use Rattle.wh_host_model.proofs.Space.Steady.{touches_soundly, epochs_soundly, waits_soundly, ends_soundly}
-use Rattle.wh_host_model.specs.Host.Spaces.{AllLeftAlone, KeepsPromise, LeftAlone, StepsAlone, WaitsAlone, Arrives, Departs}
+use Rattle.wh_space_model.proofs.Quiet.{steps_quiet, enters_own, exits_own, pins_end}
+use Rattle.wh_space_model.proofs.Steady.{touches_soundly, epochs_soundly, waits_soundly, ends_soundly}
+use Rattle.wh_host_model.specs.Host.{AllLeftAlone, KeepsPromise, LeftAlone, StepsAlone, WaitsAlone, Arrives, Departs}
 
 -- ---- one after the other
 
@@ -57,7 +48,7 @@ touches_alone s i first n s2 sound e =
     let mine = all.0 i in
     record { others = λ j other. all.0 j; places = λ j other. ap (λ (xs : List (Option Occupant)). promised_to (get_or xs j None)) (ap (λ (z : Space). z.occupants) e); claim = mine.claim; sound = all.1 }
 
--- ---- to stand for bytes, or for none
+-- ---- to be blocked on bytes, or for none
 
 within : (xs : List (Option Occupant)) (i : ℕ) (t : Occupant) → slice_get xs i ≡ Some (Some t) → (i < length xs) × (get_or xs i None ≡ Some t)
 within [] i t e = absurd (cc e)

@@ -1,9 +1,9 @@
 -- An instance begins alike with any quota that lets its memory grow just as far.
 use Rattle.std.proofs.Common.{◌≡◌, ℕ, ◌*◌, ◌≤◌, inl, inr, List, [], ◌∷◌, replicate, None, refl, sym, ap, subst, ◌∙◌}
 use Rattle.std.proofs.lemmas.Bool.{cases_lt}
-use Rattle.wh_model.specs.Format.Syntax.{FuncType, Import, Module}
-use Rattle.wh_model.specs.Execution.Store.{FuncInst, Instance, Store, Value}
-use Rattle.wh_model.specs.Execution.Instance.{AreGiven, Beginning, Imported, ImportsGlobal, IsInitial, Parameters, Piece, Prepares, begins, filled, first_size, fragments, in_bounds, last_size, memory_min, needs_more, out_of_bounds}
+use Rattle.wh_model.specs.Format.{FuncType, Import, Module}
+use Rattle.wh_model.specs.Execution.Store.{Instance, Store}
+use Rattle.wh_model.specs.Execution.{FuncInst, Value, AreGiven, Beginning, Imported, ImportsGlobal, IsInitial, Parameters, Piece, Prepares, begins, filled, first_size, fragments, in_bounds, last_size, memory_min, needs_more, out_of_bounds}
 
 -- what another quota leaves of what instantiation is given
 pub record SameLimit (m : Module) (p p2 : Parameters) (inst : Instance) : Type 0 where

@@ -1,26 +1,21 @@
 -- Offers, and pages in transit, leave all instances alone.
 use Rattle.std.proofs.Common.{◌≡◌, ◌⊎◌, ℕ, zero, suc, inl, inr, ◌==◌, cond, Bool, true, false, List, [], ◌∷◌, Option, Some, None, get_or, slice_set, refl, ap, ◌∙◌}
 use Rattle.wh_model.specs.declared.memory.Need.{Need}
-use Rattle.wh_host_model.specs.declared.states.Offer.{Offer}
-use Rattle.wh_host_model.specs.declared.states.Offer.TheVariants.{Skipped, Zeroed, Hinted, Stale, Merged, FalseMatch}
-use Rattle.wh_host_model.specs.declared.states.EvictEnd.{EvictEnd}
-use Rattle.wh_host_model.specs.declared.states.FetchEnd.{FetchEnd}
-use Rattle.wh_host_model.specs.declared.states.Slot.TheVariants.{Vacant}
-use Rattle.wh_host_model.specs.Frames.{tally}
-use Rattle.wh_host_model.specs.Space.States.{joined}
-use Rattle.wh_host_model.specs.Space.Parts.{Space, Occupant, Promised, all_bytes, claim_of, need_of, promised_to}
-use Rattle.wh_host_model.specs.Space.Errands.{ticket_of}
-use Rattle.wh_host_model.specs.Space.Sound.{IsSound}
-use Rattle.wh_host_model.specs.Space.Offers.{Offers, OffersAlone, OffersUnlisted}
-use Rattle.wh_host_model.specs.Space.Tickets.{Reserves, BeginsEvict, BeginsFetch, CommitsEvict, CommitsFetch, leaving_by, stays_occupant}
-use Rattle.wh_host_model.proofs.Space.Listed.{offers_quiet}
-use Rattle.wh_host_model.proofs.Space.Listed.{offers_soundly}
-use Rattle.wh_host_model.proofs.Space.Reserved.{begin_evict_sound}
-use Rattle.wh_host_model.proofs.Space.Awaited.{begin_fetch_sound}
-use Rattle.wh_host_model.proofs.Space.Sent.{commits_soundly}
-use Rattle.wh_host_model.proofs.Space.Come.{commits_fetch_soundly}
-use Rattle.wh_host_model.proofs.Space.Transit.{begin_evict_bytes, begin_fetch_bytes, commit_evict_bytes, commit_fetch_bytes}
-use Rattle.wh_host_model.specs.Host.Spaces.{AllLeftAlone}
+use Rattle.wh_space_model.specs.declared.states.Offer.{Offer}
+use Rattle.wh_space_model.specs.declared.states.Offer.TheVariants.{Skipped, Zeroed, Hinted, Stale, Merged, FalseMatch}
+use Rattle.wh_space_model.specs.declared.states.EvictEnd.{EvictEnd}
+use Rattle.wh_space_model.specs.declared.states.FetchEnd.{FetchEnd}
+use Rattle.wh_space_model.specs.declared.states.Slot.TheVariants.{Vacant}
+use Rattle.wh_space_model.specs.{tally, joined, Space, Occupant, Promised, all_bytes, claim_of, need_of, promised_to, ticket_of, IsSound, OffersAlone, OffersUnlisted, Reserves, BeginsEvict, BeginsFetch, CommitsEvict, CommitsFetch, leaving_by, stays_occupant}
+use Rattle.wh_space_model.specs.Offers.{Offers}
+use Rattle.wh_space_model.proofs.Listed.{offers_quiet}
+use Rattle.wh_space_model.proofs.Listed.{offers_soundly}
+use Rattle.wh_space_model.proofs.Reserved.{begin_evict_sound}
+use Rattle.wh_space_model.proofs.Awaited.{begin_fetch_sound}
+use Rattle.wh_space_model.proofs.Sent.{commits_soundly}
+use Rattle.wh_space_model.proofs.Come.{commits_fetch_soundly}
+use Rattle.wh_space_model.proofs.Transit.{begin_evict_bytes, begin_fetch_bytes, commit_evict_bytes, commit_fetch_bytes}
+use Rattle.wh_host_model.specs.Host.{AllLeftAlone}
 use Rattle.wh_host_model.proofs.Host.Leaving.{alone_bytes}
 
 -- ---- offers

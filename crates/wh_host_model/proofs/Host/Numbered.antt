@@ -1,16 +1,14 @@
 -- The number of a module is never given again.
 use Rattle.std.proofs.Common.{◌≡◌, ℕ, ℤ, zero, suc, ◌<◌, ◌++◌, inl, inr, List, [], ◌∷◌, Option, Some, None, length, get_or, slice_set, length-set, length-append, refl, sym, ap, subst, ◌∙◌, arith}
 use Rattle.std.proofs.lemmas.List.{get_or-set_same, get_or-set_other}
-use Rattle.wh_host_model.specs.declared.plain.InstId.{InstId}
-use Rattle.wh_host_model.specs.declared.plain.SwapError.{SwapError}
+use Rattle.wh_space_model.specs.declared.plain.InstId.{InstId}
+use Rattle.wh_space_model.specs.declared.plain.SwapError.{SwapError}
 use Rattle.wh_host_model.specs.declared.plain.TurnEnd.{TurnEnd}
-use Rattle.wh_host_model.specs.Owners.{Params, Quota}
-use Rattle.wh_host_model.specs.Host.Worlds.{Loaded, Tenant, World}
-use Rattle.wh_host_model.specs.Host.Events.{Event, turn, load, admit, invoke, refuel, cancel, retry, release, fork, unload, offer, evict_begin, evict_commit, fetch_begin, fetch_commit, provide, epoch}
+use Rattle.wh_host_model.specs.{Params, Quota}
+use Rattle.wh_host_model.specs.Host.{Loaded, Tenant, World, Event, turn, load, admit, invoke, refuel, cancel, retry, release, fork, unload, offer, evict_begin, evict_commit, fetch_begin, fetch_commit, provide, epoch, IsTurn, MovesPages, has_failed, moved, of_none, of_one, KeepsModules, ModulesAreKept}
 use Rattle.wh_host_model.specs.Host.Happens as happens
-use Rattle.wh_host_model.specs.Host.Happens.{Happens, IsTurn, MovesPages, has_failed, moved, of_none, of_one}
-use Rattle.wh_host_model.specs.Host.Laws.{KeepsModules, ModulesAreKept}
-use Rattle.wh_host_model.proofs.Space.Putting.{here_or}
+use Rattle.wh_host_model.specs.Host.Happens.{Happens}
+use Rattle.wh_space_model.proofs.Putting.{here_or}
 
 same_modules : (w w2 : World) → w2.modules ≡ w.modules → KeepsModules w w2
 same_modules w w2 same = record { grows = let l = ap length same in omega (arith, l); same = λ k less. inl (ap (λ ms. get_or ms k None) same) }

@@ -1,27 +1,22 @@
 -- Whoever has a place, also one that was released, has the number of an instance that was admitted.
 use Rattle.std.proofs.Common.{◌≡◌, ◌≢◌, ℕ, ℤ, zero, suc, ◌+◌, ◌<◌, inl, inr, Bool, true, false, List, [], ◌∷◌, ◌++◌, Option, Some, None, length, get_or, length-set, length-append, refl, sym, ap, subst, ◌∙◌, arith}
-use Rattle.wh_host_model.specs.declared.Tax.{Tax}
-use Rattle.wh_host_model.specs.declared.plain.InstId.{InstId}
-use Rattle.wh_host_model.specs.declared.plain.SwapError.{SwapError}
+use Rattle.wh_space_model.specs.declared.Tax.{Tax}
+use Rattle.wh_space_model.specs.declared.plain.InstId.{InstId}
+use Rattle.wh_space_model.specs.declared.plain.SwapError.{SwapError}
 use Rattle.wh_host_model.specs.declared.plain.TurnEnd.{TurnEnd}
-use Rattle.wh_host_model.specs.Space.Parts.{Claimed, Occupant, Promised, Space, claim, claim_of, occupant_at, promise_at, promised_to}
-use Rattle.wh_host_model.specs.Host.Spaces.{AllLeftAlone, ArrivesSeeing, KeepsPromise}
-use Rattle.wh_host_model.specs.Host.Worlds.{Tenant, World, empty_world, promised, with_tenant}
-use Rattle.wh_host_model.specs.Owners.{Params, Quota, with_quota}
-use Rattle.wh_host_model.specs.Host.OwnerCalls.{Cancels}
+use Rattle.wh_space_model.specs.{Claimed, Occupant, Promised, Space, claim, claim_of, occupant_at, promise_at, promised_to, IsSound}
+use Rattle.wh_host_model.specs.Host.{AllLeftAlone, ArrivesSeeing, KeepsPromise, Tenant, World, empty_world, promised, with_tenant, Cancels, LetsGo, LetsIn, Event, turn, load, admit, invoke, refuel, cancel, retry, release, fork, unload, offer, evict_begin, evict_commit, fetch_begin, fetch_commit, provide, epoch, AllHappen, AwaitsFrame, AwaitsFrameFor, IsLive, IsTurn, MovesPages, OnlyMoves, has_failed, moved, of_none, of_one}
+use Rattle.wh_host_model.specs.{Params, Quota, with_quota}
 use Rattle.wh_host_model.specs.Host.OwnerCalls as requests
-use Rattle.wh_host_model.specs.Host.Admission.{LetsGo, LetsIn}
-use Rattle.wh_host_model.specs.Space.Sound.{IsSound}
-use Rattle.wh_host_model.specs.Host.Events.{Event, turn, load, admit, invoke, refuel, cancel, retry, release, fork, unload, offer, evict_begin, evict_commit, fetch_begin, fetch_commit, provide, epoch}
 use Rattle.wh_host_model.specs.Host.Happens as happens
-use Rattle.wh_host_model.specs.Host.Happens.{AllHappen, AwaitsFrame, AwaitsFrameFor, Happens, IsLive, IsTurn, MovesPages, OnlyMoves, has_failed, moved, of_none, of_one}
+use Rattle.wh_host_model.specs.Host.Happens.{Happens}
 use Rattle.wh_host_model.proofs.Host.Opening.{Apart, apart_steps}
 use Rattle.wh_host_model.proofs.Host.Running.{IsGood, events_keep, kept_up, turn_apart}
 use Rattle.wh_host_model.proofs.Host.Keeping.{Kept}
-use Rattle.wh_host_model.proofs.Space.Putting.{get_or_is, here_or}
+use Rattle.wh_space_model.proofs.Putting.{get_or_is, here_or}
 use Rattle.wh_host_model.proofs.Host.Arriving.{copies_arrive}
 
--- ---- numbers below so many
+-- ---- numbers below n
 
 pub record AreBelow (n : ℕ) (s : Space) : Type 0 where
   pub each : (j : ℕ) (x : Promised) → promise_at s j ≡ Some x → x.number < n

@@ -3,21 +3,15 @@ use Rattle.std.proofs.Common.{◌≡◌, ℕ, ◌+◌, ◌<◌, inl, List, lengt
 use Rattle.std.proofs.lemmas.List.{take-append-drop, length-drop}
 use Rattle.wh_model.specs.declared.memory.Need.{Need}
 use Rattle.wh_model.specs.Execution.Store.{Instance, Store}
-use Rattle.wh_model.specs.Execution.Configuration.{Config}
-use Rattle.wh_model.specs.Execution.Reduction.{After}
-use Rattle.wh_model.specs.Execution.Instance.{Piece}
-use Rattle.wh_model.specs.Execution.Replay.{Call, with_pieces, Invocation, Standing, writing, running, Stands, has_pieces, is_invoked, is_under_way}
-use Rattle.wh_model.specs.Execution.Taking.{Writes, wrote_all, wrote, Takes, took_all, took}
+use Rattle.wh_model.specs.Execution.{Config, After, Piece, Call, with_pieces, Invocation, Standing, running, Stands, has_pieces, is_invoked, is_under_way, Writes, wrote_all, wrote, Takes, took_all, took}
+use Rattle.wh_model.specs.Execution.Replay.{writing}
 use Rattle.wh_model.proofs.Chains.{after_joins}
 use Rattle.wh_model.proofs.Journals.{pieces_then}
 use Rattle.wh_model.proofs.Taken.{takes_after}
-use Rattle.wh_host_model.specs.Space.Parts.{Space, claim}
-use Rattle.wh_host_model.specs.Host.Spaces.{OthersLeftAlone, StepsAlone}
+use Rattle.wh_space_model.specs.{Space, claim}
+use Rattle.wh_host_model.specs.Host.{OthersLeftAlone, StepsAlone, Rest, Doing, Tenant, store_with, standing_with, Opens, by_invocation, as_it_was, Computes, Upshot, Proceeds, returns, traps, writes_all, uses_fuel, waits, waits_to_write, has_had_its_turn, ProceedsIn}
 use Rattle.wh_host_model.proofs.Host.Leaving.{left_then}
-use Rattle.wh_host_model.specs.Host.Worlds.{Rest, Doing, Tenant, store_with, standing_with}
-use Rattle.wh_host_model.specs.Owners.{Entry}
-use Rattle.wh_host_model.specs.Host.Turns.{Opens, by_invocation, as_it_was, Computes, Upshot, Proceeds, returns, traps, writes_all, uses_fuel, waits, waits_to_write, has_had_its_turn}
-use Rattle.wh_host_model.specs.Host.CallAnswers.{ProceedsIn}
+use Rattle.wh_host_model.specs.{Entry}
 
 -- ---- pieces that are written
 

@@ -2,14 +2,11 @@
 use Rattle.std.proofs.Common.{◌≡◌, ◌≤◌, Bool, true, false, List, [], ◌∷◌, ◌++◌, map, refl, sym, subst}
 use Rattle.std.specs.Bool.{MatchBool}
 use Rattle.std.specs.List.{AllByRecursion}
-use Rattle.wh_model.specs.Format.Syntax.{Module}
+use Rattle.wh_model.specs.Format.{Module}
 use Rattle.wh_model.specs.Execution.Store.{Instance}
-use Rattle.wh_model.specs.Execution.Replay.{Outcome, returned, stopped, cancelled, dead, pending, Call, fails, NamesFunction, IsDead, IsNotDead, IsJournal}
-use Rattle.wh_host_model.specs.Host.Worlds.{journal_calls}
-use Rattle.wh_host_model.specs.Owners.{Entry}
-use Rattle.wh_host_model.specs.Host.CallAnswers.{ended_by, dies}
-use Rattle.wh_host_model.specs.Owners.{most_fuel}
-use Rattle.wh_host_model.specs.Host.Journals.{IsAsked, IsStart, ReturnsTyped, HasEnded, IsEnded, IsOpenCall, IsDeadCall, InOrder, is_starting, has_started, has_died}
+use Rattle.wh_model.specs.Execution.{Outcome, returned, stopped, cancelled, dead, pending, Call, fails, NamesFunction, IsDead, IsNotDead, IsJournal}
+use Rattle.wh_host_model.specs.Host.{journal_calls, ended_by, dies, IsAsked, IsStart, ReturnsTyped, HasEnded, IsEnded, IsOpenCall, IsDeadCall, InOrder, is_starting, has_started, has_died}
+use Rattle.wh_host_model.specs.{Entry, most_fuel}
 use Rattle.wh_host_model.proofs.Host.Entries.{all_join}
 
 -- the same call of the same function

@@ -4,40 +4,24 @@ use Rattle.std.proofs.lemmas.Bool.{cases_lt}
 use Rattle.std.specs.List.{AllByRecursion}
 use Rattle.wh_model.specs.declared.ValType.{ValType}
 use Rattle.wh_model.specs.declared.ValType.TheVariants.{I32, I64}
-use Rattle.wh_model.specs.Format.Syntax.{Body, FuncType, Module, nothing}
-use Rattle.wh_model.specs.Execution.Numbers.{unsigned}
-use Rattle.wh_model.specs.Execution.Store.{Instance, InRange, Store, Value, type_of}
-use Rattle.wh_model.specs.Execution.Configuration.{Term, called, config}
-use Rattle.wh_model.specs.Execution.Reduction.{stays}
-use Rattle.wh_model.specs.Execution.Replay.{cancelled, Invocation}
-use Rattle.wh_model.specs.Execution.Taking.{took_all}
-use Rattle.wh_host_model.specs.declared.plain.InstId.{InstId}
-use Rattle.wh_host_model.specs.declared.plain.SwapError.{SwapError}
+use Rattle.wh_model.specs.Format.{Body, FuncType, Module, nothing}
+use Rattle.wh_model.specs.Execution.{unsigned, InRange, Value, type_of, Term, called, config, stays, cancelled, Invocation, took_all}
+use Rattle.wh_model.specs.Execution.Store.{Instance, Store}
+use Rattle.wh_space_model.specs.declared.plain.InstId.{InstId}
+use Rattle.wh_space_model.specs.declared.plain.SwapError.{SwapError}
 use Rattle.wh_host_model.specs.declared.plain.TurnEnd.TheVariants.{Fuel}
-use Rattle.wh_host_model.specs.Space.Parts.{Claimed, Occupant, Space, claim, claim_of, occupant_at, view, wants}
-use Rattle.wh_host_model.specs.Space.Sound.{IsSound}
-use Rattle.wh_host_model.specs.Space.Stores.{ended}
-use Rattle.wh_host_model.specs.Host.Spaces.{WaitsAlone}
-use Rattle.wh_host_model.specs.Host.Worlds.{Doing, Rest, Suspension, Tenant, World, computing, empty_world, for_device, for_frame, for_fuel, journal, loaded_of, resting, store_in, store_with, tenant, with_tenant}
-use Rattle.wh_host_model.specs.Owners.{AreArguments, Entry, ExportsOwn, IsArgument, Params, Quota, arguments, instance_dead, journal_full, most_calls, most_open, new_entry, queue_full}
-use Rattle.wh_host_model.specs.Owners.{AreArguments, Entry, ExportsOwn, IsArgument, Params, Quota, arguments, instance_dead, journal_full, most_calls, most_open, new_entry, queue_full}
-use Rattle.wh_host_model.specs.Host.Turns.{as_it_was, uses_fuel}
-use Rattle.wh_host_model.specs.Host.CallAnswers.{Closes, Faces, dies, ended_by, faces_next, has_no_fuel, is_dead, is_idle}
-use Rattle.wh_host_model.specs.Host.OwnerCalls.{Meets, Retries, WaitsAfter, has_more, may_try, more_fuel, open_count}
+use Rattle.wh_space_model.specs.{Claimed, Occupant, Space, claim, claim_of, occupant_at, view, wants, IsSound, ended}
+use Rattle.wh_host_model.specs.Host.{WaitsAlone, Doing, Rest, Suspension, Tenant, World, computing, empty_world, for_device, for_frame, for_fuel, journal, loaded_of, resting, store_in, store_with, tenant, with_tenant, as_it_was, uses_fuel, Closes, Faces, dies, ended_by, faces_next, has_no_fuel, is_dead, is_idle, Meets, Retries, WaitsAfter, has_more, may_try, more_fuel, open_count, decoder_out_of_memory, Event, turn, load, admit, invoke, refuel, cancel, retry, release, fork, unload, offer, evict_begin, evict_commit, fetch_begin, fetch_commit, provide, epoch, AwaitsFrame, AwaitsFrameFor, IsLive, IsTurn, MovesPages, NoInstance, OnlyMoves, admit_out_of_memory, admit_refused, call_no_call, call_no_instance, call_ok, fork_no_instance, fork_out_of_memory, fork_refused, has_failed, has_no_instance, invoke_no_instance, invoke_out_of_memory, invoke_refused, is_cancelled, is_in_use, is_invoked, is_loaded, is_refueled, is_released, is_retried, is_unloaded, isnt_admitted, isnt_forked, isnt_invoked, load_out_of_memory, moved, no_call_to_cancel, no_call_to_refuel, no_fault_to_retry, no_memory_to_admit, no_memory_to_fork, no_memory_to_invoke, no_memory_to_load, no_module_to_unload, no_one_to_cancel, no_one_to_fork, no_one_to_refuel, no_one_to_release, no_one_to_retry, of_none, of_one, unload_in_use, unload_no_module, unload_ok, InOrder, IsAsked, IsOpenCall, is_starting, has_started, CallsAreTaken, FuelTurnsHappen, IdleTurnsHappen, LoadsAreTaken, UnloadsAreTaken, FirstWaitsDuly}
+use Rattle.wh_host_model.specs.{AreArguments, Entry, ExportsOwn, IsArgument, Params, Quota, arguments, instance_dead, journal_full, most_calls, most_open, new_entry, queue_full}
 use Rattle.wh_host_model.specs.Host.OwnerCalls as requests
-use Rattle.wh_host_model.specs.Host.Admission.{decoder_out_of_memory}
-use Rattle.wh_host_model.specs.Host.Events.{Event, turn, load, admit, invoke, refuel, cancel, retry, release, fork, unload, offer, evict_begin, evict_commit, fetch_begin, fetch_commit, provide, epoch}
-use Rattle.wh_host_model.specs.Host.Happens.{AwaitsFrame, AwaitsFrameFor, Happens, IsLive, IsTurn, MovesPages, NoInstance, OnlyMoves, admit_out_of_memory, admit_refused, call_no_call, call_no_instance, call_ok, fork_no_instance, fork_out_of_memory, fork_refused, has_failed, has_no_instance, invoke_no_instance, invoke_out_of_memory, invoke_refused, is_cancelled, is_in_use, is_invoked, is_loaded, is_refueled, is_released, is_retried, is_unloaded, isnt_admitted, isnt_forked, isnt_invoked, load_out_of_memory, moved, no_call_to_cancel, no_call_to_refuel, no_fault_to_retry, no_memory_to_admit, no_memory_to_fork, no_memory_to_invoke, no_memory_to_load, no_module_to_unload, no_one_to_cancel, no_one_to_fork, no_one_to_refuel, no_one_to_release, no_one_to_retry, of_none, of_one, unload_in_use, unload_no_module, unload_ok}
-use Rattle.wh_host_model.specs.Host.Journals.{InOrder, IsAsked, IsOpenCall, is_starting, has_started}
-use Rattle.wh_host_model.specs.Host.Progress.{CallsAreTaken, FuelTurnsHappen, IdleTurnsHappen, LoadsAreTaken, UnloadsAreTaken}
-use Rattle.wh_host_model.specs.Host.Suspensions.{FirstWaitsDuly}
+use Rattle.wh_host_model.specs.Host.Happens.{Happens}
 use Rattle.wh_host_model.proofs.Host.Deciding.{arguments_or_not, exported_or_not, first_to_admit, first_to_fork, first_to_invoke, loaded_or_not, used_or_not}
 use Rattle.wh_host_model.proofs.Host.Empty.{good_empty}
 use Rattle.wh_host_model.proofs.Host.Leaving.{alone_self, ended_alone, exits_alone}
 use Rattle.wh_host_model.proofs.Host.Running.{IsGood, good_run}
 use Rattle.wh_host_model.proofs.Host.Stopping.{is_settled}
-use Rattle.wh_host_model.proofs.Space.Exiting.{some_exit}
-use Rattle.wh_host_model.proofs.Space.Putting.{here_or}
+use Rattle.wh_space_model.proofs.Exiting.{some_exit}
+use Rattle.wh_space_model.proofs.Putting.{here_or}
 
 -- ---- who lives
 

@@ -1,23 +1,18 @@
 -- No event changes number, minimum or maximum of whoever has a place.
 use Rattle.std.proofs.Common.{◌≡◌, ◌⊎◌, ℕ, ℤ, zero, suc, inl, inr, Bool, true, false, List, [], ◌∷◌, Option, Some, None, length, get_or, slice_get, refl, sym, ap, subst, ◌∙◌, arith}
-use Rattle.wh_host_model.specs.declared.plain.InstId.{InstId}
-use Rattle.wh_host_model.specs.declared.plain.SwapError.{SwapError}
+use Rattle.wh_space_model.specs.declared.plain.InstId.{InstId}
+use Rattle.wh_space_model.specs.declared.plain.SwapError.{SwapError}
 use Rattle.wh_host_model.specs.declared.plain.TurnEnd.{TurnEnd}
-use Rattle.wh_host_model.specs.Space.Parts.{Claimed, Occupant, Promised, Space, claim, claim_of, promise_at, promised_to}
-use Rattle.wh_host_model.specs.Host.Spaces.{AllLeftAlone, ArrivesSeeing, KeepsPromise}
-use Rattle.wh_host_model.specs.Host.Worlds.{Tenant, World, empty_world, promised}
-use Rattle.wh_host_model.specs.Owners.{Params, Quota, with_quota}
-use Rattle.wh_host_model.specs.Host.Admission.{LetsGo, LetsIn}
+use Rattle.wh_space_model.specs.{Claimed, Occupant, Promised, Space, claim, claim_of, promise_at, promised_to, IsSound}
+use Rattle.wh_host_model.specs.Host.{AllLeftAlone, ArrivesSeeing, KeepsPromise, Tenant, World, empty_world, promised, LetsGo, LetsIn, Event, turn, load, admit, invoke, refuel, cancel, retry, release, fork, unload, offer, evict_begin, evict_commit, fetch_begin, fetch_commit, provide, epoch, AwaitsFrame, AwaitsFrameFor, IsTurn, MovesPages, OnlyMoves, has_failed, moved, of_none, of_one, KeepsPromises, PromisesAreKept}
+use Rattle.wh_host_model.specs.{Params, Quota, with_quota}
 use Rattle.wh_host_model.specs.Host.OwnerCalls as requests
-use Rattle.wh_host_model.specs.Host.Events.{Event, turn, load, admit, invoke, refuel, cancel, retry, release, fork, unload, offer, evict_begin, evict_commit, fetch_begin, fetch_commit, provide, epoch}
 use Rattle.wh_host_model.specs.Host.Happens as happens
-use Rattle.wh_host_model.specs.Host.Happens.{AwaitsFrame, AwaitsFrameFor, Happens, IsTurn, MovesPages, OnlyMoves, has_failed, moved, of_none, of_one}
-use Rattle.wh_host_model.specs.Space.Sound.{IsSound}
-use Rattle.wh_host_model.specs.Host.Laws.{KeepsPromises, PromisesAreKept}
+use Rattle.wh_host_model.specs.Host.Happens.{Happens}
 use Rattle.wh_host_model.proofs.Host.Empty.{good_empty}
 use Rattle.wh_host_model.proofs.Host.Opening.{Apart, apart_steps}
 use Rattle.wh_host_model.proofs.Host.Running.{IsGood, good_run, turn_apart}
-use Rattle.wh_host_model.proofs.Space.Putting.{here_or}
+use Rattle.wh_space_model.proofs.Putting.{here_or}
 use Rattle.wh_host_model.proofs.Host.Arriving.{copies_arrive}
 
 -- ---- one place

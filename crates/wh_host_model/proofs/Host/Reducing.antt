@@ -9,14 +9,11 @@ use Rattle.wh_model.specs.declared.StoreOp.{StoreOp}
 use Rattle.wh_model.specs.declared.LoadOp.TheVariants.{I32Load, I64Load, I32Load8S, I32Load8U, I32Load16S, I32Load16U, I64Load8S, I64Load8U, I64Load16S, I64Load16U, I64Load32S, I64Load32U}
 use Rattle.wh_model.specs.declared.StoreOp.TheVariants.{I32Store, I64Store, I32Store8, I32Store16, I64Store8, I64Store16, I64Store32}
 use Rattle.wh_model.specs.declared.host.HostFunc.TheVariants.{Emit, Input, Put}
-use Rattle.wh_model.specs.Format.Syntax.{Code, FuncType, Op, call, call_indirect, load, plain, store}
-use Rattle.wh_model.specs.Validity.Typing.{load_type, store_type}
-use Rattle.wh_model.specs.Execution.Store.{FuncInst, Instance, Store, Value, bytes_of, host, output_room, own, pages, signature, value, written}
-use Rattle.wh_model.specs.Execution.Configuration.{Config, Term, code, config, frame, label, store_of}
+use Rattle.wh_model.specs.Format.{Code, FuncType, Op, call, call_indirect, load, plain, store}
+use Rattle.wh_model.specs.Validity.{load_type, store_type}
+use Rattle.wh_model.specs.Execution.Store.{Instance, Store}
+use Rattle.wh_model.specs.Execution.{FuncInst, Value, bytes_of, host, output_room, own, pages, signature, value, written, Config, Term, code, config, frame, label, store_of, Asks, CallAsks, CodeAsks, OpAsks, TermAsks, Base, Invokes, emit, emit_beyond, emit_full, emit_long, enter, get_global, get_local, grow_pages, grow_too_far, input, invoke, load_bytes, most_emitted, pure, put, put_full, set_global, set_local, size_pages, store_bytes, tee_local, too_deep, traps, Leads, Reduces, base, branch, goes_on, in_frame, in_label, leave_frame, leave_label, returns, stays, trap_frame, trap_label}
 use Rattle.wh_model.specs.Execution.Memory.{writing}
-use Rattle.wh_model.specs.Execution.Asking.{Asks, CallAsks, CodeAsks, OpAsks, TermAsks}
-use Rattle.wh_model.specs.Execution.Rules.{Base, Invokes, emit, emit_beyond, emit_full, emit_long, enter, get_global, get_local, grow_pages, grow_too_far, input, invoke, load_bytes, most_emitted, pure, put, put_full, set_global, set_local, size_pages, store_bytes, tee_local, too_deep, traps}
-use Rattle.wh_model.specs.Execution.Reduction.{Leads, Reduces, base, branch, goes_on, in_frame, in_label, leave_frame, leave_label, returns, stays, trap_frame, trap_label}
 use Rattle.wh_model.proofs.MemoryTypingLemmas.{length-bytes_of}
 
 -- ---- the bytes

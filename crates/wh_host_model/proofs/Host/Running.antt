@@ -2,28 +2,19 @@
 use Rattle.std.proofs.Common.{◌≡◌, ◌≢◌, ℕ, ℤ, zero, suc, ◌*◌, ◌/◌, ◌<◌, ◌≤◌, ◌⊎◌, ⊎_elim, inl, inr, Option, Some, None, List, [], ◌∷◌, ◌++◌, length, get_or, slice_get, slice_set, replicate, refl, sym, ap, subst, ◌∙◌, arith}
 use Rattle.std.proofs.lemmas.List.{get_or-set_same, get_or-set_other, length-replicate}
 use Rattle.wh_model.specs.declared.memory.Need.{Need}
-use Rattle.wh_model.specs.Format.Syntax.{Module}
+use Rattle.wh_model.specs.Format.{Module}
 use Rattle.wh_model.specs.Execution.Store.{Instance, Store}
-use Rattle.wh_model.specs.Execution.Instance.{AreGiven, Parameters, Piece, Beginning, IsInitial, needs_more, out_of_bounds, in_bounds, begins, first_size, last_size}
+use Rattle.wh_model.specs.Execution.{AreGiven, Parameters, Piece, Beginning, IsInitial, needs_more, out_of_bounds, in_bounds, begins, first_size, last_size}
 use Rattle.wh_host_model.specs.declared.plain.TurnEnd.{TurnEnd}
-use Rattle.wh_host_model.specs.declared.plain.InstId.{InstId}
-use Rattle.wh_host_model.specs.declared.plain.SwapError.{SwapError}
-use Rattle.wh_host_model.specs.Space.Parts.{Space, Claimed, Occupant, view, claim, claim_of, wants}
-use Rattle.wh_host_model.specs.Space.Sound.{IsSound}
-use Rattle.wh_host_model.specs.Space.Places.{IsFreePlace}
-use Rattle.wh_host_model.specs.Host.Spaces.{LeftAlone, AllLeftAlone, ArrivesSeeing}
-use Rattle.wh_host_model.specs.Host.Worlds.{Doing, Rest, Suspension, Tenant, Loaded, World, for_device, for_fuel, loaded_of, promised, tenant, with_tenant}
-use Rattle.wh_host_model.specs.Owners.{Entry}
-use Rattle.wh_host_model.specs.Owners.{ForkFault, Params, Quota, call_open, given_of, memory, most_fuel, not_admitted, other_limit, with_quota}
-use Rattle.wh_host_model.specs.Host.CallAnswers.{Closes, faces_next, is_dead, Turn, is_idle, has_ended, has_no_fuel, has_no_frame, can_go_on, keeps_its_fault}
-use Rattle.wh_host_model.specs.Host.OwnerCalls.{TakesCall, Refuels, has_more, Cancels, Retries, may_try}
+use Rattle.wh_space_model.specs.declared.plain.InstId.{InstId}
+use Rattle.wh_space_model.specs.declared.plain.SwapError.{SwapError}
+use Rattle.wh_space_model.specs.{Space, Claimed, Occupant, view, claim, claim_of, wants, IsSound, IsFreePlace}
+use Rattle.wh_host_model.specs.Host.{LeftAlone, AllLeftAlone, ArrivesSeeing, Doing, Rest, Suspension, Tenant, Loaded, World, for_device, for_fuel, loaded_of, promised, tenant, with_tenant, Closes, faces_next, is_dead, Turn, is_idle, has_ended, has_no_fuel, has_no_frame, can_go_on, keeps_its_fault, TakesCall, Refuels, has_more, Cancels, Retries, may_try, LoadsModule, LetsIn, LetsGo, LetsModuleGo, StartsAs, Forks, MeetsForkFault, Event, turn, load, admit, invoke, refuel, cancel, retry, release, fork, unload, offer, evict_begin, evict_commit, fetch_begin, fetch_commit, provide, epoch, IsTurn, of_none, of_one, AwaitsFrame, AwaitsFrameFor, MovesPages, moved, has_failed, OnlyMoves, AllHappen}
+use Rattle.wh_host_model.specs.{Entry, ForkFault, Params, Quota, call_open, given_of, memory, most_fuel, not_admitted, other_limit, with_quota}
 use Rattle.wh_host_model.specs.Host.OwnerCalls as requests
-use Rattle.wh_model.specs.Linking.Accepting.{IsAccepted}
-use Rattle.wh_host_model.specs.Host.Admission.{LoadsModule, LetsIn, LetsGo, LetsModuleGo, StartsAs}
-use Rattle.wh_host_model.specs.Host.Forking.{Forks, MeetsForkFault}
-use Rattle.wh_host_model.specs.Host.Events.{Event, turn, load, admit, invoke, refuel, cancel, retry, release, fork, unload, offer, evict_begin, evict_commit, fetch_begin, fetch_commit, provide, epoch}
+use Rattle.wh_model.specs.Linking.{IsAccepted}
 use Rattle.wh_host_model.specs.Host.Happens as happens
-use Rattle.wh_host_model.specs.Host.Happens.{IsLive, IsTurn, of_none, of_one, AwaitsFrame, AwaitsFrameFor, MovesPages, moved, has_failed, OnlyMoves, Happens, AllHappen}
+use Rattle.wh_host_model.specs.Host.Happens.{Happens}
 use Rattle.wh_host_model.proofs.Host.Opening.{Apart, apart_none, apart_then, apart_steps, proceeds_apart}
 use Rattle.wh_host_model.proofs.Host.Keeping.{Kept, turn_kept, cancel_kept, refuel_kept, faulted_kept, retry_kept, accept_kept, begins_kept, beginner, fork_kept}
 use Rattle.wh_host_model.proofs.Host.Limits.{SameLimit}

@@ -3,23 +3,15 @@ use Rattle.std.proofs.Common.{◌≡◌, ◌≢◌, ℕ, zero, suc, ◌+◌, ◌
 use Rattle.std.proofs.lemmas.List.{append-nil, length-drop}
 use Rattle.std.specs.List.{AllByRecursion}
 use Rattle.wh_model.specs.declared.memory.Need.{Need}
-use Rattle.wh_model.specs.Format.Syntax.{Module}
-use Rattle.wh_model.specs.Validity.Typing.{Context}
-use Rattle.wh_model.specs.Validity.Valid.{IsValidIn, Valid, ValidStart}
-use Rattle.wh_model.specs.Soundness.StoreTyping.{InstanceType, PieceType, StoreType}
-use Rattle.wh_model.specs.Soundness.TermTyping.{ThreadType}
-use Rattle.wh_model.specs.Laws.ReplayLaws.{InOnePage}
-use Rattle.wh_model.specs.Laws.SoundnessLaws.{StandsAs}
-use Rattle.wh_model.specs.Execution.Asking.{Asks}
-use Rattle.wh_model.specs.Execution.Configuration.{Config, Term, config}
-use Rattle.wh_model.specs.Execution.Histories.{Past, none_yet, one_more}
-use Rattle.wh_model.specs.Execution.Instance.{Beginning, IsInitial, Parameters, Piece, begins, in_bounds, needs_more, out_of_bounds}
+use Rattle.wh_model.specs.Format.{Module}
+use Rattle.wh_model.specs.Validity.{Context, IsValidIn, ValidStart}
+use Rattle.wh_model.specs.Validity.Valid.{Valid}
+use Rattle.wh_model.specs.Soundness.{InstanceType, PieceType, StoreType, ThreadType}
+use Rattle.wh_model.specs.Laws.{InOnePage, StandsAs}
+use Rattle.wh_model.specs.Execution.{Asks, Config, Term, config, Past, none_yet, one_more, Beginning, IsInitial, Parameters, Piece, begins, in_bounds, needs_more, out_of_bounds, IsNext, stays, Call, Invocation, Standing, Stands, has_pieces, is_invoked, is_under_way, returned, with_pieces, written, Writes, took_all, wrote, wrote_all}
 use Rattle.wh_model.specs.Execution.Memory.{writing}
-use Rattle.wh_model.specs.Execution.Reduction.{IsNext, stays}
-use Rattle.wh_model.specs.Execution.Replay.{Call, Invocation, Standing, Stands, has_pieces, is_invoked, is_under_way, returned, with_pieces}
 use Rattle.wh_model.specs.Execution.Replay as standing
-use Rattle.wh_model.specs.Execution.Store.{Instance, Store, written}
-use Rattle.wh_model.specs.Execution.Taking.{Writes, took_all, wrote, wrote_all}
+use Rattle.wh_model.specs.Execution.Store.{Instance, Store}
 use Rattle.wh_model.proofs.Asked.{one_need}
 use Rattle.wh_model.proofs.BeginsTypedLemmas.{begins_typed}
 use Rattle.wh_model.proofs.Chains.{settles}
@@ -29,28 +21,18 @@ use Rattle.wh_model.proofs.PreservationLemmas.{stored_memory}
 use Rattle.wh_model.proofs.SoundReplayLemmas.{invocation_runs, replay_soundness}
 use Rattle.wh_model.proofs.SpelledBytesLemmas.{spelled_has_bytes}
 use Rattle.wh_model.proofs.StuckLemmas.{never_stuck}
-use Rattle.wh_host_model.specs.declared.plain.InstId.{InstId}
-use Rattle.wh_host_model.specs.declared.plain.SwapError.{SwapError}
+use Rattle.wh_space_model.specs.declared.plain.InstId.{InstId}
+use Rattle.wh_space_model.specs.declared.plain.SwapError.{SwapError}
 use Rattle.wh_host_model.specs.declared.plain.TurnEnd.{TurnEnd}
 use Rattle.wh_host_model.specs.declared.plain.TurnEnd.TheVariants.{Again, Idle}
-use Rattle.wh_host_model.specs.Space.Parts.{Claimed, Space, claim, view, wants}
-use Rattle.wh_host_model.specs.Space.Ready.{Ready}
-use Rattle.wh_host_model.specs.Space.Sound.{IsSound}
-use Rattle.wh_host_model.specs.Host.Spaces.{StepsAlone}
-use Rattle.wh_host_model.specs.Host.Worlds.{Doing, Suspension, Tenant, World, computing, empty_world, for_device, for_frame, for_fuel, has_left, journal, journal_calls, promised, resting, standing_in, standing_with, store_in, store_with, tenant, with_tenant}
-use Rattle.wh_host_model.specs.Owners.{Entry}
-use Rattle.wh_host_model.specs.Owners.{given_of}
-use Rattle.wh_host_model.specs.Host.Turns.{as_it_was, by_invocation, to_end, to_wait, waits, waits_to_write, writes_all}
-use Rattle.wh_host_model.specs.Host.CallAnswers.{KeepsNoFault, Turn, is_idle, keeps_its_fault}
-use Rattle.wh_host_model.specs.Host.Events.{Event, turn}
-use Rattle.wh_host_model.specs.Host.Happens.{Happens, of_none, of_one}
-use Rattle.wh_host_model.specs.Host.Journals.{InOrder, has_started, is_starting}
-use Rattle.wh_host_model.specs.Host.Laws.{IsReplayed}
-use Rattle.wh_host_model.specs.Host.Progress.{EventsHappen, ReadyTurnsHappen}
-use Rattle.wh_host_model.specs.Host.Suspensions.{FirstWaitsDuly, NextAsks, WaitsDuly, a_piece, a_step}
-use Rattle.wh_host_model.proofs.Space.Deciding.{ready_decided}
-use Rattle.wh_host_model.proofs.Space.Filling.{some_store}
-use Rattle.wh_host_model.proofs.Space.Reading.{view_length}
+use Rattle.wh_space_model.specs.{Claimed, Space, claim, view, wants, IsSound}
+use Rattle.wh_space_model.specs.Ready.{Ready}
+use Rattle.wh_host_model.specs.Host.{StepsAlone, Doing, Suspension, Tenant, World, computing, empty_world, for_device, for_frame, for_fuel, has_left, journal, journal_calls, promised, resting, standing_in, standing_with, store_in, store_with, tenant, with_tenant, as_it_was, by_invocation, to_end, to_wait, waits, waits_to_write, writes_all, KeepsNoFault, Turn, is_idle, keeps_its_fault, Event, turn, of_none, of_one, InOrder, has_started, is_starting, IsReplayed, EventsHappen, ReadyTurnsHappen, FirstWaitsDuly, NextAsks, WaitsDuly, a_piece, a_step}
+use Rattle.wh_host_model.specs.{Entry, given_of}
+use Rattle.wh_host_model.specs.Host.Happens.{Happens}
+use Rattle.wh_space_model.proofs.Deciding.{ready_decided}
+use Rattle.wh_space_model.proofs.Filling.{some_store}
+use Rattle.wh_space_model.proofs.Reading.{view_length}
 use Rattle.wh_host_model.proofs.Host.Admitting.{start_faces}
 use Rattle.wh_host_model.proofs.Host.Bridges.{stores_step}
 use Rattle.wh_host_model.proofs.Host.Empty.{good_empty}
@@ -237,9 +219,7 @@ opens_behind q w id t e es ps mid claimed x known doing all sound claims most fu
     let rest = settles t.inst (config st [] first.0) in
     let then = never_stuck known.context t.inst 0 (config st [] first.0) rest.0 (reverse mine.type.results) known.typed thread rest.1.0 in
     let opens : OpensAt t.place t.inst e.call w.space t.rest t.doing (length ps) mid rest.0 = subst (λ d. OpensAt t.place t.inst e.call w.space t.rest d (length ps) mid rest.0) (sym doing) (by_invocation all inv rest.1) in
-    let left = known.left in
-    let uncharged = left.uncharged in
-    goes q t.place known.context t.inst e.call mine claimed w.space t.rest t.doing (length ps) mid rest.0 opens (omega (arith, uncharged)) (record {
+    goes q t.place known.context t.inst e.call mine claimed w.space t.rest t.doing (length ps) mid rest.0 opens (omega (arith, known.left.uncharged)) (record {
       typed = known.typed;
       sound = sound;
       claims = claims;

@@ -6,53 +6,38 @@ use Rattle.std.specs.List.{AllByRecursion}
 use Rattle.wh_model.specs.declared.ValType.{ValType}
 use Rattle.wh_model.specs.declared.Trap.{Trap}
 use Rattle.wh_model.specs.declared.memory.Need.{Need}
-use Rattle.wh_model.specs.Format.Syntax.{Body, FuncType, Limits, Module, nothing}
-use Rattle.wh_model.specs.Validity.Typing.{Context}
+use Rattle.wh_model.specs.Format.Syntax.{Limits}
+use Rattle.wh_model.specs.Format.{Body, FuncType, Module, nothing}
+use Rattle.wh_model.specs.Validity.{Context}
 use Rattle.wh_model.specs.Validity.Valid.{Valid}
-use Rattle.wh_model.specs.Soundness.StoreTyping.{AreOfTypes, InstanceType}
-use Rattle.wh_model.specs.Soundness.TermTyping.{ThreadType}
-use Rattle.wh_model.specs.Laws.SoundnessLaws.{GoesFurther, HasFuncType, IsFinal, StandsAs}
-use Rattle.wh_model.specs.Execution.Asking.{Asks}
-use Rattle.wh_model.specs.Execution.Configuration.{Config, Term, code, config, store_of, trapped}
-use Rattle.wh_model.specs.Execution.Instance.{Beginning, IsInitial, Parameters, Piece, begins, in_bounds, last_size, needs_more, out_of_bounds}
+use Rattle.wh_model.specs.Soundness.{AreOfTypes, InstanceType, ThreadType}
+use Rattle.wh_model.specs.Laws.{GoesFurther, HasFuncType, IsFinal, StandsAs}
+use Rattle.wh_model.specs.Execution.{Asks, Config, Term, code, config, store_of, trapped, Beginning, IsInitial, Parameters, Piece, begins, in_bounds, last_size, needs_more, out_of_bounds, After, IsNext, IsSettled, Leads, goes_on, Call, Outcome, Standing, Stands, cancelled, dead, has_pieces, is_invoked, is_under_way, pending, returned, running, stopped, FuncInst, InRange, Value, own, signature, type_of, written, Takes, took, took_all}
 use Rattle.wh_model.specs.Execution.Memory.{writing}
-use Rattle.wh_model.specs.Execution.Reduction.{After, IsNext, IsSettled, Leads, goes_on}
-use Rattle.wh_model.specs.Execution.Replay.{Call, Outcome, Standing, Stands, cancelled, dead, has_pieces, is_invoked, is_under_way, pending, returned, running, stopped}
-use Rattle.wh_model.specs.Execution.Store.{FuncInst, InRange, Instance, Store, Value, own, signature, type_of, written}
-use Rattle.wh_model.specs.Execution.Taking.{Takes, took, took_all}
+use Rattle.wh_model.specs.Execution.Store.{Instance, Store}
 use Rattle.wh_model.proofs.BeginsTypedLemmas.{begins_typed}
 use Rattle.wh_model.proofs.Chains.{settles, small_charges}
 use Rattle.wh_model.proofs.SoundReplayLemmas.{replay_soundness}
 use Rattle.wh_model.proofs.SpelledBytesLemmas.{spelled_has_bytes}
 use Rattle.wh_model.proofs.StoreTypingLemmas.{types_reverse}
 use Rattle.wh_model.proofs.StuckLemmas.{never_stuck}
-use Rattle.wh_host_model.specs.Space.Parts.{Claimed, Occupant, Space, claim, claim_of, occupant_at, view}
-use Rattle.wh_host_model.specs.Space.Ready.{Ready}
-use Rattle.wh_host_model.specs.Space.Sound.{IsSound}
-use Rattle.wh_host_model.specs.Space.Sight.{HasNoPins}
-use Rattle.wh_host_model.specs.Space.Stores.{ended, stood}
+use Rattle.wh_space_model.specs.{Claimed, Occupant, Space, claim, claim_of, occupant_at, view, IsSound, HasNoPins, ended, stood}
+use Rattle.wh_space_model.specs.Ready.{Ready}
 use Rattle.wh_host_model.specs.declared.plain.TurnEnd.{TurnEnd}
 use Rattle.wh_host_model.specs.declared.plain.TurnEnd.TheVariants.{Again, Ended, Frame, Fuel}
-use Rattle.wh_host_model.specs.Host.Spaces.{WaitsAlone, StepsAlone}
-use Rattle.wh_host_model.specs.Host.Worlds.{Doing, Rest, Tenant, World, computing, journal, journal_calls, resting, standing_in, standing_with, store_in, store_with, tenant}
-use Rattle.wh_host_model.specs.Owners.{Entry}
-use Rattle.wh_host_model.specs.Owners.{given_of}
-use Rattle.wh_host_model.specs.Host.Turns.{Computes, HaveTypes, Opens, Proceeds, Upshot, has_had_its_turn, out_of_fuel, returns, to_end, to_go_on, to_wait, traps, uses_fuel, waits}
-use Rattle.wh_host_model.specs.Host.Admission.{rest_of}
-use Rattle.wh_host_model.specs.Host.CallAnswers.{KeepsNoFault, Turn, can_go_on, ended_by, gone_further, has_ended, has_no_frame, has_no_fuel}
-use Rattle.wh_host_model.specs.declared.plain.InstId.{InstId}
-use Rattle.wh_host_model.specs.Host.Laws.{IsReplayed}
-use Rattle.wh_host_model.specs.Host.Journals.{HasEnded, InOrder, IsEnded, has_started, is_starting}
+use Rattle.wh_host_model.specs.Host.{WaitsAlone, StepsAlone, Doing, Rest, Tenant, World, computing, journal, journal_calls, resting, standing_in, standing_with, store_in, store_with, tenant, Computes, HaveTypes, Opens, Proceeds, Upshot, has_had_its_turn, out_of_fuel, returns, to_end, to_go_on, to_wait, traps, uses_fuel, waits, rest_of, KeepsNoFault, Turn, can_go_on, ended_by, gone_further, has_ended, has_no_frame, has_no_fuel, IsReplayed, HasEnded, InOrder, IsEnded, has_started, is_starting}
+use Rattle.wh_host_model.specs.{Entry, given_of}
+use Rattle.wh_space_model.specs.declared.plain.InstId.{InstId}
 use Rattle.wh_model.proofs.Asked.{one_need}
-use Rattle.wh_host_model.proofs.Space.Deciding.{ready_decided}
-use Rattle.wh_host_model.proofs.Space.Putting.{get_or_is}
+use Rattle.wh_space_model.proofs.Deciding.{ready_decided}
+use Rattle.wh_space_model.proofs.Putting.{get_or_is}
 use Rattle.wh_host_model.proofs.Host.Entries.{Now, calls_join}
 use Rattle.wh_host_model.proofs.Host.Leaving.{ended_alone, left_then, stood_alone}
 use Rattle.wh_host_model.proofs.Host.Running.{IsGood}
 use Rattle.wh_host_model.proofs.Host.Stopping.{trap_has_no_next}
 use Rattle.wh_host_model.proofs.Host.Progress.{claimed_there, some_closing}
-use Rattle.wh_host_model.proofs.Space.Filling.{some_store}
-use Rattle.wh_host_model.proofs.Space.Reading.{view_length}
+use Rattle.wh_space_model.proofs.Filling.{some_store}
+use Rattle.wh_space_model.proofs.Reading.{view_length}
 use Rattle.wh_host_model.proofs.Host.Bridges.{growth_steps, stores_step}
 use Rattle.wh_host_model.proofs.Host.Reducing.{Leaves, asks_known, asks_within, grew, leads_still, reduces_leaves, stay, wrote}
 
@@ -271,9 +256,8 @@ begun_limit inst s ps (needs_more lt) e = absurd (cc e)
 begun_limit inst s ps (out_of_bounds le pr never) e = absurd (cc e)
 begun_limit {m} {p} inst s ps (in_bounds le pr e1 e2) e =
     let same = ap limit_of e in
-    let is = pr.page_limit in
     let low = least_limit m.memories p.page_limit in
-    omega (arith, same, is, low)
+    omega (arith, same, pr.page_limit, low)
 
 pub claimed_most : (s : Space) (i : ℕ) (t : Occupant) (c : Claimed) → occupant_at s i t → t.live ≡ true → claim s i ≡ Some c → t.max ≡ c.max
 claimed_most s i t c at live claims =
@@ -293,7 +277,7 @@ pub record IsAt (p : ℕ) (c : Context) (inst : Instance) (outs : List ValType) 
   pub settled : IsSettled inst at
   pub thread : ThreadType c inst at outs
 
--- why no more are taken, after so many
+-- why no more are taken, after n
 pub data Stops (p : ℕ) (inst : Instance) (call : Call) (q : ℕ) (outs : List ValType) (n : ℕ) (mid : Space) : Config → Type 0 where
   is_trapped : {st : Store} {x : Trap} → Stops p inst call q outs n mid (trapped st x)
   is_done : {st : Store} {f vs : List Value} → AreOfTypes vs outs → Stops p inst call q outs n mid (config st f (code vs nothing))
@@ -368,8 +352,6 @@ runs (suc left) p c inst call q outs claimed n mid (config st f tm) is (inr furt
             settled = one.after.1;
             thread = then.0;
           }) then.1 (omega (arith, few)) (omega (arith, some)) in
-          let fewer = rest.few in
-          let within = rest.fuel in
           let same : (n + 1) + rest.more ≡ n + suc rest.more = omega arith in
           record {
             more = suc rest.more;
@@ -377,8 +359,8 @@ runs (suc left) p c inst call q outs claimed n mid (config st f tm) is (inr furt
             there = rest.there;
             takes = took ready one.after one.sees one.steps rest.takes;
             is = rest.is;
-            few = omega (arith, fewer);
-            fuel = omega (arith, within);
+            few = omega (arith, rest.few);
+            fuel = omega (arith, rest.fuel);
             stops = subst (λ i. Stops p inst call q outs i rest.last rest.there) same rest.stops;
           })
     ]
@@ -461,8 +443,6 @@ pub goes : (q p : ℕ) (c : Context) (inst : Instance) (call : Call) (o : OwnFun
     → IsAt p c inst (reverse o.type.results) claimed mid at → IsFinal at (reverse o.type.results) ⊎ GoesFurther inst at → Goes q p inst call claimed s r d k
 goes q p c inst call o claimed s r d k mid at opens fuel is on =
     let ran = runs q p c inst call q (reverse o.type.results) claimed 0 mid at is on (omega arith) (omega (arith, fuel)) in
-    let few = ran.few in
-    let within = ran.fuel in
     let known = ran.is in
     let none : 0 + ran.more ≡ ran.more = omega arith in
     let made : ComputesAt q p inst call s r d k ran.more ran.last ran.there = record {
@@ -470,8 +450,8 @@ goes q p c inst call o claimed s r d k mid at opens fuel is on =
       opened = at;
       opens = opens;
       takes = ran.takes;
-      in_turn = omega (arith, few);
-      in_fuel = omega (arith, within);
+      in_turn = omega (arith, ran.few);
+      in_fuel = omega (arith, ran.fuel);
     } in
     record {
       charges = ran.more;

@@ -3,18 +3,14 @@ use Rattle.std.proofs.Common.{◌≡◌, ℕ, zero, suc, ◌+◌, ◌<◌, ◌�
 use Rattle.std.proofs.lemmas.List.{reverse-reverse}
 use Rattle.wh_model.specs.declared.Trap.{Trap}
 use Rattle.wh_model.specs.declared.memory.Need.{Need}
-use Rattle.wh_model.specs.Format.Syntax.{Code, nothing}
-use Rattle.wh_model.specs.Execution.Store.{Value, Instance, Store}
-use Rattle.wh_model.specs.Execution.Configuration.{Term, code, Config, config, trapped}
-use Rattle.wh_model.specs.Execution.Reduction.{Reduces, Leads, stays, goes_on, IsSettled, After, IsNext}
-use Rattle.wh_model.specs.Execution.Instance.{Piece}
-use Rattle.wh_model.specs.Execution.Replay.{returned, stopped, Call, with_pieces, Invocation}
+use Rattle.wh_model.specs.Format.{Code, nothing}
+use Rattle.wh_model.specs.Execution.Store.{Instance, Store}
+use Rattle.wh_model.specs.Execution.{Value, Term, code, Config, config, trapped, Reduces, Leads, stays, goes_on, IsSettled, After, IsNext, Piece, returned, stopped, Call, with_pieces, Invocation}
 use Rattle.wh_model.proofs.Chains.{after_joins, after_splits, one_after}
 use Rattle.wh_model.proofs.OneReduction.{done_stays, reduces_same}
 use Rattle.wh_model.proofs.Journals.{invocation_same}
 use Rattle.wh_model.proofs.Taken.{takes_after}
-use Rattle.wh_host_model.specs.Host.Worlds.{Rest, Doing, resting, has_left, computing, store_with}
-use Rattle.wh_host_model.specs.Host.Turns.{Opens, by_invocation, as_it_was, Computes, Upshot, to_end, out_of_fuel, to_wait, to_go_on, Proceeds, returns, traps, writes_all, uses_fuel, waits, waits_to_write, has_had_its_turn}
+use Rattle.wh_host_model.specs.Host.{Rest, Doing, resting, has_left, computing, store_with, Opens, by_invocation, as_it_was, Computes, Upshot, to_end, out_of_fuel, to_wait, to_go_on, Proceeds, returns, traps, writes_all, uses_fuel, waits, waits_to_write, has_had_its_turn}
 use Rattle.wh_host_model.proofs.Host.Opening.{writes_view}
 
 -- ---- where a call begins in a turn
@@ -178,9 +174,7 @@ pieces_same ps qs e = cc e
 never_begins : (inst : Instance) (call : Call) (s : Store) (d : Doing) (k : ℕ) (c : Config) (ps : List Piece) → d ≡ has_left ps → call.func ≡ None → FirstAt inst call s d k c → ⊥
 never_begins inst call s d k c ps e none f =
     let i = subst (λ x. FirstAt inst call s x k c) e f in
-    let j = i.1 in
-    let some = j.calls in
-    cc (some, none)
+    cc (i.1.calls, none)
 
 pub reach_same : {inst : Instance} {q k k2 n n2 : ℕ} {call : Call} {s s2 s3 : Store} {d d2 d3 : Doing} {to to2 : Upshot} → Reached inst q call s d to k n s2 d2 → Reached inst q call s d to2 k2 n2 s3 d3 → SameReach to to2 k k2 n n2 s2 s3 d2 d3
 reach_same {inst} {q} {k} {k2} {n} {n2} {call} {s} {s2} {s3} {d} {d2} {d3} {to} {to2} (by_steps {first = a} {c = c} f x lq lf stop) (by_steps {first = b} {c = c2} g y lq2 lf2 stop2) =

@@ -1,8 +1,7 @@
 -- No call of an instance is stuck: its journal replays from the beginning of a module whose bytes were accepted.
 use Rattle.wh_model.proofs.SpelledBytesLemmas.{accepted_soundness}
-use Rattle.wh_host_model.specs.Host.Worlds.{journal, journal_calls, standing_in}
-use Rattle.wh_host_model.specs.Owners.{given_of}
-use Rattle.wh_host_model.specs.Host.Stuck.{NoCallIsStuck}
+use Rattle.wh_host_model.specs.Host.{journal, journal_calls, standing_in, NoCallIsStuck}
+use Rattle.wh_host_model.specs.{given_of}
 use Rattle.wh_host_model.proofs.Host.Holding.{instances_replay}
 
 pub no_call_is_stuck : NoCallIsStuck

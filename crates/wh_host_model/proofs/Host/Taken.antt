@@ -2,22 +2,13 @@
 use Rattle.std.proofs.Common.{◌≡◌, ◌≢◌, ℕ, zero, suc, ◌+◌, ◌<◌, ◌≤◌, List, [], ◌∷◌, ◌++◌, length, map, slice_get, Some, refl, sym, ap, subst, ◌∙◌, arith, append_assoc}
 use Rattle.wh_model.specs.declared.memory.Need.{Need}
 use Rattle.wh_model.specs.Execution.Store.{Instance}
-use Rattle.wh_model.specs.Execution.Configuration.{Term, Config, config}
-use Rattle.wh_model.specs.Execution.Reduction.{After, IsNext}
-use Rattle.wh_model.specs.Execution.Asking.{Asks}
+use Rattle.wh_model.specs.Execution.{Term, Config, config, After, IsNext, Asks, Piece, Call, dead, Writes, wrote_all, Takes, took_all, took}
 use Rattle.wh_model.specs.Execution.Memory.{writing}
-use Rattle.wh_model.specs.Execution.Instance.{Piece}
-use Rattle.wh_model.specs.Execution.Replay.{Call, dead}
-use Rattle.wh_model.specs.Execution.Taking.{Writes, wrote_all, Takes, took_all, took}
 use Rattle.wh_model.proofs.Chains.{one_after}
-use Rattle.wh_host_model.specs.Space.Parts.{Space, view}
-use Rattle.wh_host_model.specs.Space.Ready.{Ready}
-use Rattle.wh_host_model.specs.Host.Spaces.{StepsAlone}
-use Rattle.wh_host_model.specs.Host.Worlds.{Rest, Doing, has_left, computing, Tenant, journal, store_with}
-use Rattle.wh_host_model.specs.Owners.{Entry}
-use Rattle.wh_host_model.specs.Host.Turns.{Opens, by_invocation, as_it_was, Computes, Upshot, Proceeds, returns, traps, writes_all, uses_fuel, waits, waits_to_write, has_had_its_turn}
-use Rattle.wh_host_model.specs.Host.CallAnswers.{gone_further, ended_by, Closes, faces_next, is_dead, is_idle, has_ended, has_no_fuel, has_no_frame, can_go_on, keeps_its_fault}
-use Rattle.wh_host_model.specs.Host.TakenSteps.{IsStepReady, piece_is_ready, charge_is_ready, HasGoneOn, ReadyStepsAreTaken}
+use Rattle.wh_space_model.specs.{Space, view}
+use Rattle.wh_space_model.specs.Ready.{Ready}
+use Rattle.wh_host_model.specs.Host.{StepsAlone, Rest, Doing, has_left, computing, Tenant, journal, store_with, Opens, by_invocation, as_it_was, Computes, Upshot, Proceeds, returns, traps, writes_all, uses_fuel, waits, waits_to_write, has_had_its_turn, gone_further, ended_by, Closes, faces_next, is_dead, is_idle, has_ended, has_no_fuel, has_no_frame, can_go_on, keeps_its_fault, IsStepReady, piece_is_ready, charge_is_ready, HasGoneOn, ReadyStepsAreTaken}
+use Rattle.wh_host_model.specs.{Entry}
 use Rattle.wh_host_model.proofs.Host.Stopping.{done_has_no_next, trap_has_no_next}
 
 -- ---- the present call

@@ -11,7 +11,7 @@ use Rattle.wh_model.specs.Execution.Replay.{returned, pending}
 use Rattle.wh_model.specs.declared.faults.ImportFault.{ImportFault}
 use Rattle.wh_model.specs.Linking.Imports.{IsFirstFault}
 use Rattle.wh_model.specs.Linking.Accepting.{IsModule, IsAccepted}
-use Rattle.wh_host_model.specs.Space.Parts.{Space, minima, spreads}
+use Rattle.wh_space_model.specs.Parts.{Space, minima, spreads}
 use Rattle.wh_host_model.specs.Host.Spaces.{Arrives, Departs}
 use Rattle.wh_host_model.specs.Host.Worlds.{Rest, Doing, resting, has_left, Tenant, Loaded, World, promised, tenant, with_tenant, loaded_of}
 use Rattle.wh_host_model.specs.Owners.{Entry}

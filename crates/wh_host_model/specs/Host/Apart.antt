@@ -1,8 +1,8 @@
--- That no tenant's bytes reach another: what an instance comes to depends on what was asked of it, and on nothing else.
+-- That no tenant's bytes reach another: the outcome of an instance depends on what was asked of it, and on nothing else.
 use Rattle.std.specs.Prelude.{◌≡◌, ℕ, List, map, Some}
 use Rattle.wh_model.specs.Execution.Replay.{Outcome, returned, stopped, cancelled, dead, pending, Call}
-use Rattle.wh_host_model.specs.declared.Tax.{Tax}
-use Rattle.wh_host_model.specs.Space.Parts.{view}
+use Rattle.wh_space_model.specs.declared.Tax.{Tax}
+use Rattle.wh_space_model.specs.Parts.{view}
 use Rattle.wh_host_model.specs.Host.Worlds.{Tenant, Loaded, World, journal, tenant, empty_world, loaded_of}
 use Rattle.wh_host_model.specs.Owners.{Entry}
 use Rattle.wh_host_model.specs.Host.Events.{Event}

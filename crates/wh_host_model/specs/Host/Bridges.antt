@@ -2,20 +2,20 @@
 use Rattle.std.specs.Prelude.{◌≡◌, ℕ, ◌+◌, ◌*◌, ◌≤◌, ◌++◌, replicate, Bool, true, List, [], Option, Some, None, length, get_or}
 use Rattle.wh_model.specs.declared.memory.Need.{Need}
 use Rattle.wh_model.specs.Execution.Store.{written}
-use Rattle.wh_host_model.specs.declared.states.Offer.{Offer}
-use Rattle.wh_host_model.specs.declared.states.EvictEnd.{EvictEnd}
-use Rattle.wh_host_model.specs.declared.states.FetchEnd.{FetchEnd}
-use Rattle.wh_host_model.specs.Space.Parts.{Space, Occupant, Claimed, occupant_at, view}
-use Rattle.wh_host_model.specs.Space.Errands.{tickets}
-use Rattle.wh_host_model.specs.Space.Sound.{IsSound}
-use Rattle.wh_host_model.specs.Space.Sight.{HasNoPins}
-use Rattle.wh_host_model.specs.Space.Chain.{MayWaitFor}
-use Rattle.wh_host_model.specs.Space.Stores.{Epochs, Grew, Overwrites, Touches, ended, stood}
-use Rattle.wh_host_model.specs.Space.Offers.{Offers}
-use Rattle.wh_host_model.specs.Space.Places.{Enters, Exits}
-use Rattle.wh_host_model.specs.Space.Forks.{Copies}
-use Rattle.wh_host_model.specs.Space.Tickets.{BeginsEvict, BeginsFetch, CommitsEvict, CommitsFetch, IsWritten, WaitsForBytes}
-use Rattle.wh_host_model.specs.Space.Provide.{FailsToProvide, FailsTruly, Provides, ProvidesTruly}
+use Rattle.wh_space_model.specs.declared.states.Offer.{Offer}
+use Rattle.wh_space_model.specs.declared.states.EvictEnd.{EvictEnd}
+use Rattle.wh_space_model.specs.declared.states.FetchEnd.{FetchEnd}
+use Rattle.wh_space_model.specs.Parts.{Space, Occupant, Claimed, occupant_at, view}
+use Rattle.wh_space_model.specs.Errands.{tickets}
+use Rattle.wh_space_model.specs.Sound.{IsSound}
+use Rattle.wh_space_model.specs.Sight.{HasNoPins}
+use Rattle.wh_space_model.specs.Chain.{MayWaitFor}
+use Rattle.wh_space_model.specs.Stores.{Epochs, Grew, Overwrites, Touches, ended, stood}
+use Rattle.wh_space_model.specs.Offers.{Offers}
+use Rattle.wh_space_model.specs.Places.{Enters, Exits}
+use Rattle.wh_space_model.specs.Forks.{Copies}
+use Rattle.wh_space_model.specs.Tickets.{BeginsEvict, BeginsFetch, CommitsEvict, CommitsFetch, IsWritten, WaitsForBytes}
+use Rattle.wh_space_model.specs.Provide.{FailsToProvide, FailsTruly, Provides, ProvidesTruly}
 use Rattle.wh_host_model.specs.Host.Misreading.{AllSeeAsMany}
 use Rattle.wh_host_model.specs.Host.Spaces.{AllLeftAlone, Arrives, ArrivesSeeing, Departs, WaitsAlone, StepsAlone}
 
@@ -33,7 +33,7 @@ StoresStep =
     (s : Space) (i at : ℕ) (given : List ℕ) (s2 : Space) → IsSound s → Overwrites s i at given s2
     → StepsAlone i s s2 × (view s2 i ≡ written (view s i) at given)
 
--- growth: that with zeros behind
+-- growth: that with zeros after it
 abbrev pub GrowthSteps : Type 0
 GrowthSteps =
     (s : Space) (i n : ℕ) (t : Occupant) (s2 : Space) → IsSound s → occupant_at s i t → t.live ≡ true

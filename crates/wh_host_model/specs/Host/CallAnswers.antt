@@ -6,11 +6,11 @@ use Rattle.wh_model.specs.Execution.Configuration.{Term, config}
 use Rattle.wh_model.specs.Execution.Reduction.{IsNext}
 use Rattle.wh_model.specs.Execution.Asking.{Asks}
 use Rattle.wh_model.specs.Execution.Replay.{Outcome, dead, fails, Invocation}
-use Rattle.wh_host_model.specs.declared.plain.SwapError.{SwapError}
+use Rattle.wh_space_model.specs.declared.plain.SwapError.{SwapError}
 use Rattle.wh_host_model.specs.declared.plain.TurnEnd.{TurnEnd}
 use Rattle.wh_host_model.specs.declared.plain.TurnEnd.TheVariants.{Idle, Again, Fuel, Frame, Ended}
-use Rattle.wh_host_model.specs.Space.Parts.{Space, view}
-use Rattle.wh_host_model.specs.Space.Ready.{Ready}
+use Rattle.wh_space_model.specs.Parts.{Space, view}
+use Rattle.wh_space_model.specs.Ready.{Ready}
 use Rattle.wh_host_model.specs.Host.Spaces.{StepsAlone, WaitsAlone, PinsEndAfter}
 use Rattle.wh_host_model.specs.Host.Worlds.{Rest, Doing, resting, computing, Suspension, for_fuel, for_frame, for_device, Tenant, store_with, store_in}
 use Rattle.wh_host_model.specs.Owners.{Entry}
@@ -18,7 +18,7 @@ use Rattle.wh_host_model.specs.Host.Turns.{Upshot, to_end, out_of_fuel, to_wait,
 
 -- ---- calls that go on, and that end
 
--- the call has written so many more pieces and taken so many more charges
+-- the call has written `pieces` more pieces and taken `charges` more charges
 abbrev pub gone_further : Entry → ℕ → ℕ → Entry
 gone_further e pieces charges =
     record e { call = record e.call { fragments = e.call.fragments + pieces; charges = e.call.charges + charges } }
@@ -35,7 +35,7 @@ abbrev pub Faces : Instance → Store → List Entry → Doing → Type 0
 Faces inst s [] d = d ≡ resting
 Faces inst s (e ∷ es) d = (t : Term) × (d ≡ computing t) × Invocation inst s e.call (config s [] t)
 
--- behind these ended calls a call has ended so: whether it is a start that leaves the instance dead
+-- after these ended calls a call has ended so: whether it is a start that leaves the instance dead
 abbrev pub dies : List Entry → Outcome → Bool
 dies [] o = fails o
 dies (e ∷ es) o = false
@@ -64,7 +64,7 @@ pub data Closes (s : Space) (t : Tenant) (e : Entry) (waiting : List Entry) (r :
 
 -- ---- what a turn answers
 
--- It waits for a frame after so many steps: a device fault is kept with the call until a step is taken.
+-- It waits for a frame after n steps: a device fault is kept with the call until a step is taken.
 abbrev pub at_frame : ℕ → Option Suspension → Option Suspension
 at_frame zero (Some (for_device fault)) = Some (for_device fault)
 at_frame n o = Some for_frame

@@ -1,7 +1,7 @@
 -- What may happen to a host: all that is asked of it, with the answers of devices.
 use Rattle.std.specs.Prelude.{ℕ, List, Option, ℤ}
-use Rattle.wh_host_model.specs.declared.plain.InstId.{InstId}
-use Rattle.wh_host_model.specs.declared.plain.SwapError.{SwapError}
+use Rattle.wh_space_model.specs.declared.plain.InstId.{InstId}
+use Rattle.wh_space_model.specs.declared.plain.SwapError.{SwapError}
 use Rattle.wh_host_model.specs.Owners.{Params, Quota}
 
 -- a page of 4096 bytes of a linear memory
@@ -10,7 +10,7 @@ pub record PageId : Type 0 where
   pub page : ℕ
 
 pub data Event : Type 0 where
-  -- an instance gets a turn of so many charges
+  -- an instance gets a turn of q charges
   turn : (id : InstId) (q : ℕ) → Event
   -- the owner's requests
   load : (bytes : List ℕ) → Event

@@ -1,18 +1,11 @@
 -- How an instance is copied.
 use Rattle.std.specs.Prelude.{◌≡◌, ◌≢◌, ℕ, ◌+◌, ◌/◌, ◌<◌, ◌⊎◌, true, [], ◌∷◌, ◌++◌, length, get_or, Some, None}
 use Rattle.wh_model.specs.Execution.Instance.{last_size}
-use Rattle.wh_host_model.specs.declared.states.Page.{Page}
-use Rattle.wh_host_model.specs.Space.States.{page_at, untouched}
-use Rattle.wh_host_model.specs.Space.Parts.{Space}
-use Rattle.wh_host_model.specs.Space.Claims.{stays}
-use Rattle.wh_host_model.specs.Space.Forks.{Copies}
+use Rattle.wh_space_model.specs.Parts.{Space}
+use Rattle.wh_space_model.specs.Forks.{Copies, IsAway}
 use Rattle.wh_host_model.specs.Owners.{ForkFault, Quota, call_open, fork_rank, not_admitted, other_limit, page_away, start_failed, with_quota}
 use Rattle.wh_host_model.specs.Host.Worlds.{Loaded, Tenant, World, loaded_of, promised}
 use Rattle.wh_host_model.specs.Host.Admission.{MeetsFault}
-
--- a page that isn't in memory, or is on its way: it is neither untouched nor on a frame that it isn't leaving
-abbrev pub IsAway : Space → ℕ → Type 0
-IsAway s i = (p : ℕ) × (page : Page) × (page_at s.tables i p ≡ Some page) × (untouched page + stays page ≡ 0)
 
 -- the fault is met, whatever of the other ones is
 abbrev pub MeetsForkFault : World → Tenant → Quota → ForkFault → Type 0

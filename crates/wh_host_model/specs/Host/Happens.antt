@@ -2,9 +2,9 @@
 use Rattle.std.specs.Prelude.{◌≡◌, ◌⊎◌, ℕ, List, [], ◌∷◌, length, Option, Some, None, ℤ}
 use Rattle.wh_host_model.specs.declared.plain.TurnEnd.{TurnEnd}
 use Rattle.wh_host_model.specs.declared.plain.TurnEnd.TheVariants.{Idle}
-use Rattle.wh_host_model.specs.declared.plain.InstId.{InstId}
-use Rattle.wh_host_model.specs.declared.plain.SwapError.{SwapError}
-use Rattle.wh_host_model.specs.Space.Parts.{Space}
+use Rattle.wh_space_model.specs.declared.plain.InstId.{InstId}
+use Rattle.wh_space_model.specs.declared.plain.SwapError.{SwapError}
+use Rattle.wh_space_model.specs.Parts.{Space}
 use Rattle.wh_host_model.specs.Host.Spaces.{AllLeftAlone}
 use Rattle.wh_host_model.specs.Host.Worlds.{for_frame, for_device, Tenant, Loaded, World, tenant, with_tenant, loaded_of}
 use Rattle.wh_host_model.specs.Owners.{Params, AdmitFault, ForkFault, InvokeFault, Quota}
@@ -14,7 +14,7 @@ use Rattle.wh_host_model.specs.Host.Admission.{LoadFault, RefusesLoad, LoadOutOf
 use Rattle.wh_host_model.specs.Host.Forking.{Forks, IsFirstForkFault, MeetsForkFault}
 use Rattle.wh_host_model.specs.Host.Events.{Event, turn, load, admit, invoke, refuel, cancel, retry, release, fork, unload, offer, evict_begin, evict_commit, fetch_begin, fetch_commit, provide, epoch}
 
--- the number is that of a live instance, and it lies there
+-- the number is that of a live instance, and it is there
 abbrev pub IsLive : World → InstId → Tenant → Type 0
 IsLive w id t = (tenant w id.number ≡ Some t) × (t.place ≡ id.place)
 

@@ -39,7 +39,7 @@ HasEnded cancelled = Unit {0}
 HasEnded dead = ⊥
 HasEnded pending = ⊥
 
--- a call that has ended, one that is open, and one behind a start that has failed
+-- a call that has ended, one that is open, and one after a start that has failed
 pub record IsEnded (inst : Instance) (e : Entry) : Type 0 where
   pub asked : IsAsked inst e
   pub ended : HasEnded e.call.outcome

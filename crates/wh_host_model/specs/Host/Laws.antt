@@ -7,12 +7,12 @@ use Rattle.wh_model.specs.Execution.Instance.{Piece, begins, IsInitial}
 use Rattle.wh_model.specs.Execution.Replay.{Replay}
 use Rattle.wh_model.specs.Execution.Configuration.{Term, config}
 use Rattle.wh_model.specs.Execution.Asking.{Asks}
-use Rattle.wh_host_model.specs.declared.Tax.{Tax}
+use Rattle.wh_space_model.specs.declared.Tax.{Tax}
 use Rattle.wh_host_model.specs.declared.plain.TurnEnd.{TurnEnd}
 use Rattle.wh_host_model.specs.declared.plain.TurnEnd.TheVariants.{Again, Frame}
-use Rattle.wh_host_model.specs.Space.Parts.{Space, Claimed, Promised, view, claim, promise_at, wants}
-use Rattle.wh_host_model.specs.Space.Sound.{IsSound}
-use Rattle.wh_host_model.specs.Space.Ready.{Ready}
+use Rattle.wh_space_model.specs.Parts.{Space, Claimed, Promised, view, claim, promise_at, wants}
+use Rattle.wh_space_model.specs.Sound.{IsSound}
+use Rattle.wh_space_model.specs.Ready.{Ready}
 use Rattle.wh_host_model.specs.Host.Worlds.{computing, Tenant, Loaded, World, promised, journal, journal_calls, store_in, standing_in, tenant, empty_world, loaded_of}
 use Rattle.wh_host_model.specs.Owners.{given_of, most_calls, most_open}
 use Rattle.wh_host_model.specs.Host.CallAnswers.{Turn}
@@ -69,9 +69,9 @@ ModulesAreKept = AfterEvents (λ w. (e : Event) (w2 : World) → Happens w e w2 
 abbrev pub EachHas : (World → Tenant → Type 0) → World → Type 0
 EachHas P w = (i : ℕ) (t : Tenant) → tenant w i ≡ Some t → P w t
 
--- An instance is what its journal comes to, from the beginning of the module that its bytes spell, with what it was
--- given: globals, table, output and configuration are those that its calls lead to, and so is its memory, which is
--- what it sees. No other instance is named.
+-- An instance is the outcome of its journal, from the beginning of the module that its bytes spell, with what it was given:
+-- globals, table, output and configuration are those that its calls lead to, and so is its memory, which is what it sees. No
+-- other instance is named.
 pub record IsReplayed (w : World) (t : Tenant) : Type 0 where
   pub loaded : Loaded
   pub is_loaded : loaded_of w t.of ≡ Some loaded
@@ -103,7 +103,7 @@ pub record HasJournal (w : World) (t : Tenant) : Type 0 where
 abbrev pub JournalsAreInOrder : Type 0
 JournalsAreInOrder = AfterEvents (EachHas HasJournal)
 
--- what the present call stands for is right
+-- what the present call is blocked on is right
 abbrev pub SuspensionsAreRight : Type 0
 SuspensionsAreRight = AfterEvents (EachHas (λ w t. WaitsRightly w.space t))
 

@@ -3,9 +3,9 @@
 use Rattle.std.specs.Prelude.{◌≡◌, ◌≤◌, ℕ, List, [], ◌∷◌, length, Some}
 use Rattle.wh_model.specs.declared.memory.Need.{Need}
 use Rattle.wh_model.specs.Linking.Accepting.{IsAccepted}
-use Rattle.wh_host_model.specs.declared.Tax.{Tax}
-use Rattle.wh_host_model.specs.Space.Parts.{Space, view, claim, wants}
-use Rattle.wh_host_model.specs.Space.Sound.{IsSound}
+use Rattle.wh_space_model.specs.declared.Tax.{Tax}
+use Rattle.wh_space_model.specs.Parts.{Space, view, claim, wants}
+use Rattle.wh_space_model.specs.Sound.{IsSound}
 use Rattle.wh_host_model.specs.Host.Spaces.{KeepsPromise}
 use Rattle.wh_host_model.specs.Host.Worlds.{for_frame, Loaded, World, empty_world, loaded_of}
 use Rattle.wh_host_model.specs.Host.Events.{Event}
@@ -77,7 +77,7 @@ CopiedStayEnded = HoldsAnyhow (EachHas (λ w t. t.copied ≤ length t.ended))
 abbrev pub InputsStay : Type 0
 InputsStay = HoldsAnyhow (EachHas (λ w t. t.rest.inputs ≡ t.params.inputs))
 
--- who waits for a frame stands for some bytes
+-- who waits for a frame is blocked on some bytes
 abbrev pub FramesAreAwaited : Type 0
 FramesAreAwaited =
     HoldsAnyhow (EachHas (λ w t. t.waiting_for ≡ Some for_frame → (need : Need) × (wants w.space t.place ≡ Some need)))

@@ -3,9 +3,9 @@ use Rattle.std.specs.Prelude.{◌≡◌, ◌≢◌, ℕ, ◌+◌, ◌-◌, ◌<�
 use Rattle.wh_model.specs.Format.Syntax.{FuncType, Body, Module}
 use Rattle.wh_model.specs.Execution.Store.{Value}
 use Rattle.wh_model.specs.Execution.Replay.{Call, cancelled}
-use Rattle.wh_host_model.specs.declared.plain.SwapError.{SwapError}
-use Rattle.wh_host_model.specs.Space.Parts.{Space}
-use Rattle.wh_host_model.specs.Space.Sight.{HasNoPins}
+use Rattle.wh_space_model.specs.declared.plain.SwapError.{SwapError}
+use Rattle.wh_space_model.specs.Parts.{Space}
+use Rattle.wh_space_model.specs.Sight.{HasNoPins}
 use Rattle.wh_host_model.specs.Host.Spaces.{WaitsAlone}
 use Rattle.wh_host_model.specs.Host.Worlds.{Doing, Suspension, for_fuel, for_frame, for_device, Tenant, journal, store_in}
 use Rattle.wh_host_model.specs.Owners.{Entry}
@@ -57,13 +57,13 @@ pub record TakesCall (m : Module) (s : Space) (t : Tenant) (name : List ℕ) (gi
 abbrev pub more_fuel : Entry → ℕ → Entry
 more_fuel e n = record e { call = record e.call { fuel = min (e.call.fuel + n) most_fuel } }
 
--- with this fuel it stands for none, where it stood for it
+-- where it was blocked on fuel, it isn't any more, if this call has some left
 abbrev pub WaitsAfter : Call → Option Suspension → Option Suspension → Type 0
 WaitsAfter call (Some for_fuel) o =
     ((call.charges < call.fuel) × (o ≡ None)) ⊎ ((call.fuel ≤ call.charges) × (o ≡ Some for_fuel))
 WaitsAfter call old o = o ≡ old
 
--- the present call has so much more fuel
+-- the present call has n more fuel
 pub data Refuels (t : Tenant) (n : ℕ) : Tenant → Type 0 where
   has_more : {e : Entry} {es : List Entry} {o : Option Suspension}
       → t.open_calls ≡ e ∷ es → WaitsAfter (more_fuel e n).call t.waiting_for o

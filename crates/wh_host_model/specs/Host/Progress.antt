@@ -1,7 +1,7 @@
 -- Which events can happen to any host that is reached.
 use Rattle.std.specs.Prelude.{◌≡◌, ℕ, ◌<◌, ◌≤◌, List, [], ◌∷◌, Some, ℤ}
 use Rattle.wh_model.specs.Format.Syntax.{Module}
-use Rattle.wh_host_model.specs.declared.plain.InstId.{InstId}
+use Rattle.wh_space_model.specs.declared.plain.InstId.{InstId}
 use Rattle.wh_host_model.specs.declared.plain.TurnEnd.{TurnEnd}
 use Rattle.wh_host_model.specs.declared.plain.TurnEnd.TheVariants.{Idle, Fuel}
 use Rattle.wh_host_model.specs.Host.Worlds.{Tenant, Loaded, World, for_fuel, with_tenant, loaded_of}
@@ -9,7 +9,7 @@ use Rattle.wh_host_model.specs.Owners.{Entry}
 use Rattle.wh_host_model.specs.Owners.{ForkFault, Params, Quota, given_of, AdmitFault, most_modules, InvokeFault, most_fuel}
 use Rattle.wh_host_model.specs.Host.OwnerCalls.{Meets}
 use Rattle.wh_model.specs.Execution.Instance.{AreGiven}
-use Rattle.wh_host_model.specs.Space.Parts.{Space}
+use Rattle.wh_space_model.specs.Parts.{Space}
 use Rattle.wh_model.specs.Linking.Accepting.{IsAccepted}
 use Rattle.wh_host_model.specs.Host.Admission.{IsUnused, MeetsFault, module_count}
 use Rattle.wh_host_model.specs.Host.Events.{Event}

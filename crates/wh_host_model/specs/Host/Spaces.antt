@@ -2,11 +2,11 @@
 -- slots and tickets are any that are sound.
 use Rattle.std.specs.Prelude.{◌≡◌, ◌≢◌, ◌↔◌, ◌⊎◌, ℕ, ◌≤◌, replicate, List, Option, Some, None}
 use Rattle.wh_model.specs.declared.memory.Need.{Need}
-use Rattle.wh_host_model.specs.Space.Parts.{Space, Claimed, view, claim, promise_at, wants}
-use Rattle.wh_host_model.specs.Space.Sound.{IsSound}
-use Rattle.wh_host_model.specs.Space.Ready.{Ready}
-use Rattle.wh_host_model.specs.Space.Places.{IsFreePlace}
-use Rattle.wh_host_model.specs.Space.Sight.{HasNoPins}
+use Rattle.wh_space_model.specs.Parts.{Space, Claimed, view, claim, promise_at, wants}
+use Rattle.wh_space_model.specs.Sound.{IsSound}
+use Rattle.wh_space_model.specs.Ready.{Ready}
+use Rattle.wh_space_model.specs.Places.{IsFreePlace}
+use Rattle.wh_space_model.specs.Sight.{HasNoPins}
 
 -- Who has a place keeps number, minimum and maximum as long as it has the place, also one that was released.
 abbrev pub KeepsPromise : ℕ → Space → Space → Type 0
@@ -61,7 +61,7 @@ pub record ArrivesSeeing (i : ℕ) (c : Claimed) (bytes : List ℕ) (s s2 : Spac
   pub unpinned : HasNoPins s2 i
   pub sound : IsSound s2
 
--- so many zeros
+-- it sees zeros, as many as its size
 abbrev pub Arrives : ℕ → Claimed → ℕ → Space → Space → Type 0
 Arrives i c size s s2 = ArrivesSeeing i c (replicate size 0) s s2
 

@@ -8,7 +8,7 @@ use Rattle.wh_model.specs.Execution.Asking.{Asks}
 use Rattle.wh_model.specs.Execution.Memory.{writing}
 use Rattle.wh_model.specs.Execution.Instance.{Piece}
 use Rattle.wh_model.specs.Execution.Replay.{Call}
-use Rattle.wh_host_model.specs.Space.Parts.{Space, wants}
+use Rattle.wh_space_model.specs.Parts.{Space, wants}
 use Rattle.wh_host_model.specs.Host.Worlds.{Doing, has_left, computing, Suspension, for_fuel, for_frame, Tenant, store_in}
 use Rattle.wh_host_model.specs.Owners.{Entry}
 
@@ -37,6 +37,6 @@ FirstWaitsDuly inst s d (e ∷ es) wanted o = WaitsDuly inst s d e.call wanted o
 abbrev pub WaitsRightly : Space → Tenant → Type 0
 WaitsRightly s t = FirstWaitsDuly t.inst (store_in s t) t.doing t.open_calls (wants s t.place) t.waiting_for
 
--- a turn or a provision can bring it on: a call is open, and waits neither for fuel nor for a device fault
+-- a turn or a provision can make it progress: a call is open, and waits neither for fuel nor for a device fault
 abbrev pub CanGoOn : Tenant → Type 0
 CanGoOn t = (t.open_calls ≢ []) × ((t.waiting_for ≡ None) ⊎ (t.waiting_for ≡ Some for_frame))

@@ -7,8 +7,8 @@ use Rattle.wh_model.specs.Execution.Asking.{Asks}
 use Rattle.wh_model.specs.Execution.Memory.{writing}
 use Rattle.wh_model.specs.Execution.Instance.{Piece}
 use Rattle.wh_host_model.specs.declared.plain.TurnEnd.{TurnEnd}
-use Rattle.wh_host_model.specs.Space.Parts.{Space}
-use Rattle.wh_host_model.specs.Space.Ready.{Ready}
+use Rattle.wh_space_model.specs.Parts.{Space}
+use Rattle.wh_space_model.specs.Ready.{Ready}
 use Rattle.wh_host_model.specs.Host.Worlds.{has_left, computing, Tenant, journal, store_in}
 use Rattle.wh_host_model.specs.Owners.{Entry}
 use Rattle.wh_host_model.specs.Host.CallAnswers.{Turn}

@@ -14,8 +14,8 @@ use Rattle.wh_model.specs.Execution.Replay.{Outcome, returned, stopped, Call, In
 use Rattle.wh_model.specs.Execution.Taking.{Writes, Takes}
 use Rattle.wh_host_model.specs.Host.Worlds.{Rest, Doing, resting, has_left, computing, store_with}
 
--- The call is opened: all pieces that it has left are written, so many of them; and it is at its invocation with the
--- uncharged reductions after it, or where it was.
+-- The call is opened: all pieces that it has left are written, and counted; and it is at its invocation with the uncharged
+-- reductions after it, or where it was.
 pub data Opens {M : Type 0} (bytes : M → List ℕ) (ready : M → Need → Type 0) (keeps : M → M → Type 0)
     (inst : Instance) (call : Call) (m : M) (r : Rest) : Doing → ℕ → M → Config → Type 0 where
   by_invocation : {ps : List Piece} {m1 : M} {c c1 : Config}
@@ -25,7 +25,7 @@ pub data Opens {M : Type 0} (bytes : M → List ℕ) (ready : M → Need → Typ
       → After inst (config (store_with (bytes m) r) [] term) 0 c1
       → Opens bytes ready keeps inst call m r (computing term) 0 m c1
 
--- In a turn of q charges the call is opened, and takes so many charges within its fuel.
+-- In a turn of q charges the call is opened, and takes `charges` charges within its fuel.
 pub record Computes {M : Type 0} (bytes : M → List ℕ) (ready : M → Need → Type 0) (keeps : M → M → Type 0)
     (inst : Instance) (q : ℕ) (call : Call) (m : M) (r : Rest) (d : Doing)
     (pieces charges : ℕ) (m2 : M) (c2 : Config) : Type 0 where
@@ -53,8 +53,8 @@ pub data Upshot : Type 0 where
   to_wait : (need : Need) → Upshot
   to_go_on : Upshot
 
--- In a turn of q charges the call comes so far, with so many pieces and charges more; the memory, the rest of the
--- store and where it is then. Fuel is looked at before what is ready, and both before q.
+-- In a turn of q charges the call gets so far, with more pieces and charges; the memory, the rest of the store and where it is
+-- then. Fuel is looked at before what is ready, and both before q.
 pub data Proceeds {M : Type 0} (bytes : M → List ℕ) (ready : M → Need → Type 0) (keeps : M → M → Type 0)
     (inst : Instance) (q : ℕ) (call : Call) (m : M) (r : Rest) (d : Doing)
     : Upshot → ℕ → ℕ → M → Rest → Doing → Type 0 where

@@ -5,9 +5,9 @@ use Rattle.wh_model.specs.Execution.Store.{Value, Instance, Store}
 use Rattle.wh_model.specs.Execution.Configuration.{Term, config}
 use Rattle.wh_model.specs.Execution.Instance.{Piece}
 use Rattle.wh_model.specs.Execution.Replay.{Call, Standing, idle, writing, running}
-use Rattle.wh_host_model.specs.declared.Tax.{Tax}
-use Rattle.wh_host_model.specs.declared.plain.SwapError.{SwapError}
-use Rattle.wh_host_model.specs.Space.Parts.{Space, Claimed, view, empty_space}
+use Rattle.wh_space_model.specs.declared.Tax.{Tax}
+use Rattle.wh_space_model.specs.declared.plain.SwapError.{SwapError}
+use Rattle.wh_space_model.specs.Parts.{Space, Claimed, view, empty_space}
 use Rattle.wh_host_model.specs.Owners.{Params}
 use Rattle.wh_host_model.specs.Owners.{Entry}
 
@@ -27,17 +27,17 @@ pub data Doing : Type 0 where
   has_left : (pieces : List Piece) → Doing
   computing : (t : Term) → Doing
 
--- for what the present call stands: all its fuel is used; bytes of its next step aren't ready; or, such bytes being
--- wanted, a device call failed
+-- what the present call is blocked on: all its fuel is used; bytes of its next step aren't ready; or, such bytes being wanted, a
+-- device call failed
 pub data Suspension : Type 0 where
   for_fuel : Suspension
   for_frame : Suspension
   for_device : (fault : SwapError) → Suspension
 
--- An instance: its place in memory, which module it is of, what it was given, its module instance (4.2.5), its store
--- but for the memory, and where its present call is. Its journal is the calls that have ended, and then the open
--- ones, the first of which is the present one. So many of the ended ones were copied with it, and are another's. It is
--- dead where its start has trapped or was cancelled.
+-- An instance: its place in memory, which module it is of, what it was given, its module instance (4.2.5), its store but for the
+-- memory, and where its present call is. Its journal is the calls that have ended, and then the open ones, the first of which is
+-- the present one. The first `copied` of the ended ones were copied with it, and are another's. It is dead where its start has
+-- trapped or was cancelled.
 pub record Tenant : Type 0 where
   pub place : ℕ
   pub of : ℕ

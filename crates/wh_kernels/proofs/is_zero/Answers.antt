@@ -1,5 +1,5 @@
 use Rattle.std.proofs.Common.{◌*◌, refl, arith}
-use Rattle.wh_host_model.specs.Pages.{zero_page}
+use Rattle.wh_space_model.specs.{zero_page}
 use Rattle.wh_kernels.proofs.Blocks.{zeros_more, zeros_whole, block_of_zeros}
 use Rattle.wh_kernels.proofs.is_zero.Goals as goal
 

@@ -1,4 +1,4 @@
-use Rattle.wh_model.specs.Format.Leb.{s32}
+use Rattle.wh_model.specs.Format.{s32}
 use Rattle.wh_leb.specs.Reading.{s32_at}
 use Rattle.wh_leb.proofs.Integers.{reads_s32}
 use Rattle.wh_leb.proofs.Told.{is_found, is_complete, is_broken}

@@ -1,4 +1,4 @@
-use Rattle.wh_model.specs.Format.Leb.{u32}
+use Rattle.wh_model.specs.Format.{u32}
 use Rattle.wh_leb.specs.Reading.{u32_at}
 use Rattle.wh_leb.proofs.Integers.{reads_u32}
 use Rattle.wh_leb.proofs.Told.{is_found, is_complete, is_broken}

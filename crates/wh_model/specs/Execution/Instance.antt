@@ -83,7 +83,7 @@ Placed globals (s ∷ ss) ps =
     (n : ℕ) × (rest : List Piece) × Evaluates globals s.0 (value I32 n) × (ps ≡ record { at = n; items = s.1 } ∷ rest)
     × Placed globals ss rest
 
--- they end within so many places
+-- they end within `size` places
 abbrev pub Within : ℕ → List Piece → Type 0
 Within size ps = AllByRecursion (λ p. p.at + length p.items ≤ size) ps
 
@@ -92,8 +92,7 @@ abbrev pub filled : List (Option ℕ) → List Piece → List (Option ℕ)
 filled table [] = table
 filled table (p ∷ ps) = filled (written table p.at (map (λ x. Some x) p.items)) ps
 
--- a byte in front of pieces that begin right behind it: it is of the first one, unless that begins at a multiple of
--- 4096
+-- a byte in front of pieces that begin right after it: it is of the first one, unless that begins at a multiple of 4096
 abbrev pub onto_piece : ℕ → ℕ → List Piece → List Piece
 onto_piece at b [] = record { at = at; items = b ∷ [] } ∷ []
 onto_piece at b (p ∷ ps) =
@@ -141,8 +140,7 @@ pub record Prepares (m : Module) (p : Parameters) (inst : Instance) (globals : L
   pub elements_at : Placed globals (map (λ e. (e.offset, e.init)) m.elements) elements
   pub segments_at : Placed globals (map (λ d. (d.offset, d.init)) m.segments) segments
 
--- what instantiation comes to: a refusal by name, or an instance, its store, and the fragments that its start has to
--- write
+-- the outcome of instantiation: a refusal by name, or an instance, its store, and the fragments that its start has to write
 pub data Beginning : Type 0 where
   memory_min : Beginning
   segment_bounds : Beginning

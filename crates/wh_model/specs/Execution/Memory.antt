@@ -1,4 +1,4 @@
--- What a linear memory answers: the flat list of bytes of section 4.2.8 of the standard, which may not be at hand.
+-- What a linear memory answers: the flat list of bytes of section 4.2.8 of the standard, which may not be ready.
 use Rattle.std.specs.Prelude.{◌≡◌, ℕ, ◌+◌, ◌*◌, ◌<◌, ◌≤◌, List, ◌++◌, length, replicate, true, false}
 use Rattle.wh_model.specs.declared.memory.Need.{Need}
 use Rattle.wh_model.specs.declared.memory.Got.{Got}
@@ -7,7 +7,7 @@ use Rattle.wh_model.specs.declared.memory.Grown.{Grown}
 use Rattle.wh_model.specs.declared.memory.Grown.TheVariants.{Done, Refused}
 use Rattle.wh_model.specs.Execution.Store.{bytes_at, written}
 
--- so many bytes from a place on, to be read or to be written
+-- `length` bytes from a place on, to be read or to be written
 abbrev pub reading : ℕ → ℕ → Need
 reading at length = record { at = at; length = length; writes = false }
 
@@ -19,8 +19,8 @@ abbrev pub IsWaiting : Got → Type 0
 IsWaiting (NotReady need) = Unit {0}
 IsWaiting _ = ⊥
 
--- A read into so many bytes: they are those of the memory, and were ready; or the memory ends before; or they weren't
--- ready.
+-- A read into as many bytes as `old` has: they are those of the memory, and were ready; or the memory ends before; or they
+-- weren't ready.
 abbrev pub Loads : (Need → Type 0) → List ℕ → ℕ → List ℕ → Got → List ℕ → Type 0
 Loads ready bytes at old Value new =
     (at + length old ≤ length bytes) × (new ≡ bytes_at bytes at (length old)) × ready (reading at (length old))
@@ -36,8 +36,7 @@ Stores ready old at given Trap new = (length old < at + length given) × (new �
 Stores ready old at given (NotReady need) new =
     (at + length given ≤ length old) × (new ≡ old) × (need ≡ writing at (length given)) × ¬ (ready need)
 
--- A growth by so many pages: zeros are there, and the answer is how many pages there were; or the limit would be
--- passed.
+-- A growth by n pages: zeros are there, and the answer is how many pages there were; or the limit would be passed.
 abbrev pub Grows : ℕ → List ℕ → ℕ → Grown → List ℕ → Type 0
 Grows limit old n (Done pages) new =
     (length old ≡ pages * 65536) × (pages + n ≤ limit) × (new ≡ old ++ replicate (n * 65536) 0)

@@ -27,11 +27,11 @@ abbrev pub bits : ValType → ℕ
 bits I32 = 32
 bits I64 = 64
 
--- the signed number that i stands for: i below 2 ^ (N - 1), and i - 2 ^ N from there on
+-- the signed number that i represents: i below 2 ^ (N - 1), and i - 2 ^ N from there on
 unfoldable pub signed : ℕ → ℕ → ℤ
 signed N i = if nat_lt i (2 ^ (N - 1)) then pos i else pos i -ℤ pos (2 ^ N)
 
--- a signed number modulo 2 ^ N, where `negsuc n` is -(n + 1): the integer that stands for it
+-- a signed number modulo 2 ^ N, where `negsuc n` is -(n + 1): the integer that represents it
 unfoldable pub unsigned : ℕ → ℤ → ℕ
 unsigned N (pos n) = n % 2 ^ N
 unsigned N (negsuc n) = 2 ^ N - 1 - n % 2 ^ N

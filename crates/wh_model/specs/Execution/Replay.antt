@@ -1,4 +1,4 @@
--- What an instance comes to by its journal: the calls in order, each with what it was given and how far it got.
+-- The outcome of an instance by its journal: the calls in order, each with what it was given and how far it got.
 use Rattle.std.specs.Prelude.{◌≡◌, ◌<◌, ◌≤◌, ℕ, Bool, true, false, List, [], ◌∷◌, length, take, drop, reverse, map, slice_get, Option, Some, None}
 use Rattle.std.specs.Bool.{MatchBool}
 use Rattle.std.specs.List.{AllByRecursion}
@@ -89,10 +89,10 @@ pub data Ends (inst : Instance) (s : Store) (ps : List Piece) (call : Call) : St
   -- a call that was cancelled ends where it stood
   was_cancelled : {z : Standing}
       → call.outcome ≡ cancelled → Stands inst s ps call z → Ends inst s ps call (store_at z)
-  -- a call behind a start that has trapped or was cancelled does nothing
+  -- a call after a start that has trapped or was cancelled does nothing
   never_began : call.outcome ≡ dead → call.fragments ≡ 0 → call.charges ≡ 0 → Ends inst s ps call s
 
--- a call behind an open one hasn't begun
+-- a call after an open one hasn't begun
 pub record Waits (call : Call) : Type 0 where
   pub outcome : call.outcome ≡ pending
   pub fragments : call.fragments ≡ 0
@@ -126,8 +126,8 @@ IsDead call = call.outcome ≡ dead
 abbrev pub IsNotDead : Call → Type 0
 IsNotDead call = ¬ (call.outcome ≡ dead)
 
--- The calls of an instance. The first is its module's start, without arguments, and isn't dead. Those behind it name
--- functions, and are dead exactly where the start has trapped or was cancelled.
+-- The calls of an instance. The first is its module's start, without arguments, and isn't dead. Those after it name functions,
+-- and are dead exactly where the start has trapped or was cancelled.
 pub record IsJournal (m : Module) (start : Call) (calls : List Call) : Type 0 where
   pub func : start.func ≡ m.start
   pub args : start.args ≡ []

@@ -24,7 +24,7 @@ gives x = record {
   breaks = λ b kind k. ⊥;
 }
 
--- one production, and behind it another, that may depend on the value of the first
+-- one production, and after it another, that may depend on the value of the first
 infixl 10 ◌>>=◌
 abbrev pub ◌>>=◌ : {A B : Type 0} → Grammar A → (A → Grammar B) → Grammar B
 ◌>>=◌ {A} first next = record {
@@ -39,7 +39,7 @@ infixl 10 ◌>>◌
 abbrev pub ◌>>◌ : {A B : Type 0} → Grammar A → Grammar B → Grammar B
 first >> next = first >>= λ _. next
 
--- one byte, and what a table says that it stands for
+-- one byte, and what a table says that it encodes
 abbrev pub HeadBreaks : {A : Type 0} → (ℕ → Result A FaultKind) → List ℕ → FaultKind → Type 0
 HeadBreaks table [] kind = kind ≡ Truncated
 HeadBreaks table (n ∷ b) kind = table n ≡ Err kind
@@ -97,7 +97,7 @@ times (suc n) g = do
   xs ← times n g
   gives (x ∷ xs)
 
--- A window of n bytes, of which there may be fewer in b: what stands for its end where a byte is wanted
+-- A window of n bytes, of which there may be fewer in b: what its end is where a byte is wanted
 abbrev pub EndsAs : ℕ → List ℕ → FaultKind → FaultKind → Type 0
 EndsAs n b inner outer = ((inner ≡ Truncated) × (n ≤ length b) × (outer ≡ SectionSize))
     ⊎ (((inner ≡ Truncated → n ≤ length b → ⊥)) × (outer ≡ inner))

@@ -13,11 +13,11 @@ use Rattle.wh_model.specs.Format.Syntax.{Op, unreachable, nop, br, br_if, br_tab
 use Rattle.wh_model.specs.Format.Opcodes.{block_type, opcode}
 use Rattle.wh_model.specs.Format.Limits.{depth, most_nested, most_labels, FewInstructions}
 
--- valtype or 0x40 behind an opcode that opens a construct
+-- valtype or 0x40 after an opcode that opens a construct
 abbrev pub blocktype : Grammar (Option ValType)
 blocktype = one_of block_type
 
--- an instruction with one index behind its opcode
+-- an instruction with one index after its opcode
 abbrev pub with_index : (ℕ → Op) → Grammar Instr
 with_index op = do
   x ← u32
@@ -35,7 +35,7 @@ opening start = do
   t ← blocktype
   gives (start t)
 
--- what stands behind an opcode
+-- what stands after an opcode
 abbrev pub operands : Opcode → Grammar Instr
 operands Unreachable = gives (single unreachable)
 operands Nop = gives (single nop)
@@ -103,8 +103,8 @@ pub data Front : List Instr → List Open → Type 0 where
       → depth c + suc (length stack) ≤ most_nested → depth d + suc (length stack) ≤ most_nested
       → Front (front ++ if_start t ∷ flatten c ++ else_mark ∷ flatten d) (Other ∷ stack)
 
--- what an opcode stands for inside these constructs: one that opens a construct has to be at a level that there may
--- be, and an else directly in an if whose else it is
+-- what an opcode encodes inside these constructs: one that opens a construct has to be at a level that there may be, and an else
+-- directly in an if whose else it is
 abbrev pub if_room : List Open → Opcode → Result Opcode FaultKind
 if_room stack code = if nat_lt (length stack) most_nested then Ok code else Err Limit
 
@@ -127,8 +127,8 @@ may_come stack (Ok code) = allowed stack code
 abbrev pub next_instr : List Open → Grammar Instr
 next_instr stack = one_of (λ n. may_come stack (opcode n)) >>= operands
 
--- how the next instruction breaks behind so many, where there may be no more than `most`: whatever it is, if they are
--- all there
+-- how the next instruction breaks after `count` ones, where there may be no more than `most`: whatever it is, if they are all
+-- there
 abbrev pub NextBreaks : Option ℕ → ℕ → List Open → List ℕ → FaultKind → ℕ → Type 0
 NextBreaks None count stack b kind k = (next_instr stack).breaks b kind k
 NextBreaks (Some most) count stack b kind k = ((count < most) × (next_instr stack).breaks b kind k)

@@ -25,7 +25,7 @@ abbrev pub IsSignedByte : ℕ → ℕ → ℤ → Type 0
 IsSignedByte bits b n = ((b < 64) × (b < 2 ^ (bits - 1)) × (n ≡ pos b))
     ⊎ ((64 ≤ b) × (b < 128) × (128 ≤ b + 2 ^ (bits - 1)) × (n +ℤ pos 128 ≡ pos b))
 
--- sN: a last byte; or a byte from 2^7 on, if N is above 7, and behind it m of N-7 bits: the byte - 2^7 + 2^7 * m.
+-- sN: a last byte; or a byte from 2^7 on, if N is above 7, and after it m of N-7 bits: the byte - 2^7 + 2^7 * m.
 abbrev pub IsSigned : ℕ → List ℕ → ℤ → Type 0
 IsSigned bits [] n = ⊥
 IsSigned bits (b ∷ []) n = IsSignedByte bits b n

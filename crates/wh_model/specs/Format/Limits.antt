@@ -62,7 +62,7 @@ abbrev pub SmallInstr : Instr → Type 0
 SmallInstr (single (br_table labels last)) = length labels ≤ most_labels
 SmallInstr _ = Unit {0}
 
--- the instructions of an expression are no more than so many, where there is a limit
+-- the instructions of an expression, `count`, are no more than `most`, where there is a limit
 abbrev pub FewInstructions : Option ℕ → ℕ → Type 0
 FewInstructions (Some most) count = count ≤ most
 FewInstructions None count = Unit {0}

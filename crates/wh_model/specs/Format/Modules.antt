@@ -21,7 +21,7 @@ custom = do
   size ← u32
   exactly_from size name
 
--- customsec*, and what is behind them
+-- customsec*, and what is after them
 abbrev pub customs_then : {A : Type 0} → Grammar A → Grammar A
 customs_then next = record {
   spells =
@@ -41,7 +41,7 @@ section id contents = do
   size ← u32
   exactly size contents
 
--- a section that may be missing, and what is behind it
+-- a section that may be missing, and what is after it
 abbrev pub section_or : {A B : Type 0} → ℕ → Grammar A → (A → Grammar B) → Grammar B → Grammar B
 section_or id contents next missing = record {
   spells = λ y b. (section id contents >>= next).spells y b ⊎ missing.spells y b;

@@ -1,5 +1,5 @@
--- The bytes that stand for types (section 5.3 of the standard) and for instructions (section 5.4). Floating point is
--- left out of this profile: its types and opcodes are the fault Float, every other byte outside the tables UnknownByte.
+-- The bytes that encode types (section 5.3 of the standard) and instructions (section 5.4). Floating point is left out of this
+-- profile: its types and opcodes are the fault Float, every other byte outside the tables UnknownByte.
 use Rattle.std.specs.Prelude.{ℕ, ◌-◌, List, [], ◌∷◌, Option, Some, None, Result, Ok, Err, Bool, true, false, if◌then◌else◌, ◌==◌, ◌&&◌, ◌||◌, nat_le, slice_get}
 use Rattle.wh_model.specs.declared.faults.FaultKind.{FaultKind}
 use Rattle.wh_model.specs.declared.faults.FaultKind.TheVariants.{UnknownByte, Float, Unsupported}
@@ -88,8 +88,8 @@ variable_opcode n =
     else if n == 0x41 then Some I32Const else if n == 0x42 then Some I64Const
     else None
 
--- The operators of a class have opcodes one behind the other: the one that the opcode n stands for, where `first` is
--- that of the list's first operator.
+-- The operators of a class have opcodes one after the other: the one that the opcode n encodes, where `first` is that of the
+-- list's first operator.
 abbrev pub operator_from : {A : Type 0} → ℕ → List A → ℕ → Option A
 operator_from first operators n = if nat_le first n then slice_get operators (n - first) else None
 
@@ -167,7 +167,7 @@ abbrev pub or_else : Option Opcode → Result Opcode FaultKind → Result Opcode
 or_else (Some opcode) next = Ok opcode
 or_else None next = next
 
--- what a byte stands for where an instruction begins
+-- what a byte encodes where an instruction begins
 unfoldable pub opcode : ℕ → Result Opcode FaultKind
 opcode n =
     or_else (control_opcode n)

@@ -115,7 +115,7 @@ segment = do
   bs ← byte_vector
   gives (record { memory = x; offset = e; init = bs })
 
--- locals (5.5.13): runs of one type, behind so many that are declared
+-- locals (5.5.13): runs of one type, after `declared` that are declared
 abbrev pub runs : ℕ → ℕ → Grammar (List ValType)
 runs zero declared = gives []
 runs (suc k) declared = do

@@ -43,9 +43,8 @@ pub data Op : Type 0 where
   binary : ValType → BinaryOp → Op
   conversion : ConvertOp → Op
 
--- A sequence of instructions, instr* (2.4.5, 2.4.6): the first instruction with its result type and what is nested in
--- it, and the instructions behind it. An if keeps whether an else stands in it, so that this form and the binary one
--- determine each other.
+-- A sequence of instructions, instr* (2.4.5, 2.4.6): the first instruction with its result type and what is nested in it, and the
+-- instructions after it. An if keeps whether an else stands in it, so that this form and the binary one determine each other.
 pub data Code : Type 0 where
   nothing : Code
   plain : Op → Code → Code
@@ -54,7 +53,7 @@ pub data Code : Type 0 where
   if_then : Option ValType → Code → Code → Code
   if_else : Option ValType → Code → Code → Code → Code
 
--- an opcode with its immediates, as instructions stand one behind the other in binary order
+-- an opcode with its immediates, as instructions stand one after the other in binary order
 pub data Instr : Type 0 where
   single : Op → Instr
   block_start : Option ValType → Instr
@@ -73,7 +72,7 @@ flatten (if_then t first rest) = if_start t ∷ flatten first ++ end_mark ∷ fl
 flatten (if_else t first second rest) =
     if_start t ∷ flatten first ++ else_mark ∷ flatten second ++ end_mark ∷ flatten rest
 
--- one sequence, and behind it another
+-- one sequence, and after it another
 abbrev pub join : Code → Code → Code
 join nothing d = d
 join (plain op rest) d = plain op (join rest d)

@@ -89,7 +89,7 @@ RunningGoesOn = (inst : Instance) (s : Store) (ps : List Piece) (call : Call) (c
     → Stands inst s ps call (running c)
     → IsNext inst c ⊎ ((call.charges ≡ 0) × Invocation inst (with_pieces s ps) call c)
 
--- calls behind an open one haven't begun
+-- calls after an open one haven't begun
 abbrev pub OthersWait : Type 0
 OthersWait = (inst : Instance) (s : Store) (ps : List Piece) (call : Call) (calls : List Call) (z : Standing)
     → call.outcome ≡ pending → Replays inst s ps (call ∷ calls) z → AllByRecursion Waits calls
@@ -123,7 +123,7 @@ IsFunction inst x params results body =
     slice_get inst.funcs x
     ≡ Some (own (record { params = params; results = results }) (record { locals = []; code = body }))
 
--- an open call of it with these arguments, which has taken so many charges
+-- an open call of it with these arguments, which has taken `charges` charges
 abbrev pub called_with : ℕ → List Value → ℕ → ℕ → Call
 called_with x args fuel charges =
     record { func = Some x; args = args; fuel = fuel; fragments = 0; charges = charges; outcome = pending }
@@ -145,7 +145,7 @@ TrappedReplays =
     → Trapped inst (invoked s params results body args) s2 trap n
     → Replays inst s [] (record (called_with x args fuel n) { outcome = stopped trap } ∷ []) (idle s2)
 
--- one that stands for fuel is a journal of an open call that stands there
+-- one that is blocked on fuel is a journal of an open call that is there
 abbrev pub FuelReplays : Type 0
 FuelReplays =
     (inst : Instance) (s : Store) (x fuel n : ℕ) (params results : List ValType) (body : Code) (args : List Value)

@@ -1,4 +1,4 @@
--- Runs that are worked out by hand: what a call of a function comes to, and after how many charges.
+-- Runs that are worked out by hand: the outcome of a call of a function, and after how many charges.
 use Rattle.std.specs.Prelude.{ℕ, List, [], reverse}
 use Rattle.wh_model.specs.declared.ValType.{ValType}
 use Rattle.wh_model.specs.declared.Trap.{Trap}
@@ -14,14 +14,14 @@ invoked s params results body args =
     (called (record { params = params; results = results }) (record { locals = []; code = body }) (reverse args) []
     nothing)
 
--- it is done with these values after so many charges
+-- it is done with these values after `charges` charges
 abbrev pub Done : Instance → Config → Store → List Value → ℕ → Type 0
 Done inst c s vs charges = After inst c charges (config s [] (code (reverse vs) nothing))
 
--- it traps after so many charges, the trapped instruction's included
+-- it traps after `charges` charges, the trapped instruction's included
 abbrev pub Trapped : Instance → Config → Store → Trap → ℕ → Type 0
 Trapped inst c s x charges = After inst c charges (trapped s x)
 
--- it stands for fuel after so many charges: a charged reduction is next
+-- it is blocked on fuel after `charges` charges: a charged reduction is next
 abbrev pub StandsForFuel : Instance → Config → ℕ → Type 0
 StandsForFuel inst c charges = (c2 : Config) × After inst c charges c2 × (c3 : Config) × Reduces inst 0 c2 1 c3

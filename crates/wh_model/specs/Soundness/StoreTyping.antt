@@ -64,8 +64,8 @@ pub record StoreType (c : Context) (inst : Instance) (s : Store) : Type 0 where
   pub inputs : AllByRecursion (λ n. n < 2 ^ 64) s.inputs
   pub output : (length s.output ≤ output_room) × AllByRecursion IsByte s.output
 
--- What may become of a store: the table and the words to be read stay, and so does the value of a global that is never
--- written; the memory has no fewer bytes, and output comes behind the one that was there.
+-- What may become of a store: the table and the words to be read stay, and so does the value of a global that is never written;
+-- the memory has no fewer bytes, and output comes after the one that was there.
 pub record StoreExtends (c : Context) (before after : Store) : Type 0 where
   pub table : after.table ≡ before.table
   pub inputs : after.inputs ≡ before.inputs

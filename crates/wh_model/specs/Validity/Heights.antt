@@ -9,7 +9,7 @@ use Rattle.wh_model.specs.Validity.Valid.{ValidType, WithinBound, most_pages, Is
 
 -- ---- operand heights
 
--- [t?] has so many
+-- how many operands [t?] has
 abbrev pub operands : Option ValType → ℕ
 operands t = length (operand t)
 
@@ -20,8 +20,8 @@ carried c l = operands (unwrap_or (slice_get c.labels l) None)
 abbrev pub no_type : FuncType
 no_type = record { params = []; results = [] }
 
--- The operands that an instruction takes, and those that it gives. Behind unreachable, br, br_table and return the
--- height is the floor, whatever they take.
+-- The operands that an instruction takes, and those that it gives. After unreachable, br, br_table and return the height is the
+-- floor, whatever they take.
 abbrev pub taken : Context → Op → ℕ
 taken c (br_if l) = carried c l + 1
 taken c (call x) = length (unwrap_or (slice_get c.funcs x) no_type).params
@@ -65,7 +65,7 @@ given c _ = 0
 abbrev pub lowered : ℕ → ℕ → ℕ → ℕ
 lowered floor height n = max floor (height - n)
 
--- the height behind an instruction without a body
+-- the height after an instruction without a body
 abbrev pub height_behind : Context → ℕ → ℕ → Op → ℕ
 height_behind c floor height unreachable = floor
 height_behind c floor height (br l) = floor

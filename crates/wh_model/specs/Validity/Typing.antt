@@ -68,7 +68,7 @@ store_type I64Store32 = (I64, 4)
 abbrev pub HasMemory : Context → Type 0
 HasMemory c = (l : Limits) × (slice_get c.memories 0 ≡ Some l)
 
--- there is a memory, and accesses of so many bytes may be aligned so
+-- there is a memory, and accesses of `bytes` bytes may be aligned so
 abbrev pub Aligned : Context → ℕ → ℕ → Type 0
 Aligned c align bytes = HasMemory c × (2 ^ align ≤ bytes)
 
@@ -82,7 +82,7 @@ conversion_type ExtendI32U = (I32, I64)
 
 -- ---- instructions without a body (3.3.1 to 3.3.5)
 
--- The instruction has the type ins -> outs. Behind unreachable, br, br_table and return operands are of any form.
+-- The instruction has the type ins -> outs. After unreachable, br, br_table and return operands are of any form.
 abbrev pub OpType : Context → Op → List ValType → List ValType → Type 0
 OpType c unreachable ins outs = Unit {0}
 OpType c nop ins outs = (ins ≡ []) × (outs ≡ [])

@@ -1,7 +1,6 @@
 use Rattle.std.proofs.Common.{ℕ, ◌*◌, false, None, refl, replicate}
-use Rattle.wh_model.specs.Execution.Instance.{Parameters}
-use Rattle.wh_host_model.specs.Host.Admission.{rest_of}
-use Rattle.wh_host_model.specs.Host.Worlds.{Tenant}
+use Rattle.wh_model.specs.Execution.{Parameters}
+use Rattle.wh_host_model.specs.Host.{rest_of, Tenant}
 use Rattle.wh_syntax.specs.View.{view_module}
 use Rattle.wh_imports.specs.LinkedState.{LinkedState}
 use Rattle.wh_initial.specs.Begins.{Instantiates, first_store}
@@ -11,7 +10,7 @@ use Rattle.wh_instance.specs.Invoked.{IsSomeTenant}
 use Rattle.wh_instance.specs.Tenancy.{HostInstanceState}
 use Rattle.test_parts.proofs.arguments.begin.Goals as goal
 
--- one that has begun stands for one of the definitions', whatever numbers its owner gave
+-- one that has begun represents one of the definitions', whatever numbers its owner gave
 begun_tenant : (l : LinkedState) (p : Parameters) (begun : Instantiated) (fuel : ℕ) (x : HostInstanceState)
     → Instantiates (view_module l.valid.decoded) p begun → BeginsTenant l begun fuel x → IsSomeTenant l x
 begun_tenant l p begun fuel x i begins =

@@ -10,6 +10,4 @@ both_free y z one other (suc (suc k)) a there = absurd (cc there)
 
 pub returns : goal.returns
 returns c =
-    let one = c.in_ok-one.ensures in
-    let other = c.in_ok-other.ensures in
-    subst AllAreFree (sym c.in_ok-from_array.ensures.items) (both_free c.in_ok-one.one c.in_ok-other.other one.0 other.0)
+    subst AllAreFree (sym c.in_ok-from_array.ensures.items) (both_free c.in_ok-one.one c.in_ok-other.other c.in_ok-one.ensures.0 c.in_ok-other.ensures.0)

@@ -1,7 +1,7 @@
 use Rattle.std.proofs.Common.{rules, arith, ◌^◌, ◌<◌, ap, refl, subst}
 use Rattle.std.specs.List.{AllByRecursion}
-use Rattle.wh_model.specs.Execution.Instance.{AreGiven}
-use Rattle.wh_host_model.specs.Owners.{given_of}
+use Rattle.wh_model.specs.Execution.{AreGiven}
+use Rattle.wh_host_model.specs.{given_of}
 use Rattle.wh_params.specs.View.{view_params}
 use Rattle.wh_admit.proofs.admission.begin.Goals as goal
 

@@ -1,6 +1,6 @@
 use Rattle.std.proofs.Common.{[], reverse}
-use Rattle.wh_model.specs.Format.Syntax.{nothing}
-use Rattle.wh_model.specs.Execution.Configuration.{called, config}
+use Rattle.wh_model.specs.Format.{nothing}
+use Rattle.wh_model.specs.Execution.{called, config}
 use Rattle.wh_control.specs.Represents.{result_of}
 use Rattle.wh_machine.specs.CallStates.{call_state}
 use Rattle.wh_call.specs.Ends.{TakesTo}

@@ -1,4 +1,4 @@
-use Rattle.wh_model.specs.Execution.Reduction.{stays}
+use Rattle.wh_model.specs.Execution.{stays}
 use Rattle.wh_machine.specs.CallStates.{call_state}
 use Rattle.wh_call.specs.Ends.{TakesTo}
 use Rattle.wh_alone.specs.InstanceStates.{flat_setting}

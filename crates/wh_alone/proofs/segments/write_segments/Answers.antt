@@ -1,5 +1,5 @@
 use Rattle.std.proofs.Common.{◌+◌, ◌≤◌, length, drop, sym, ap, subst, ◌∙◌}
-use Rattle.wh_model.specs.Execution.Store.{written}
+use Rattle.wh_model.specs.Execution.{written}
 use Rattle.wh_flatmem.specs.FlatMemoryState.{FlatMemoryState}
 use Rattle.wh_alone.specs.ModuleCalls.{written_over}
 use Rattle.wh_alone.proofs.Pieces.{piece_fits, piece_written, length_same}

@@ -1,5 +1,5 @@
 use Rattle.std.proofs.Common.{◌≡◌, List, drop, length}
-use Rattle.wh_model.specs.Execution.Instance.{Piece, Within}
+use Rattle.wh_model.specs.Execution.{Piece, Within}
 use Rattle.wh_alone.specs.ModuleCalls.{ArePieces, written_over}
 use Rattle.wh_alone.proofs.segments.write_segments.Given as goal
 

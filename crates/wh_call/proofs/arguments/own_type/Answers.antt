@@ -9,20 +9,17 @@ use Rattle.wh_call.proofs.arguments.own_type.Goals as goal
 
 pub returns-in_err-place-clause-none : goal.returns-in_err-place-clause-none
 returns-in_err-place-clause-none c =
-    let high = c.in_err-place.ensures in
     let same = ap length c.funcs.ensures in
-    let low : c.args.func < length c.args.linked.now.funcs = omega (arith, high, same) in
+    let low : c.args.func < length c.args.linked.now.funcs = omega (arith, c.in_err-place.ensures, same) in
     subst (λ o. IfNone o (LacksOwn c.args.linked.now c.args.func)) (sym c.from_residual.ensures)
     (refused_low c.args.linked.now c.args.func low)
 
 pub returns-then-place-len-clause-none : goal.returns-then-place-len-clause-none
 returns-then-place-len-clause-none c =
-    let high = c.if-place-len.true in
-    let place = c.in_ok-place.ensures in
     let same = ap length c.funcs.ensures in
     let len = c.len.ensures in
     let decoded = ap (λ (m : Module). length m.funcs.items) c.module-module.ensures.same in
-    let beyond : length c.args.linked.now.valid.decoded.funcs.items ≤ c.args.func - length c.args.linked.now.funcs = omega (arith, high, place, same, len, decoded) in
+    let beyond : length c.args.linked.now.valid.decoded.funcs.items ≤ c.args.func - length c.args.linked.now.funcs = omega (arith, c.if-place-len.true, c.in_ok-place.ensures, same, len, decoded) in
     refused_high c.args.linked.now c.args.func beyond
 
 pub func_type_at-requires : goal.func_type_at-requires
@@ -48,8 +45,6 @@ returns-clause-some c =
     ∙ ap (λ xs. slice_get xs c.in_ok-place.place) (sym c.deref-2.ensures.value) ∙ c.index_at.ensures in
     let typed = ap (λ (m : Module). slice_get m.types.items c.index_at.result) (sym same)
     ∙ ap (λ xs. slice_get xs c.index_at.result) (sym c.deref.ensures.value) ∙ c.func_type_at.ensures in
-    let high = c.in_ok-place.ensures.0 in
-    let place = c.in_ok-place.ensures.1 in
     let hosts = ap length c.funcs.ensures in
-    let index : c.args.func ≡ length l.funcs + c.in_ok-place.place = omega (arith, high, place, hosts) in
+    let index : c.args.func ≡ length l.funcs + c.in_ok-place.place = omega (arith, c.in_ok-place.ensures.0, c.in_ok-place.ensures.1, hosts) in
     typed_at l sound c.args.func c.in_ok-place.place c.index_at.result c.func_type_at.result.now index at typed

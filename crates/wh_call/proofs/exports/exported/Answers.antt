@@ -8,6 +8,4 @@ returns-then-is_func_of-clause-some c = (c.loop-at.at, c.export_at-export.result
 pub returns-clause-none : goal.returns-clause-none
 returns-clause-none c at e is h =
     let within = slice_get_within c.args.exports.now at e is in
-    let all = c.loop-at-test.false in
-    let end_is = c.loop-at.auto.at-end in
-    c.loop-at.invariant at e (omega (arith, within, all, end_is)) is h
+    c.loop-at.invariant at e (omega (arith, within, c.loop-at-test.false, c.loop-at.auto.at-end)) is h

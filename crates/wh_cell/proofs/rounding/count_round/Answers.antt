@@ -31,9 +31,8 @@ count_series-requires g c =
     let answer = c.answer.ensures ∙ ap (λ (z : Runner). z.answer) c.index-runners-at.is in
     let due = c.requires.due now.at y there in
     let within = slice_get_within c.args.orders.now now.at due.0 due.1 in
-    let long = now.auto.orders in
     let x = get_or now.orders now.at c.index-orders-at.result in
-    let at = slice_get-get_or now.orders now.at c.index-orders-at.result (omega (arith, within, long)) in
+    let at = slice_get-get_or now.orders now.at c.index-orders-at.result (omega (arith, within, now.auto.orders)) in
     let orders = now.invariant.orders in
     let both = sym due.1 ∙ sym (orders.rest now.at (omega arith)) ∙ at in
     let same : due.0 ≡ x = cc both in
@@ -41,15 +40,11 @@ count_series-requires g c =
     let turns = ap turns_by answer in
     let charges = ap charges_by_turns answer in
     let few = orders.few in
-    let ran = now.invariant.worker in
-    let counted = ran.turns_are in
-    let enough = due.2 in
     let small = due.3 in
-    let cheap = due.4 in
     record {
-      room = omega (arith, c.requires.room, few, counted, turns, small, c.loop-at-test.true);
-      due = (omega (arith, count, enough, turns), omega (arith, small, turns));
-      few = omega (arith, cheap, turns, charges);
+      room = omega (arith, c.requires.room, few, now.invariant.worker.turns_are, turns, small, c.loop-at-test.true);
+      due = (omega (arith, count, due.2, turns), omega (arith, small, turns));
+      few = omega (arith, due.4, turns, charges);
     }
 
 pub loop-at-preserved : goal.loop-at-preserved
@@ -60,30 +55,22 @@ loop-at-preserved g c =
     let answer = c.answer.ensures ∙ ap (λ (z : Runner). z.answer) c.index-runners-at.is in
     let due = c.requires.due now.at y there in
     let within = slice_get_within c.args.orders.now now.at due.0 due.1 in
-    let long = now.auto.orders in
     let x = get_or now.orders now.at c.index-orders-at.result in
-    let at = slice_get-get_or now.orders now.at c.index-orders-at.result (omega (arith, within, long)) in
-    let small = due.3 in
-    let next = counted_next c.args.runners.now c.args.orders.now now.orders now.at y x now.invariant.orders there at (omega (arith, small)) in
+    let at = slice_get-get_or now.orders now.at c.index-orders-at.result (omega (arith, within, now.auto.orders)) in
+    let next = counted_next c.args.runners.now c.args.orders.now now.orders now.at y x now.invariant.orders there at (omega (arith, due.3)) in
     let k = c.count_series in
     let order : k.new.order ≡ (let r : ReceivedTurnsState = record x { count = x.count - turns_by y.answer } in r) = k.ensures.order ∙ ap (λ (a : Option SeriesEnd). (let r : ReceivedTurnsState = record x { count = x.count - turns_by a } in r)) answer in
     let turns = turns_next c.args.runners.now now.at y there in
     let charges = charges_next c.args.runners.now now.at y there in
     let ran = now.invariant.worker in
     let more = k.ensures.worker in
-    let first = ran.turns_are in
-    let then = more.turns_are in
-    let first2 = ran.charges in
-    let then2 = more.charges in
     let of = ap turns_by answer in
     let of2 = ap charges_by_turns answer in
     let books = k.ensures.books in
     let was = now.invariant.books in
-    let so_far = ap (λ (b : Books g.row.T.Denot g.row.C.Denot g.row.O.Denot g.row.E.Denot). b.turns) was in
-    let so_far2 = ap (λ (b : Books g.row.T.Denot g.row.C.Denot g.row.O.Denot g.row.E.Denot). b.charges) was in
     record {
       orders = subst (λ o. CountedSoFar c.args.runners.now c.args.orders.now (slice_set now.orders now.at o) (now.at + 1)) (sym order) next;
-      worker = record { from = more.from ∙ ran.from; turns_are = omega (arith, first, then, turns, of); charges = omega (arith, first2, then2, charges, of2) };
+      worker = record { from = more.from ∙ ran.from; turns_are = omega (arith, ran.turns_are, more.turns_are, turns, of); charges = omega (arith, ran.charges, more.charges, charges, of2) };
       books = books ∙ ap (λ (b : Books g.row.T.Denot g.row.C.Denot g.row.O.Denot g.row.E.Denot). (let r : Books g.row.T.Denot g.row.C.Denot g.row.O.Denot g.row.E.Denot = record b { turns = b.turns + turns_by c.answer.result; charges = b.charges + charges_by_turns c.answer.result } in r)) was
           ∙ counts c.args.books.now _ _ (c.args.books.now.turns + turns_of_round (take (now.at + 1) c.args.runners.now)) (c.args.books.now.charges + charges_of_round (take (now.at + 1) c.args.runners.now)) (omega (arith, turns, of)) (omega (arith, charges, of2));
     }
@@ -103,8 +90,7 @@ returns g c =
             let both = sym due.1 ∙ at in
             let same : due.0 ≡ o = cc both in
             let count = ap (λ (x : ReceivedTurnsState). x.count) same in
-            let enough = due.2 in
-            (omega (arith, count, enough), orders.done k y o (omega (arith, less, end)) there at));
+            (omega (arith, count, due.2), orders.done k y o (omega (arith, less, end)) there at));
         rest = λ k least. orders.rest k (omega (arith, least, end));
       };
       worker = subst (λ ys. RanTurns c.args.worker.now (turns_of_round ys) (charges_of_round ys) now.worker) all i.worker;

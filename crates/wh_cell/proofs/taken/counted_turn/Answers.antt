@@ -1,9 +1,8 @@
-use Rattle.std.proofs.Common.{◌<◌, ◌^◌, sym, subst, arith}
-use Rattle.wh_host_model.specs.Host.Happens.{IsTurn}
+use Rattle.std.proofs.Common.{subst}
+use Rattle.wh_host_model.specs.Host.{IsTurn}
 use Rattle.std.specs.Bool.{MatchBool}
 use Rattle.wh_host.specs.Paging.{IsGoing}
 use Rattle.wh_cell.specs.Going.{has_none, has_turn}
-use Rattle.wh_cell.specs.LeftByOwner.{HasTakenOn}
 use Rattle.wh_cell.proofs.Alike.{taken_each}
 use Rattle.wh_cell.proofs.Asked.{turned_taken}
 use Rattle.wh_cell.proofs.Counted.{taken_none}
@@ -23,15 +22,10 @@ returns-clause-turns c w st =
     let x = c.turn-end.ensures.turns w st in (
       x.0,
       has_turn (subst (λ b. MatchBool b (IsGoing w c.args.id) (¬ (IsGoing w c.args.id))) c.if-not-can_go_on.false (c.can_go_on.ensures w st))
-          (subst (λ q. IsTurn w c.args.id q c.turn-end.result x.0) c.from.ensures x.1),
-      x.2,
+          (subst (λ q. IsTurn w c.args.id q c.turn-end.result.0 x.0) c.from.ensures x.1),
+      x.3,
     )
 
 pub returns-clause-taken : goal.returns-clause-taken
 returns-clause-taken c =
-    let fits = c.ranges.quantum.fits in
-    let same = c.from.ensures in
-    let few : c.from.result < 2 ^ 32 = omega (arith, fits, same) in
-    subst (λ n. HasTakenOn c.args.host.now n c.turn-end.new.self) (sym c.charges_of_turn.ensures)
-    (turned_taken c.args.host.now c.turn-end.new.self c.args.id c.from.result c.present_call-call.result c.turn-end.result c.charges-before.result c.charges-after.result
-    c.invariant.ensures c.turn-end.ensures.turns few c.present_call-call.ensures c.charges-before.ensures c.charges-after.ensures)
+    turned_taken c.args.host.now c.turn-end.new.self c.args.id c.from.result c.turn-end.result.1 c.turn-end.result.0 c.invariant.ensures c.turn-end.ensures.turns

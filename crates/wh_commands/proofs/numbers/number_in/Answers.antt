@@ -1,5 +1,5 @@
 use Rattle.std.proofs.Common.{sym, subst}
-use Rattle.wh_script_model.specs.Words.{AreDigits}
+use Rattle.wh_script_model.specs.{AreDigits}
 use Rattle.wh_commands.proofs.Digits.{number_word, number_reads, Reads}
 use Rattle.wh_commands.proofs.numbers.number_in.Goals as goal
 

@@ -1,5 +1,5 @@
 use Rattle.std.proofs.Common.{refl}
-use Rattle.wh_script_model.specs.Commands.{admit}
+use Rattle.wh_script_model.specs.{admit}
 use Rattle.wh_params.specs.View.{view_params}
 use Rattle.wh_commands.proofs.Asking.{one_more}
 use Rattle.wh_commands.proofs.reading.admit.Goals as goal

@@ -1,7 +1,7 @@
 use Rattle.std.proofs.Common.{rules, ◌++◌, ◌∷◌, [], FitsSigned, ap, ◌∙◌}
 use Rattle.std.specs.Int.{w128}
 use Rattle.std.proofs.lemmas.Int.{to_z-of_z}
-use Rattle.wh_script_model.specs.Words.{IsNumber}
+use Rattle.wh_script_model.specs.{IsNumber}
 use Rattle.wh_commands.proofs.Asking.{reads_more, reads_none, pushed}
 use Rattle.wh_commands.proofs.reading.args.Goals as goal
 

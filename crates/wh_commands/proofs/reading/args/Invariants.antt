@@ -1,5 +1,5 @@
 use Rattle.std.proofs.Common.{length}
-use Rattle.wh_script_model.specs.Words.{IsNumber}
+use Rattle.wh_script_model.specs.{IsNumber}
 use Rattle.wh_commands.specs.WordsLeft.{words_left}
 use Rattle.wh_commands.proofs.Asking.{HasRead}
 use Rattle.wh_commands.proofs.reading.args.Given as goal

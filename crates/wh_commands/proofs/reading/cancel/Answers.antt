@@ -1,5 +1,5 @@
 use Rattle.std.proofs.Common.{refl}
-use Rattle.wh_script_model.specs.Commands.{cancel}
+use Rattle.wh_script_model.specs.{cancel}
 use Rattle.wh_commands.proofs.reading.cancel.Goals as goal
 
 pub returns-clause-ok : goal.returns-clause-ok

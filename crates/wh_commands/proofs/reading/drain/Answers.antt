@@ -1,5 +1,5 @@
 use Rattle.std.proofs.Common.{refl}
-use Rattle.wh_script_model.specs.Commands.{drain}
+use Rattle.wh_script_model.specs.{drain}
 use Rattle.wh_commands.proofs.reading.drain.Goals as goal
 
 pub returns-clause-ok : goal.returns-clause-ok

@@ -5,22 +5,13 @@ use Rattle.wh_commands.proofs.reading.given.Goals as goal
 
 pub returns-in_err-base-clause-none : goal.returns-in_err-base-clause-none
 returns-in_err-base-clause-none c =
-    let shares = c.in_ok-shares.ensures.ok in
-    let min = c.in_ok-min.ensures.ok in
-    let max = c.in_ok-max.ensures.ok in
-    let fuel = c.in_ok-fuel.ensures.ok in
     refused _ _ (search rules)
-    (no_base _ _ _ _ _ _ _ _ _ shares.1 min.1 max.1 fuel.1 c.in_err-base.ensures.none)
+    (no_base _ _ _ _ _ _ _ _ _ c.in_ok-shares.ensures.ok.1 c.in_ok-min.ensures.ok.1 c.in_ok-max.ensures.ok.1 c.in_ok-fuel.ensures.ok.1 c.in_err-base.ensures.none)
 
 pub returns-in_err-salt-clause-none : goal.returns-in_err-salt-clause-none
 returns-in_err-salt-clause-none c =
-    let shares = c.in_ok-shares.ensures.ok in
-    let min = c.in_ok-min.ensures.ok in
-    let max = c.in_ok-max.ensures.ok in
-    let fuel = c.in_ok-fuel.ensures.ok in
-    let base = c.in_ok-base.ensures.ok in
     refused _ _ (search rules)
-    (no_salt _ _ _ _ _ _ _ _ _ _ _ shares.1 min.1 max.1 fuel.1 base.1 c.in_err-salt.ensures.none)
+    (no_salt _ _ _ _ _ _ _ _ _ _ _ c.in_ok-shares.ensures.ok.1 c.in_ok-min.ensures.ok.1 c.in_ok-max.ensures.ok.1 c.in_ok-fuel.ensures.ok.1 c.in_ok-base.ensures.ok.1 c.in_err-salt.ensures.none)
 
 pub returns-clause-ok : goal.returns-clause-ok
 returns-clause-ok c =

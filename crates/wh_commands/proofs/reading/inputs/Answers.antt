@@ -1,5 +1,5 @@
 use Rattle.wh_model.specs.declared.ValType.TheVariants.{I64}
-use Rattle.wh_script_model.specs.Words.{IsBits}
+use Rattle.wh_script_model.specs.{IsBits}
 use Rattle.wh_commands.proofs.Asking.{reads_more, reads_none, pushed}
 use Rattle.wh_commands.proofs.reading.inputs.Goals as goal
 

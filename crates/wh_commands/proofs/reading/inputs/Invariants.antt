@@ -1,6 +1,6 @@
 use Rattle.std.proofs.Common.{length}
 use Rattle.wh_model.specs.declared.ValType.TheVariants.{I64}
-use Rattle.wh_script_model.specs.Words.{IsBits}
+use Rattle.wh_script_model.specs.{IsBits}
 use Rattle.wh_commands.specs.WordsLeft.{words_left}
 use Rattle.wh_commands.proofs.Asking.{HasRead}
 use Rattle.wh_commands.proofs.reading.inputs.Given as goal

@@ -1,5 +1,5 @@
 use Rattle.std.proofs.Common.{refl}
-use Rattle.wh_script_model.specs.Commands.{invoke}
+use Rattle.wh_script_model.specs.{invoke}
 use Rattle.wh_commands.proofs.Asking.{one_more}
 use Rattle.wh_commands.proofs.reading.invoke.Goals as goal
 

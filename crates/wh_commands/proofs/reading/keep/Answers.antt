@@ -1,5 +1,5 @@
 use Rattle.std.proofs.Common.{refl, ◌∙◌}
-use Rattle.wh_script_model.specs.Commands.{keep}
+use Rattle.wh_script_model.specs.{keep}
 use Rattle.wh_commands.proofs.Asking.{two}
 use Rattle.wh_commands.proofs.Hex.{read_same}
 use Rattle.wh_commands.proofs.reading.keep.Goals as goal

@@ -1,5 +1,5 @@
 use Rattle.std.proofs.Common.{refl}
-use Rattle.wh_script_model.specs.Commands.{load}
+use Rattle.wh_script_model.specs.{load}
 use Rattle.wh_commands.proofs.Asking.{two}
 use Rattle.wh_commands.proofs.reading.load.Goals as goal
 

@@ -1,5 +1,5 @@
 use Rattle.std.proofs.Common.{refl}
-use Rattle.wh_script_model.specs.Commands.{retry}
+use Rattle.wh_script_model.specs.{retry}
 use Rattle.wh_commands.proofs.reading.retry.Goals as goal
 
 pub returns-clause-ok : goal.returns-clause-ok

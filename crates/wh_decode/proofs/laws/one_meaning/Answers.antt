@@ -1,7 +1,6 @@
 use Rattle.std.proofs.Common.{◌≡◌, ◌⊎◌, ℕ, List, Result, Ok, Err, inl, inr, refl}
 use Rattle.wh_model.specs.declared.faults.FaultKind.{FaultKind}
-use Rattle.wh_model.specs.Format.Syntax.{Module}
-use Rattle.wh_model.specs.Format.Spelling.{AreBytes, Spells, Small, IsBroken}
+use Rattle.wh_model.specs.Format.{Module, AreBytes, Spells, Small, IsBroken}
 use Rattle.wh_model.specs.declared.faults.DecodeError.{DecodeError}
 use Rattle.wh_decode.specs.ReadingModule.{module_of}
 use Rattle.wh_decode.proofs.Modules.{one_fault, one_module, fault_or_module, module_found, module_fault}

@@ -1,7 +1,7 @@
 use Rattle.std.proofs.Common.{◌+◌, ◌-◌, List, sym, ap, ◌∙◌}
 use Rattle.std.proofs.lemmas.Result.{err_from_is_err_and}
 use Rattle.wh_model.specs.declared.ValType.{ValType}
-use Rattle.wh_model.specs.Format.Opcodes.{value_type}
+use Rattle.wh_model.specs.Format.{value_type}
 use Rattle.wh_leb.specs.Reading.{one_at, times_at, with_front}
 use Rattle.wh_leb.proofs.Counted.{goes, fails, is_done}
 use Rattle.wh_decode.proofs.types.val_types.Goals as goal

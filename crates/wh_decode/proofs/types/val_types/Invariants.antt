@@ -1,5 +1,5 @@
 use Rattle.std.proofs.Common.{◌≡◌, ◌-◌, ◌≤◌, length}
-use Rattle.wh_model.specs.Format.Opcodes.{value_type}
+use Rattle.wh_model.specs.Format.{value_type}
 use Rattle.wh_leb.specs.Reading.{one_at, times_at, with_front}
 use Rattle.wh_decode.proofs.types.val_types.Given as goal
 

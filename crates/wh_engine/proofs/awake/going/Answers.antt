@@ -1,6 +1,6 @@
 use Rattle.std.proofs.Common.{[], ◌≢◌, sym, subst}
 use Rattle.std.specs.Global.{Vec}
-use Rattle.wh_host_model.specs.declared.plain.InstId.{InstId}
+use Rattle.wh_space_model.specs.declared.plain.InstId.{InstId}
 use Rattle.wh_engine.specs.Draining.{SomeGoes}
 use Rattle.wh_engine.proofs.awake.going.Goals as goal
 use Rattle.wh_engine.proofs.awake.going.Goals.{then-can_go_on+in_ok-push, else-can_go_on}

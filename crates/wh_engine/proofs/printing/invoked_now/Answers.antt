@@ -1,5 +1,5 @@
 use Rattle.std.proofs.Common.{refl, ap, sym, subst, ◌∙◌}
-use Rattle.wh_script_model.specs.Drains.{is_refused}
+use Rattle.wh_script_model.specs.{is_refused}
 use Rattle.wh_replies.specs.View.{status_of}
 use Rattle.wh_replies.specs.declared.call.Status.TheVariants.{Refused}
 use Rattle.wh_script_laws.specs.Printed.{WasPrinted}

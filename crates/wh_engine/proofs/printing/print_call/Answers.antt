@@ -1,7 +1,7 @@
 use Rattle.std.proofs.Common.{Some, refl, sym, subst, ◌∙◌}
 use Rattle.std.proofs.lemmas.Option.{same_Some}
 use Rattle.wh_script_model.specs.Texts as texts
-use Rattle.wh_script_model.specs.Drains.{PrintsLine, PrintsCall}
+use Rattle.wh_script_model.specs.{PrintsLine, PrintsCall}
 use Rattle.wh_replies.specs.View.{status_of}
 use Rattle.wh_engine.proofs.printing.print_call.Goals as goal
 

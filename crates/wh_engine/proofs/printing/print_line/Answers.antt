@@ -1,6 +1,5 @@
 use Rattle.std.proofs.Common.{◌∷◌, [], ap, option_map, string_bytes}
-use Rattle.wh_script_model.specs.Texts.{call_is}
-use Rattle.wh_script_model.specs.Drains.{as_before, anew}
+use Rattle.wh_script_model.specs.{call_is, as_before, anew}
 use Rattle.wh_replies.specs.View.{caller_of, status_of}
 use Rattle.wh_engine.proofs.Printings.{adds_none, adds_one, another_line, on_ok_then}
 use Rattle.wh_engine.proofs.printing.print_line.Goals as goal

@@ -1,6 +1,6 @@
 use Rattle.std.proofs.Common.{[], Some, refl, ap, sym, subst, ◌∙◌, option_map, string_bytes}
 use Rattle.std.proofs.lemmas.Option.{same_Some}
-use Rattle.wh_script_model.specs.Drains.{call_status, has_none}
+use Rattle.wh_script_model.specs.{call_status, has_none}
 use Rattle.wh_replies.specs.View.{status_of}
 use Rattle.wh_script_laws.specs.Printed.{WasPrinted}
 use Rattle.wh_engine.proofs.Printings.{adds_none, no_start, starts_so}

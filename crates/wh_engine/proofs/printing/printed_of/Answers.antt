@@ -1,5 +1,5 @@
 use Rattle.std.proofs.Common.{false, ap, sym, subst, ◌∙◌}
-use Rattle.wh_script_model.specs.Drains.{status_by}
+use Rattle.wh_script_model.specs.{status_by}
 use Rattle.wh_instance.specs.Told.{IsCallStatus}
 use Rattle.wh_engine.proofs.printing.printed_of.Goals as goal
 use Rattle.wh_script_laws.specs.Following.{device_fault}

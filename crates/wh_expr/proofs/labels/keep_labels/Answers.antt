@@ -15,11 +15,10 @@ loop-index-preserved c =
     let read = c.loop-index.invariant.same in
     let step = goes u32_at read.0 c.args.count c.loop-index.index c.args.bytes.now c.loop-index.place (times_at c.args.count u32_at c.args.bytes.now c.args.at) c.loop-index-test.true read.2 c.in_ok-label.label c.in_ok-label.next (sym c.in_ok-label.ensures.exact) in
     let kept = c.in_ok-keep_label.ensures.ok in
-    let grown = c.loop-index.invariant.grows in
     record {
       inside = c.in_ok-label.ensures.inside;
       paid = (let before = c.loop-index.invariant.paid in let more = c.in_ok-label.ensures.beyond in omega arith);
-      grows = omega (arith, grown, ap length kept, length-append c.loop-index.labels.items (c.in_ok-label.label ∷ []));
+      grows = omega (arith, c.loop-index.invariant.grows, ap length kept, length-append c.loop-index.labels.items (c.in_ok-label.label ∷ []));
       same = (read.0 ++ c.in_ok-label.label ∷ [], kept ∙ ap (λ (x : List ℕ). x ++ (c.in_ok-label.label ∷ [])) read.1 ∙ append_assoc c.args.labels.now.items read.0 (c.in_ok-label.label ∷ []), step);
     }
 

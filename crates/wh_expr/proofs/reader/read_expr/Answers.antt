@@ -1,4 +1,4 @@
-use Rattle.wh_model.specs.Format.Instructions.{expr}
+use Rattle.wh_model.specs.Format.{expr}
 use Rattle.wh_leb.proofs.Told.{gives_found, gives_complete, gives_broken}
 use Rattle.wh_expr.specs.ReadingCode.{code_at}
 use Rattle.wh_expr.proofs.Expressions.{reads_expr}

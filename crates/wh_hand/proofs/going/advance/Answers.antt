@@ -15,10 +15,9 @@ returns-in_default-clause-lists c =
 
 pub settle-requires-clause-settles : goal.settle-requires-clause-settles
 settle-requires-clause-settles c =
-    let line = c.args.line.now.items in
     let rest = c.pop_front.new.self.items in
     let id = c.in-Some.id in
-    let first = first_is line rest c.pop_front.result id c.pop_front.ensures.items c.in-Some.is in
+    let first = first_is c.args.line.now.items rest c.pop_front.result id c.pop_front.ensures.items c.in-Some.is in
     to_settle_first c.args.host.now c.counted_turn-taken.new.host rest id (subst (Lists c.args.host.now) first c.requires.lists)
     (keeps_then c.args.host.now c.make_ready.new.host c.counted_turn-taken.new.host id c.make_ready.ensures.others c.counted_turn-taken.ensures.others)
 
@@ -46,8 +45,7 @@ returns-clause-whole c =
 
 pub counted_turn-taken-requires-clause-goes : goal.counted_turn-taken-requires-clause-goes
 counted_turn-taken-requires-clause-goes c =
-    let line = c.args.line.now.items in
     let id = c.in-Some.id in
-    let first = first_is line c.pop_front.new.self.items c.pop_front.result id c.pop_front.ensures.items c.in-Some.is in
+    let first = first_is c.args.line.now.items c.pop_front.new.self.items c.pop_front.result id c.pop_front.ensures.items c.in-Some.is in
     let lists = subst (Lists c.args.host.now) first c.requires.lists in
     (c.make_ready.ensures.others id).0 (lists.goes id (inl refl))

@@ -1,4 +1,4 @@
-use Rattle.wh_host_model.specs.Host.Events.{epoch}
+use Rattle.wh_host_model.specs.Host.{epoch}
 use Rattle.wh_hand.proofs.Steps.{moved_by, moved_itself}
 use Rattle.wh_hand.proofs.going.begin_epoch.Goals as goal
 

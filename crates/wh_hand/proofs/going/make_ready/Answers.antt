@@ -1,4 +1,4 @@
-use Rattle.wh_host_model.specs.Host.Happens.{AwaitsFrame}
+use Rattle.wh_host_model.specs.Host.{AwaitsFrame}
 use Rattle.wh_host.specs.Paging.{MovesWith}
 use Rattle.std.specs.Prelude.{None}
 use Rattle.wh_hand.proofs.Goers.{made_ready}

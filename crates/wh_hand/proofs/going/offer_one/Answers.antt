@@ -1,4 +1,4 @@
-use Rattle.wh_host_model.specs.Host.Events.{PageId, offer}
+use Rattle.wh_host_model.specs.Host.{PageId, offer}
 use Rattle.wh_hand.proofs.Steps.{moved_by, moved_itself}
 use Rattle.wh_hand.proofs.going.offer_one.Goals as goal
 

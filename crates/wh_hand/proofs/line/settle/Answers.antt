@@ -28,10 +28,7 @@ push_back_reserved-requires c =
     (subst (IsToSettle c.args.host.now c.args.line.now.items c.args.id) c.if-stands.false c.requires.settles)
     (subst (λ b. Tells c.args.host.now b (λ w. IsGoing w c.args.id))
     (told_so c.can_go_on-goes.result c.args.stands c.if-goes-stands.false c.if-stands.false) c.can_go_on-goes.ensures) in
-    let long = c.args.line.now.ok.0 in
-    let few = c.requires.few in
-    let room = c.requires.room in
-    omega (arith, less, long, few, room)
+    omega (arith, less, c.args.line.now.ok.0, c.requires.few, c.requires.room)
 
 pub returns-clause-lists : goal.returns-clause-lists
 returns-clause-lists c =

@@ -26,10 +26,8 @@ loop-at-preserved c =
 pub returns-clause-free : goal.returns-clause-free
 returns-clause-free c = λ k y there.
     (let now = c.loop-at in
-    let h = now.invariant in
-    let run = c.requires.6 in
     let within = index_there now.runners k y there in
-    h.done k y (omega (arith, within, c.loop-at-test.false, now.auto.runners, now.auto.at-end)) there (λ z at gone. (run.rest k z at gone).0))
+    now.invariant.done k y (omega (arith, within, c.loop-at-test.false, now.auto.runners, now.auto.at-end)) there (λ z at gone. (c.requires.6.rest k z at gone).0))
 
 pub returns-clause-turns : goal.returns-clause-turns
 returns-clause-turns c = λ h q most before s w run host.
@@ -40,6 +38,5 @@ returns-clause-turns c = λ h q most before s w run host.
 pub returns-clause-answers : goal.returns-clause-answers
 returns-clause-answers c = λ k y there.
     (let now = c.loop-at in
-    let h = now.invariant in
     let within = index_there now.runners k y there in
-    h.answers k y (omega (arith, within, c.loop-at-test.false, now.auto.runners, now.auto.at-end)) there)
+    now.invariant.answers k y (omega (arith, within, c.loop-at-test.false, now.auto.runners, now.auto.at-end)) there)

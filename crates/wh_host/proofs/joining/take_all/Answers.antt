@@ -14,10 +14,9 @@ loop-at-preserved c =
     let n = c.min-lent.result in
     let y2 = c.take_out.new.runner in
     let more = lent_next now.entries.slots now.runners now.at y n c.take_out.new.entries.slots y2 there c.take_out.ensures in
-    let few = now.invariant.1 in
     let least = c.min-lent.ensures in (
       taken_next c.args.entries.now.slots c.args.runners.now now.entries.slots now.runners now.at y n c.take_out.new.entries.slots y2 now.invariant.0 there c.take_out.ensures,
-      omega (arith, more, few, least),
+      omega (arith, more, now.invariant.1, least),
     )
 
 pub returns-clause-frames : goal.returns-clause-frames
@@ -33,6 +32,5 @@ returns-clause-rest c = λ k y there free.
 pub returns-clause-left : goal.returns-clause-left
 returns-clause-left c = λ k y there free.
     (let now = c.loop-at in
-    let h = now.invariant.0 in
     let within = index_there now.runners k y there in
-    h.left k y (omega (arith, within, c.loop-at-test.false, now.auto.runners, now.auto.at-end)) there free)
+    now.invariant.0.left k y (omega (arith, within, c.loop-at-test.false, now.auto.runners, now.auto.at-end)) there free)

@@ -19,7 +19,6 @@ out_with y x tenant upper = record y {
 
 pub returns-in-Some-upper : goal.returns-in-Some-upper
 returns-in-Some-upper c =
-    let rs = c.args.entries.now.slots in
     let y = c.args.runner.now in
     let x = c.in-Some.entry.now in
     let n = c.args.frames in
@@ -29,13 +28,12 @@ returns-in-Some-upper c =
       was = sym c.in-Some.ensures.value;
       number = c.if-not-has_number.ensures;
       computes = c.if-not-computes.ensures;
-      entries = ap (λ z. slice_set rs y.id.place (Some (record x { number = None; tenant = z }))) c.swap.ensures.x_after;
+      entries = ap (λ z. slice_set c.args.entries.now.slots y.id.place (Some (record x { number = None; tenant = z }))) c.swap.ensures.x_after;
       runner = ap (λ z. out_with y x z (Some c.lend.new.self)) c.swap.ensures.y_after ∙ ap (out_with y x x.tenant) lent;
     })
 
 pub returns-in_default-upper : goal.returns-in_default-upper
 returns-in_default-upper c =
-    let rs = c.args.entries.now.slots in
     let y = c.args.runner.now in
     let x = c.in-Some.entry.now in
     let n = c.args.frames in
@@ -46,6 +44,6 @@ returns-in_default-upper c =
       was = sym c.in-Some.ensures.value;
       number = c.if-not-has_number.ensures;
       computes = c.if-not-computes.ensures;
-      entries = ap (λ z. slice_set rs y.id.place (Some (record x { number = None; tenant = z }))) c.swap.ensures.x_after;
+      entries = ap (λ z. slice_set c.args.entries.now.slots y.id.place (Some (record x { number = None; tenant = z }))) c.swap.ensures.x_after;
       runner = ap (λ z. out_with y x z y.upper) c.swap.ensures.y_after ∙ ap (out_with y x x.tenant) lent;
     })

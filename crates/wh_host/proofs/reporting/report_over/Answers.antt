@@ -1,6 +1,6 @@
 use Rattle.std.proofs.Common.{◌≡◌, ℕ, ◌-◌, List, length, map, arith, refl, ◌∙◌}
-use Rattle.wh_host_model.specs.declared.Tax.{Tax}
-use Rattle.wh_host_model.specs.Space.Parts.{Space}
+use Rattle.wh_space_model.specs.declared.Tax.{Tax}
+use Rattle.wh_space_model.specs.{Space}
 use Rattle.wh_host.specs.Reporting.{ReportRow, all_sharers, report_with, shared_frames, view_row}
 use Rattle.wh_host.proofs.Reports.{few_vacant}
 use Rattle.wh_host.proofs.Sharings.{frames_shared, pages_sharing}
@@ -13,9 +13,7 @@ same_numbers s rows frames used slots used_slots shared sharers tax e1 e2 e3 e4 
 pub overflow_sub-result : goal.overflow_sub-result
 overflow_sub-result c =
     let few = few_vacant c.args.memory.now c.requires in
-    let vacant = c.vacant_slots.ensures in
-    let slots = c.slots-slots.ensures in
-    omega (arith, few, vacant, slots)
+    omega (arith, few, c.vacant_slots.ensures, c.slots-slots.ensures)
 
 pub returns : goal.returns
 returns c =

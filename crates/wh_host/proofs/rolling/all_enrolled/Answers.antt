@@ -1,7 +1,7 @@
 use Rattle.std.proofs.Common.{◌≡◌, ◌++◌, ◌∙◌, List, ap, map, sym}
 use Rattle.std.proofs.lemmas.List.{append-nil}
 use Rattle.std.specs.Global.{Vec}
-use Rattle.wh_host.specs.declared.rolling.Enrolled.{Enrolled}
+use Rattle.wh_host.specs.declared.rolling.RollInstance.{RollInstance}
 use Rattle.wh_host.specs.Hosting.{entry_at}
 use Rattle.wh_host.specs.Rolls.{listed_by, listed_in, view_listed}
 use Rattle.wh_host.proofs.Enrolling.{listed_step, pushed_listed}
@@ -13,7 +13,7 @@ loop-at-preserved c =
     let rs = c.args.entries.now.slots in
     let instance_ref = c.ref_at-instance_ref.result in
     let before = map view_listed c.loop-at.list.items in
-    let items : Vec Enrolled → List Enrolled = λ v. v.items in
+    let items : Vec RollInstance → List RollInstance = λ v. v.items in
     let more : map view_listed c.match-get.list.items ≡ before ++ listed_in instance_ref (entry_at rs instance_ref.place) =
     elim c.match-get.branch [
       | in-Some+in_ok-enrolled_by+in_ok-push w ↦ ap (λ v. map view_listed (items v)) w.list-is

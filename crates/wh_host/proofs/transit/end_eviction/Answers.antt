@@ -1,6 +1,6 @@
 use Rattle.std.proofs.Common.{◌≡◌, true, Result, Ok, Err, OnOk, is_ok, refl, sym, subst}
-use Rattle.wh_host_model.specs.declared.plain.SwapError.{SwapError}
-use Rattle.wh_host_model.specs.Space.Tickets.{IsEvicting, IsWritten}
+use Rattle.wh_space_model.specs.declared.plain.SwapError.{SwapError}
+use Rattle.wh_space_model.specs.{IsEvicting, IsWritten}
 use Rattle.wh_host.proofs.Carrying.{is_evicting, written_holds}
 use Rattle.wh_host.proofs.transit.end_eviction.Goals as goal
 

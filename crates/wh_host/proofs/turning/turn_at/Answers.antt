@@ -1,6 +1,6 @@
 use Rattle.std.proofs.Common.{refl, sym, subst}
 use Rattle.wh_host_model.specs.declared.plain.TurnEnd.{TurnEnd}
-use Rattle.wh_host_model.specs.Space.Parts.{Space, view}
+use Rattle.wh_space_model.specs.{Space, view}
 use Rattle.wh_host.specs.Lent.{TurnsTo, settled_in}
 use Rattle.wh_host.proofs.Backed.{settled_backing, same_backing, then_backing}
 use Rattle.wh_host.proofs.Leavings.{turned_memory}
@@ -27,15 +27,21 @@ returns-clause-turns c t lies =
     let some = c.if-is_idle.ensures c.args.linked.now c.args.page_limit (view c.args.memory.now c.args.place) t lies.is in
     let to = c.turn_lent-turned.ensures.turns t some lies in
     let x2 = c.turn_lent-turned.new.tenant in
-    let by_answer = subst (λ (z : TurnEnd). TurnsTo c.args.linked.now c.args.page_limit c.args.q c.args.memory.now t z c.args.place x2 (settled_in c.turn_lent-turned.new.memory c.args.place c.turn_lent-turned.result)) (sym c.settle_at.ensures.answer) to.1 in
-    subst (λ (z : Space). TurnsTo c.args.linked.now c.args.page_limit c.args.q c.args.memory.now t c.settle_at.result c.args.place x2 z) (sym c.settle_at.ensures.leaves) by_answer
+    let by_answer = subst (λ (z : TurnEnd). TurnsTo c.args.linked.now c.args.page_limit c.args.q c.args.memory.now t z c.turn_lent-turned.result.1 c.args.place x2 (settled_in c.turn_lent-turned.new.memory c.args.place c.turn_lent-turned.result.0)) (sym c.settle_at.ensures.answer) to.1 in
+    subst (λ (z : Space). TurnsTo c.args.linked.now c.args.page_limit c.args.q c.args.memory.now t c.settle_at.result c.turn_lent-turned.result.1 c.args.place x2 z) (sym c.settle_at.ensures.leaves) by_answer
+
+pub returns-clause-few : goal.returns-clause-few
+returns-clause-few c =
+    let given = c.requires in
+    let some = c.if-is_idle.ensures c.args.linked.now c.args.page_limit (view c.args.memory.now c.args.place) given.0 given.1.is in
+    (c.turn_lent-turned.ensures.turns given.0 some given.1).1.0
 
 pub returns-clause-backing : goal.returns-clause-backing
 returns-clause-backing c =
     let s1 = c.turn_lent-turned.new.memory in
-    let settled = settled_in s1 c.args.place c.turn_lent-turned.result in
+    let settled = settled_in s1 c.args.place c.turn_lent-turned.result.0 in
     then_backing c.args.memory.now settled c.settle_at.new.memory
-    (then_backing c.args.memory.now s1 settled c.turn_lent-turned.ensures.backing (settled_backing s1 c.args.place c.turn_lent-turned.result))
+    (then_backing c.args.memory.now s1 settled c.turn_lent-turned.ensures.backing (settled_backing s1 c.args.place c.turn_lent-turned.result.0))
     (same_backing settled c.settle_at.new.memory c.settle_at.ensures.leaves)
 
 pub returns-then-is_idle-clause-backing : goal.returns-then-is_idle-clause-backing
@@ -43,7 +49,7 @@ returns-then-is_idle-clause-backing c = same_backing c.args.memory.now c.args.me
 
 pub returns-clause-memory : goal.returns-clause-memory
 returns-clause-memory c =
-    turned_memory c.args.place c.turn_lent-turned.result c.settle_at.result c.args.memory.now c.turn_lent-turned.new.memory c.settle_at.new.memory
+    turned_memory c.args.place c.turn_lent-turned.result.0 c.settle_at.result c.args.memory.now c.turn_lent-turned.new.memory c.settle_at.new.memory
     c.turn_lent-turned.ensures.steps c.settle_at.ensures.answer c.settle_at.ensures.leaves
 
 pub returns-then-is_idle-clause-memory : goal.returns-then-is_idle-clause-memory

@@ -1,4 +1,4 @@
-use Rattle.std.proofs.Common.{rules, ◌≡◌, refl, subst}
+use Rattle.std.proofs.Common.{rules, ◌≡◌, subst}
 use Rattle.wh_host.specs.Lent.{TurnsLent}
 use Rattle.wh_host.specs.Backing.{KeepsBacking}
 use Rattle.wh_space.specs.InstanceSteps.{TakesSteps}
@@ -15,17 +15,15 @@ pub returns-clause-turns : goal.returns-clause-turns
 returns-clause-turns c t some lies =
     let keeps = c.turn.ensures.keeps in
     let back : c.turn.new.memory.memory.now ≡ _ = search rules in
-    subst (λ z. TurnsLent c.args.linked.now c.args.page_limit c.args.q c.args.memory.now t c.args.place c.turn.new.self z c.turn.result) back
-    (lent_turn c.args.linked.now c.args.q c.args.tenant.now c.turn.new.self _ c.turn.new.memory t c.turn.result (record { sound = c.invariant.ensures.sound; keeps = keeps; lies = lies; turns = c.turn.ensures.turns }) some c.turn.result refl)
+    subst (λ z. TurnsLent c.args.linked.now c.args.page_limit c.args.q c.args.memory.now t c.args.place c.turn.new.self z c.turn.result.0 c.turn.result.1) back
+    (lent_turn c.args.linked.now c.args.q c.args.tenant.now c.turn.new.self _ c.turn.new.memory t c.turn.result.0 c.turn.result.1 (record { sound = c.invariant.ensures.sound; keeps = keeps; lies = lies; turns = c.turn.ensures.turns }) some)
 
 pub returns-clause-backing : goal.returns-clause-backing
 returns-clause-backing c =
-    let keeps = c.turn.ensures.keeps in
     let back : c.turn.new.memory.memory.now ≡ _ = search rules in
-    subst (KeepsBacking c.args.memory.now) back (rest_backing c.args.place c.args.memory.now c.turn.new.memory.memory.now keeps.3)
+    subst (KeepsBacking c.args.memory.now) back (rest_backing c.args.place c.args.memory.now c.turn.new.memory.memory.now c.turn.ensures.keeps.3)
 
 pub returns-clause-steps : goal.returns-clause-steps
 returns-clause-steps c =
-    let keeps = c.turn.ensures.keeps in
     let back : c.turn.new.memory.memory.now ≡ _ = search rules in
-    subst (TakesSteps c.args.place c.args.memory.now) back keeps.3.steps
+    subst (TakesSteps c.args.place c.args.memory.now) back c.turn.ensures.keeps.3.steps

@@ -1,5 +1,5 @@
 use Rattle.std.proofs.Common.{rules, ◌≡◌, ◌<◌, length, slice_index_or, map, subst, sym}
-use Rattle.wh_model.specs.Linking.Imports.{ImportsItem, LacksItem}
+use Rattle.wh_model.specs.Linking.{ImportsItem, LacksItem}
 use Rattle.wh_syntax.specs.View.{view_type, view_import, view_module}
 use Rattle.wh_imports.specs.LinkRefusals.{RefusesLink}
 use Rattle.wh_imports.proofs.ResolvingLemmas.{stands_at, refuses, has_more, resolved_more}

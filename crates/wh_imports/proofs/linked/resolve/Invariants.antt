@@ -1,6 +1,6 @@
 use Rattle.std.proofs.Common.{map, take}
 use Rattle.std.specs.List.{AllByRecursion}
-use Rattle.wh_model.specs.Linking.Imports.{HasItem}
+use Rattle.wh_model.specs.Linking.{HasItem}
 use Rattle.wh_syntax.specs.View.{view_type, view_import}
 use Rattle.wh_imports.specs.Resolving.{AreResolved}
 use Rattle.wh_imports.proofs.linked.resolve.Given as goal

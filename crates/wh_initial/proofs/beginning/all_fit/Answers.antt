@@ -1,5 +1,5 @@
 use Rattle.std.proofs.Common.{◌∙◌, ◌*◌, map, ap}
-use Rattle.wh_model.specs.Execution.Instance.{first_size}
+use Rattle.wh_model.specs.Execution.{first_size}
 use Rattle.wh_syntax.specs.View.{view_limits, view_table}
 use Rattle.wh_initial.specs.InBasis.{words_of_basis}
 use Rattle.wh_initial.proofs.InWordsLemmas.{elements_pass, both_decide}

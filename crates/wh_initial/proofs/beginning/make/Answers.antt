@@ -1,5 +1,5 @@
 use Rattle.std.proofs.Common.{◌∙◌, map, ap}
-use Rattle.wh_model.specs.Execution.Instance.{first_size}
+use Rattle.wh_model.specs.Execution.{first_size}
 use Rattle.wh_syntax.specs.View.{view_table}
 use Rattle.wh_initial.specs.Given.{view_parameters}
 use Rattle.wh_initial.specs.InWords.{words_of_globals}

@@ -11,8 +11,7 @@ index-requires c =
     let s = c.args.basis.now in
     let there = own_there s.module.now s.imported.now (view_parameters s.parameters.now) c.args.index c.requires.there
     c.if-index-imported.false in
-    let all = s.module.now.globals.ok in
-    omega (arith, there, all)
+    omega (arith, there, s.module.now.globals.ok)
 
 pub own_word-requires : goal.own_word-requires
 own_word-requires c =

@@ -1,5 +1,5 @@
 use Rattle.std.proofs.Common.{◌≡◌, None, map, drop, replicate, length}
-use Rattle.wh_model.specs.Execution.Instance.{filled}
+use Rattle.wh_model.specs.Execution.{filled}
 use Rattle.wh_initial.specs.ConstantWords.{element_piece}
 use Rattle.wh_initial.specs.InBasis.{words_of_basis}
 use Rattle.wh_initial.proofs.table.first_table.Given as goal

@@ -6,7 +6,5 @@ use Rattle.wh_instance.proofs.beginning.first_journal.Goals as goal
 
 pub returns : goal.returns
 returns c =
-    let given = c.new.ensures.items in
-    let words = c.new-2.ensures.items in
-    let call : c.new-call.result ≡ start_call c.args.start c.args.fuel end.Open = rw (given, words) at c.new-call.ensures in
+    let call : c.new-call.result ≡ start_call c.args.start c.args.fuel end.Open = rw (c.new.ensures.items, c.new-2.ensures.items) at c.new-call.ensures in
     ended_at_first c.new-journal.result c.push.new.self c.end_present.new.self c.new-call.result c.args.start c.args.fuel c.args.over c.if-not-over.false c.new-journal.ensures c.in_ok-push.ensures.ok call c.end_present.ensures

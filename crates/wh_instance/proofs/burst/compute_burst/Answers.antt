@@ -51,7 +51,6 @@ loop-behind-preserved g c =
     let after = call_state r.new.machine r.new.store r.new.memory in
     let first = subst (λ a. ComputesWithin w before (z.ended.turns * q) left a z.ended.charges mid) (c.if-not-goes_on.ensures.may refl).0 z.invariant.computes in
     let stands = still_there w before mid (z.ended.turns * q) left z.ended.charges first c.requires in
-    let all = stands.2 in
     let limit = g.met.M.LinearMem.keeps_limit c.args.memory.now z.memory z.invariant.keeps in
     let then = subst (λ (n : ℕ). ComputesWithin (setting_of c.args.linked.now g.M.LinearMem.bytes g.M.LinearMem.ready g.M.LinearMem.keeps n) mid q (left - z.ended.charges) r.result.0 r.result.1 after) limit r.ensures.computes in
     let both = goes_further w before mid after (z.ended.turns * q) q left z.ended.charges r.result.1 r.result.0 first then in
@@ -63,7 +62,7 @@ loop-behind-preserved g c =
       turns = omega (arith, c.from.ensures);
       leave = (let one = c.if-not-goes_on.ensures.leave refl in let had = z.invariant.leave in omega (arith, one, had));
       computes = subst (λ n. ComputesWithin w before n left r.result.0 (z.ended.charges + r.result.1) after) (sym grows) both;
-      used = inr (least, omega arith, omega (arith, grows, all, some));
+      used = inr (least, omega arith, omega (arith, grows, stands.2, some));
       keeps = g.met.M.LinearMem.keeps_more c.args.memory.now z.memory r.new.memory z.invariant.keeps r.ensures.keeps;
     }
 
@@ -79,9 +78,7 @@ overflow_add-ended g c =
     let after = call_state r.new.machine r.new.store r.new.memory in
     let first = subst (λ a. ComputesWithin w before (z.ended.turns * q) left a z.ended.charges mid) (c.if-not-goes_on.ensures.may refl).0 z.invariant.computes in
     let stands = still_there w before mid (z.ended.turns * q) left z.ended.charges first c.requires in
-    let less = stands.1 in
     let limit = g.met.M.LinearMem.keeps_limit c.args.memory.now z.memory z.invariant.keeps in
     let then = subst (λ (n : ℕ). ComputesWithin (setting_of c.args.linked.now g.M.LinearMem.bytes g.M.LinearMem.ready g.M.LinearMem.keeps n) mid q (left - z.ended.charges) r.result.0 r.result.1 after) limit r.ensures.computes in
     let few = in_fuel w mid after q (left - z.ended.charges) r.result.1 r.result.0 then stands.0 in
-    let fits = c.ranges.left.fits in
-    omega (arith, less, few, fits)
+    omega (arith, stands.1, few, c.ranges.left.fits)

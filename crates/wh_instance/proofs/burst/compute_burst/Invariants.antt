@@ -1,8 +1,7 @@
-use Rattle.std.proofs.Common.{◌≡◌, ℕ, ◌+◌, ◌*◌}
-use Rattle.wh_machine.specs.CallStates.{HasConfiguration, setting_of, call_state}
+use Rattle.std.proofs.Common.{◌≡◌, ◌+◌, ◌*◌}
+use Rattle.wh_machine.specs.CallStates.{setting_of, call_state}
 use Rattle.wh_instance.specs.Computed.{ComputesWithin}
 use Rattle.wh_instance.specs.Bursts.{AreUsed}
-use Rattle.wh_instance.specs.declared.computing.TurnOutcome.TheVariants.{Again}
 use Rattle.wh_instance.proofs.burst.compute_burst.Given as goal
 
 abbrev pub invariant-loop-behind : goal.invariant-loop-behind

@@ -1,7 +1,7 @@
 use Rattle.std.proofs.Common.{sym, subst}
 use Rattle.std.proofs.lemmas.Int.{to_z-of_z}
 use Rattle.std.specs.Int.{w128}
-use Rattle.wh_host_model.specs.Owners.{IsArgument}
+use Rattle.wh_host_model.specs.{IsArgument}
 use Rattle.wh_instance.proofs.Given.{IsGiven, same_count, one_more, one_less}
 use Rattle.wh_instance.proofs.numbers.are_given.Goals as goal
 

@@ -1,7 +1,7 @@
 use Rattle.std.proofs.Common.{ap, ◌∙◌, arith}
 use Rattle.std.proofs.lemmas.Int.{to_z-of_z}
 use Rattle.std.specs.Int.{w128}
-use Rattle.wh_model.specs.Execution.Numbers.{bits, unsigned}
+use Rattle.wh_model.specs.Execution.{bits, unsigned}
 use Rattle.wh_instance.proofs.Given.{word_pushed, words_done}
 use Rattle.wh_instance.proofs.numbers.words_for.Goals as goal
 
@@ -15,8 +15,5 @@ loop-at-preserved c =
 
 pub returns : goal.returns
 returns c =
-    let all = c.loop-at-test.false in
-    let end_is = c.loop-at.auto.at-end in
-    let as_many = c.requires in
     words_done c.args.params.now c.args.given.now c.loop-at.at c.loop-at.words.items
-    (omega (arith, all, end_is, as_many)) c.loop-at.invariant
+    (omega (arith, c.loop-at-test.false, c.loop-at.auto.at-end, c.requires)) c.loop-at.invariant

@@ -33,8 +33,7 @@ pub returns-in-None : goal.returns-in-None
 returns-in-None c =
     let l = c.args.linked.now in
     let f = c.in-Some.func in
-    let n = c.in-Some-word.word in
     let none : Option CallValue = None in
-    let by = value_told l f n None (λ cx inst type body is at. sym c.in-None.is ∙ c.result_type.ensures cx inst type body is at) in
+    let by = value_told l f c.in-Some-word.word None (λ cx inst type body is at. sym c.in-None.is ∙ c.result_type.ensures cx inst type body is at) in
     subst (λ func. IsReturnedAs l func c.args.word none) (sym c.in-Some.is)
     (subst (λ word. IsReturnedAs l (Some f) word none) (sym c.in-Some-word.is) by)

@@ -1,7 +1,6 @@
 use Rattle.std.proofs.Common.{◌≡◌, ◌∷◌, [], length, refl, sym, ap, subst, ◌∙◌}
 use Rattle.wh_model.proofs.Fragments.{length-written}
-use Rattle.wh_model.specs.Execution.Instance.{Piece}
-use Rattle.wh_model.specs.Execution.Taking.{wrote_all}
+use Rattle.wh_model.specs.Execution.{Piece, wrote_all}
 use Rattle.wh_instance.specs.Pieces.{pieces_left}
 use Rattle.wh_instance.proofs.Written.{more_written, next_within}
 use Rattle.wh_instance.proofs.writing.write_pieces.Goals as goal

@@ -11,10 +11,7 @@ pub overflow_add-address : goal.overflow_add-address
 overflow_add-address g c =
     let o = load_index c.args.op c.args.align c.args.offset c.requires.3 in
     let e = c.top.ensures o.0 o.1 o.2 in
-    let f = c.from.ensures in
-    let fits = o.3 in
-    let small = c.ranges.offset.fits in
-    omega (arith, e, f, fits, small)
+    omega (arith, e, c.from.ensures, o.3, c.ranges.offset.fits)
 
 pub pop-requires : goal.pop-requires
 pop-requires g c = let l = ap length (load_index c.args.op c.args.align c.args.offset c.requires.3).2 in omega (arith, l)

@@ -11,8 +11,7 @@ pub overflow_cast-count : goal.overflow_cast-count
 overflow_cast-count g c =
     let o = grow_asks c.requires.3 in
     let e = (heads (sym c.pop-count.ensures.taken ∙ o.2)).0 in
-    let fits = o.3 in
-    omega (arith, e, fits)
+    omega (arith, e, o.3)
 
 pub advance-requires : goal.advance-requires
 advance-requires g c = place_fits c.requires.3

@@ -1,5 +1,5 @@
 use Rattle.std.proofs.Common.{◌-◌, ℕ, length, arith}
-use Rattle.wh_model.specs.Format.Syntax.{call}
+use Rattle.wh_model.specs.Format.{call}
 use Rattle.wh_control.proofs.Constructs.{at_now}
 use Rattle.wh_machine.specs.Program.{parts_in}
 use Rattle.wh_machine.proofs.Seeing.{host_looks}
@@ -11,7 +11,6 @@ use Rattle.wh_machine.proofs.asking.asks_call.Goals as goal
 
 pub returns-then-index-program : goal.returns-then-index-program
 returns-then-index-program g c =
-    let code = c.requires.0 in
     let r = c.requires.1 in
     let p = parts_in c.args.program.now in
     let low = c.if-index-program.true in

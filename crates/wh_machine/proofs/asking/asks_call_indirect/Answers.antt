@@ -1,5 +1,5 @@
 use Rattle.std.proofs.Common.{◌≡◌, ◌∷◌, ℕ, List, Option, Some, slice_get, ap, sym, subst, ◌∙◌, length, arith}
-use Rattle.wh_model.specs.Format.Syntax.{call_indirect}
+use Rattle.wh_model.specs.Format.{call_indirect}
 use Rattle.wh_syntax.specs.declared.instr.Instr.TheVariants.{CallIndirect}
 use Rattle.wh_control.proofs.Constructs.{at_now}
 use Rattle.wh_machine.specs.declared.calling.TableElement.{TableElement}
@@ -25,7 +25,6 @@ top-requires g c = let l = ap length (index_there c.args.type_index c.requires.1
 
 pub returns-in_default : goal.returns-in_default
 returns-in_default g c =
-    let code = c.requires.0 in
     let r = c.requires.1 in
     let i = index_there c.args.type_index r in
     let top = c.top.ensures i.0 i.1 i.2 in
@@ -33,7 +32,6 @@ returns-in_default g c =
 
 pub returns-then-index-program : goal.returns-then-index-program
 returns-then-index-program g c =
-    let code = c.requires.0 in
     let r = c.requires.1 in
     let i = index_there c.args.type_index r in
     let entry = named c.element_at.result (c.top.ensures i.0 i.1 i.2) c.deref.ensures.value c.element_at.ensures c.in-Func.is in
@@ -48,7 +46,6 @@ host_has_type-requires g c =
 
 pub returns-then-not-host_has_type : goal.returns-then-not-host_has_type
 returns-then-not-host_has_type g c =
-    let code = c.requires.0 in
     let r = c.requires.1 in
     let i = index_there c.args.type_index r in
     let entry = named c.element_at.result (c.top.ensures i.0 i.1 i.2) c.deref.ensures.value c.element_at.ensures c.in-Func.is in

@@ -10,20 +10,13 @@ pub overflow_add-address : goal.overflow_add-address
 overflow_add-address g c =
     let o = load_index c.args.op c.args.align c.args.offset c.requires.3 in
     let e = c.top.ensures o.0 o.1 o.2 in
-    let f = c.from.ensures in
-    let fits = o.3 in
-    let small = c.ranges.offset.fits in
-    omega (arith, e, f, fits, small)
+    omega (arith, e, c.from.ensures, o.3, c.ranges.offset.fits)
 
 pub within-requires : goal.within-requires
 within-requires g c =
     let o = load_index c.args.op c.args.align c.args.offset c.requires.3 in
     let e = c.top.ensures o.0 o.1 o.2 in
-    let f = c.from.ensures in
-    let fits = o.3 in
-    let small = c.ranges.offset.fits in
-    let few = c.load_width.ensures.few in
-    omega (arith, e, f, fits, small, few)
+    omega (arith, e, c.from.ensures, o.3, c.ranges.offset.fits, c.load_width.ensures.few)
 
 pub returns : goal.returns
 returns g c p code k r =

@@ -1,5 +1,5 @@
 use Rattle.std.proofs.Common.{◌-◌, ℕ, sym, subst, arith, length, refl}
-use Rattle.wh_model.specs.Format.Syntax.{call}
+use Rattle.wh_model.specs.Format.{call}
 use Rattle.wh_control.specs.Represents.{RepresentsCalls}
 use Rattle.wh_control.specs.ControlSteps.{entered}
 use Rattle.wh_control.proofs.Constructs.{at_now}
@@ -27,7 +27,6 @@ call_host-requires-clause-place g c = place_fits c.requires.1
 
 pub returns-then-index-imported-clause-executed : goal.returns-then-index-imported-clause-executed
 returns-then-index-imported-clause-executed g c =
-    let code = c.requires.0 in
     let r = c.requires.1 in
     let p = parts_in c.args.program.now in
     let m = c.args.stack.now in
@@ -36,22 +35,20 @@ returns-then-index-imported-clause-executed g c =
     let most = g.M.LinearMem.limit c.args.memory.now in
     subst (λ b. IsExec p (g.M.LinearMem.ready c.args.memory.now) m k flat most c.call_host.result c.call_host.new.stack c.call_host.new.store b) (sym c.call_host.ensures.bytes)
     (call_executed c.host_at.result c.call_host.result p (g.M.LinearMem.ready c.args.memory.now) m k flat most (call c.args.func) c.call_host.new.stack c.call_host.new.store r.sound
-    (before_call p m code k flat most c.args.func c.host_at.result r c.host_at.ensures) c.call_host.ensures.executed)
+    (before_call p m c.requires.0 k flat most c.args.func c.host_at.result r c.host_at.ensures) c.call_host.ensures.executed)
 
 pub enter_own-requires-clause-there : goal.enter_own-requires-clause-there
 enter_own-requires-clause-there g c =
     let r = c.requires.1 in
     let st = r.sound.stands in
     let at = at_now st.running (call c.args.func) (here r) in
-    let low = c.if-index-imported.false in
-    own_named st.instance.program c.args.func at.op_type.0 at.op_type.1 (omega (arith, low))
+    own_named st.instance.program c.args.func at.op_type.0 at.op_type.1 (omega (arith, c.if-index-imported.false))
 
 pub enter_own-requires-clause-params : goal.enter_own-requires-clause-params
 enter_own-requires-clause-params g c h at =
     let r = c.requires.1 in
     let st = r.sound.stands in
-    let low = c.if-index-imported.false in
-    call_room st.instance.program st.running c.args.func (c.args.func - length c.args.program.now.hosts.now) h (here r) at (omega (arith, low))
+    call_room st.instance.program st.running c.args.func (c.args.func - length c.args.program.now.hosts.now) h (here r) at (omega (arith, c.if-index-imported.false))
 
 pub enter_own-requires-clause-room : goal.enter_own-requires-clause-room
 enter_own-requires-clause-room g c h at shallow =
@@ -69,7 +66,6 @@ enter_own-requires-clause-place g c = place_fits c.requires.1
 
 pub returns-then-enter_own-clause-executed : goal.returns-then-enter_own-clause-executed
 returns-then-enter_own-clause-executed g c =
-    let code = c.requires.0 in
     let r = c.requires.1 in
     let p = parts_in c.args.program.now in
     let m = c.args.stack.now in
@@ -85,15 +81,13 @@ returns-then-enter_own-clause-executed g c =
 
 pub returns-clause-executed : goal.returns-clause-executed
 returns-clause-executed g c =
-    let code = c.requires.0 in
     let r = c.requires.1 in
     let p = parts_in c.args.program.now in
     let m = c.args.stack.now in
     let low = c.if-index-imported.false in
     let y : ℕ = c.args.func - length p.hosts in
-    let e = c.if-enter_own.ensures in
     let own = own_named r.sound.stands.instance.program c.args.func (at_now r.sound.stands.running (call c.args.func) (here r)).op_type.0 (at_now r.sound.stands.running (call c.args.func) (here r)).op_type.1 (omega (arith, low)) in
-    ((λ cx inst out s a ws st. call_traps cx inst p.hosts (funcs_in p) out (calls_of m) s m.frame a ws st.instance.program st.running c.args.func y own.0 (here r) own.1 (omega (arith, low)) e.0), refl, refl)
+    ((λ cx inst out s a ws st. call_traps cx inst p.hosts (funcs_in p) out (calls_of m) s m.frame a ws st.instance.program st.running c.args.func y own.0 (here r) own.1 (omega (arith, low)) c.if-enter_own.ensures.0), refl, refl)
 
 pub returns-then-index-imported-clause-found : goal.returns-then-index-imported-clause-found
 returns-then-index-imported-clause-found g c =
@@ -108,7 +102,6 @@ returns-then-index-imported-clause-found g c =
 
 pub returns-then-enter_own-clause-found : goal.returns-then-enter_own-clause-found
 returns-then-enter_own-clause-found g c =
-    let code = c.requires.0 in
     let r = c.requires.1 in
     let p = parts_in c.args.program.now in
     let low = c.if-index-imported.false in

@@ -1,6 +1,6 @@
 use Rattle.std.proofs.Common.{◌+◌, ℕ, sym, ap, subst, ◌∙◌, length, slice_get, refl}
-use Rattle.wh_model.specs.Format.Syntax.{call_indirect}
-use Rattle.wh_model.specs.Execution.Store.{own}
+use Rattle.wh_model.specs.Format.{call_indirect}
+use Rattle.wh_model.specs.Execution.{own}
 use Rattle.wh_control.specs.Represents.{RepresentsCalls}
 use Rattle.wh_control.specs.ControlSteps.{entered}
 use Rattle.wh_control.proofs.Constructs.{at_now}
@@ -15,14 +15,9 @@ use Rattle.wh_machine.proofs.calling.own_by_table.Goals as goal
 
 pub own_has_type-requires-clause-wanted : goal.own_has_type-requires-clause-wanted
 own_has_type-requires-clause-wanted c =
-    let p = parts_in c.args.program.now in
-    let m = c.args.stack.now in
     let y = c.args.type_index in
-    let w = c.requires.4 in
     let r = c.requires.5 in
-    let u = r.sound in
-    let st = u.stands in
-    let pm = pushed m w in
+    let st = r.sound.stands in
     let ty = (at_now st.running (call_indirect y) (here r)).op_type in
     wanted_there st y ty.1 ty.3
 
@@ -50,15 +45,10 @@ enter_own-requires-clause-there c = table_own c.requires.5.sound.stands c.requir
 
 pub enter_own-requires-clause-params : goal.enter_own-requires-clause-params
 enter_own-requires-clause-params c g at =
-    let p = parts_in c.args.program.now in
-    let m = c.args.stack.now in
     let y = c.args.type_index in
-    let w = c.requires.4 in
     let r = c.requires.5 in
-    let u = r.sound in
-    let st = u.stands in
-    let pm = pushed m w in
-    indirect_room st.instance.program st.running y c.args.func g (here r) w m.words refl at (ap (λ ts. slice_get ts y) st.instance.types ∙ c.if-not-own_has_type.ensures g at)
+    let st = r.sound.stands in
+    indirect_room st.instance.program st.running y c.args.func g (here r) c.requires.4 c.args.stack.now.words refl at (ap (λ ts. slice_get ts y) st.instance.types ∙ c.if-not-own_has_type.ensures g at)
 
 pub enter_own-requires-clause-room : goal.enter_own-requires-clause-room
 enter_own-requires-clause-room c g at shallow =

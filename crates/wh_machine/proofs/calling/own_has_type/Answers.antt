@@ -14,8 +14,7 @@ index-requires c =
     let m = c.args.program.now.module.now in
     let p = parts_of (map view_type m.types.items) m.funcs.items (map view_body m.bodies.items) (map view_side c.args.program.now.tables.now) c.args.func c.requires.there.0 c.requires.there.1 in
     let k = slice_get_within m.funcs.items c.args.func p.x p.x_at in
-    let o = m.funcs.ok in
-    omega (arith, k, o)
+    omega (arith, k, m.funcs.ok)
 
 pub index-requires-2 : goal.index-requires-2
 index-requires-2 c =
@@ -23,8 +22,7 @@ index-requires-2 c =
     let p = parts_of (map view_type m.types.items) m.funcs.items (map view_body m.bodies.items) (map view_side c.args.program.now.tables.now) c.args.func c.requires.there.0 c.requires.there.1 in
     let same = read_at m.funcs.items c.args.func c.index.result.now p.x c.index.ensures p.x_at in
     let k = all_of (λ x. x < length m.types.items) m.funcs.items c.args.func p.x c.requires.named p.x_at in
-    let o = m.types.ok in
-    omega (arith, k, o, same)
+    omega (arith, k, m.types.ok, same)
 
 pub returns-then-own-type_index : goal.returns-then-own-type_index
 returns-then-own-type_index c g at =

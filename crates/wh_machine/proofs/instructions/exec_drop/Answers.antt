@@ -1,6 +1,6 @@
 use Rattle.std.proofs.Common.{◌∷◌, sym, ap, ◌∙◌}
 use Rattle.wh_syntax.specs.declared.instr.Instr.TheVariants.{Drop}
-use Rattle.wh_model.specs.Format.Syntax.{drop_operand}
+use Rattle.wh_model.specs.Format.{drop_operand}
 use Rattle.wh_control.proofs.Constructs.{at_now}
 use Rattle.wh_control.specs.Parts.{funcs_in}
 use Rattle.wh_machine.specs.Executing.{calls_of}

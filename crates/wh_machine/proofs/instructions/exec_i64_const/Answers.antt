@@ -1,6 +1,6 @@
 use Rattle.std.proofs.Common.{◌∷◌, sym, subst, ◌+◌, arith}
 use Rattle.wh_intops.proofs.Numerals.{handed_64}
-use Rattle.wh_model.specs.Focus.Focused.{running}
+use Rattle.wh_model.specs.Focus.{running}
 use Rattle.wh_control.specs.ControlSteps.{goes_to}
 use Rattle.wh_control.specs.Next.{Next}
 use Rattle.wh_control.specs.Parts.{funcs_in}

@@ -1,5 +1,5 @@
 use Rattle.std.proofs.Common.{◌∷◌, sym, subst, ◌+◌, arith, refl}
-use Rattle.wh_model.specs.Focus.Focused.{running}
+use Rattle.wh_model.specs.Focus.{running}
 use Rattle.wh_control.specs.ControlSteps.{goes_to}
 use Rattle.wh_control.specs.Next.{Next}
 use Rattle.wh_control.specs.Represents.{bits_of}
@@ -9,7 +9,7 @@ use Rattle.wh_control.specs.Parts.{funcs_in}
 use Rattle.wh_machine.specs.Executing.{calls_of}
 use Rattle.wh_machine.proofs.ExecutingLemmas.{here, place_fits, charged_words, room_after, low_words}
 use Rattle.wh_syntax.specs.declared.instr.Instr.TheVariants.{LocalGet}
-use Rattle.wh_model.specs.Format.Syntax.{local_get}
+use Rattle.wh_model.specs.Format.{local_get}
 use Rattle.wh_machine.proofs.Locals.{local_needs, at_local, local_get_next}
 use Rattle.wh_machine.proofs.instructions.exec_local_get.Goals as goal
 
@@ -27,13 +27,12 @@ overflow_add-place c =
 
 pub local_get-requires-clause-there : goal.local_get-requires-clause-there
 local_get-requires-clause-there c =
-    let m = c.args.stack.now in
     let r = c.requires.1.ready in
     let u = r.sound in
     let n = u.stands.running in
     let at = at_now n (local_get c.args.local) (here r) in
     let k = local_needs n c.args.local at.op_type.0 at.op_type.1 in
-    let low = low_words n u.a.operands m.words n.words in
+    let low = low_words n u.a.operands c.args.stack.now.words n.words in
     omega (arith, k, low)
 
 pub local_get-requires-clause-room : goal.local_get-requires-clause-room

@@ -1,5 +1,5 @@
 use Rattle.std.proofs.Common.{◌++◌, sym, ap, subst, ◌∙◌, ◌+◌, arith, map, refl}
-use Rattle.wh_model.specs.Focus.Focused.{running}
+use Rattle.wh_model.specs.Focus.{running}
 use Rattle.wh_control.specs.ControlSteps.{goes_to}
 use Rattle.wh_control.specs.Next.{Next}
 use Rattle.wh_control.specs.Represents.{bits_of, operands_beneath}
@@ -11,7 +11,7 @@ use Rattle.wh_machine.proofs.Straight.{one}
 use Rattle.wh_machine.specs.Executing.{calls_of}
 use Rattle.wh_machine.proofs.ExecutingLemmas.{here, place_fits, charged_words, low_words}
 use Rattle.wh_syntax.specs.declared.instr.Instr.TheVariants.{LocalSet}
-use Rattle.wh_model.specs.Format.Syntax.{local_set}
+use Rattle.wh_model.specs.Format.{local_set}
 use Rattle.wh_machine.proofs.Locals.{local_needs, local_set_next}
 use Rattle.wh_machine.proofs.instructions.exec_local_set.Goals as goal
 
@@ -29,7 +29,6 @@ overflow_add-place c =
 
 pub local_set-requires : goal.local_set-requires
 local_set-requires c =
-    let m = c.args.stack.now in
     let r = c.requires.1.ready in
     let u = r.sound in
     let n = u.stands.running in

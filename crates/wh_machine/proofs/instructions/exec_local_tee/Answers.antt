@@ -1,5 +1,5 @@
 use Rattle.std.proofs.Common.{◌++◌, sym, ap, subst, ◌∙◌, ◌+◌, arith, refl}
-use Rattle.wh_model.specs.Focus.Focused.{running}
+use Rattle.wh_model.specs.Focus.{running}
 use Rattle.wh_control.specs.ControlSteps.{goes_to}
 use Rattle.wh_control.specs.Next.{Next}
 use Rattle.wh_control.proofs.Room.{in_room}
@@ -9,7 +9,7 @@ use Rattle.wh_machine.proofs.Straight.{one}
 use Rattle.wh_machine.specs.Executing.{calls_of}
 use Rattle.wh_machine.proofs.ExecutingLemmas.{here, place_fits, charged_words, low_words}
 use Rattle.wh_syntax.specs.declared.instr.Instr.TheVariants.{LocalTee}
-use Rattle.wh_model.specs.Format.Syntax.{local_tee}
+use Rattle.wh_model.specs.Format.{local_tee}
 use Rattle.wh_machine.proofs.Locals.{local_needs, local_tee_next}
 use Rattle.wh_machine.proofs.instructions.exec_local_tee.Goals as goal
 
@@ -27,14 +27,13 @@ overflow_add-place c =
 
 pub local_tee-requires : goal.local_tee-requires
 local_tee-requires c =
-    let m = c.args.stack.now in
     let r = c.requires.1.ready in
     let u = r.sound in
     let n = u.stands.running in
     let at = at_now n (local_tee c.args.local) (here r) in
     let k = local_needs n c.args.local at.op_type.0 at.op_type.1 in
     let o = one n at.op_type.0 at.below (at.types ∙ ap (λ xs. xs ++ at.below) at.op_type.2) in
-    let low = low_words n u.a.operands m.words n.words in
+    let low = low_words n u.a.operands c.args.stack.now.words n.words in
     (o.x, _, o.words, omega (arith, k, low))
 
 pub advance-requires : goal.advance-requires

@@ -1,7 +1,7 @@
 use Rattle.std.proofs.Common.{ℕ, List, sym, subst, ⊎_elim, ◌+◌}
 use Rattle.wh_syntax.specs.declared.instr.Instr.TheVariants.{Select}
-use Rattle.wh_model.specs.Format.Syntax.{select}
-use Rattle.wh_model.specs.Focus.Focused.{running}
+use Rattle.wh_model.specs.Format.{select}
+use Rattle.wh_model.specs.Focus.{running}
 use Rattle.wh_control.specs.ControlSteps.{goes_to}
 use Rattle.wh_control.specs.Next.{Next}
 use Rattle.wh_control.proofs.Constructs.{at_now}

@@ -27,6 +27,4 @@ overflow_add-stack c =
     let g = c.requires.there in
     let few = c.requires.few g.0 g.1 in
     let sizes = c.frame_size-params.ensures g.0 g.1 in
-    let one = sizes.0 in
-    let two = sizes.1 in
-    omega (arith, few, one, two)
+    omega (arith, few, sizes.0, sizes.1)

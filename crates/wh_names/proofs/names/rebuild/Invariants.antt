@@ -3,7 +3,7 @@ use Rattle.wh_names.specs.NameChains.{AreNameChains}
 use Rattle.wh_names.specs.NameHash.{bucket_at}
 use Rattle.wh_names.proofs.names.rebuild.Given as goal
 
--- so many names are in the chains
+-- n names are in the chains
 abbrev pub invariant-loop-place : goal.invariant-loop-place
 invariant-loop-place l = record {
   links : length l.chains.links.items ≡ l.place;

@@ -1,6 +1,6 @@
 use Rattle.std.proofs.Common.{◌≡◌, ◌≤◌, [], subst, sym, arith}
 use Rattle.std.proofs.lemmas.Grind.{common_steps}
-use Rattle.wh_host_model.specs.Space.Parts.{view}
+use Rattle.wh_space_model.specs.{view}
 use Rattle.wh_overlay.specs.LaidBack.{HasLaid}
 use Rattle.wh_overlay.specs.LaidPages.{grown_by}
 use Rattle.wh_overlay.proofs.Grown.{come_after, sees_grown}

@@ -1,6 +1,6 @@
-use Rattle.std.proofs.Common.{◌≡◌, ◌+◌, ◌*◌, ◌≤◌, [], ◌∷◌, Some, ap, get_or, length, refl, slice_get, subst, take}
+use Rattle.std.proofs.Common.{◌≡◌, ◌+◌, ◌*◌, ◌≤◌, [], ◌∷◌, Some, ap, get_or, refl, slice_get, subst, take}
 use Rattle.std.proofs.lemmas.Option.{slice_get-get_or}
-use Rattle.wh_host_model.specs.Space.Parts.{view}
+use Rattle.wh_space_model.specs.{view}
 use Rattle.wh_overlay.specs.LaidBack.{HasLaid}
 use Rattle.wh_overlay.proofs.Marks.{taken_next}
 use Rattle.wh_overlay.proofs.LaidSteps.{laid_on, no_step, touch_step}

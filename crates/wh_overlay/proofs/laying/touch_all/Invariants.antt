@@ -1,5 +1,5 @@
 use Rattle.std.proofs.Common.{◌≡◌, [], take}
-use Rattle.wh_host_model.specs.Space.Parts.{view}
+use Rattle.wh_space_model.specs.{view}
 use Rattle.wh_overlay.specs.LaidBack.{HasLaid}
 use Rattle.wh_overlay.proofs.laying.touch_all.Given as goal
 

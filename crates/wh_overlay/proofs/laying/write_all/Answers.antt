@@ -1,11 +1,8 @@
 use Rattle.std.proofs.Common.{◌≡◌, ◌∙◌, ℕ, ◌+◌, ◌*◌, ◌≤◌, List, [], ◌∷◌, ◌++◌, inl, Some, drop, take, get_or, slice_get, zero, suc, refl, ap, sym, subst, arith}
 use Rattle.std.proofs.lemmas.Option.{slice_get-get_or}
-use Rattle.wh_model.specs.Execution.Memory.{Stores}
-use Rattle.wh_model.specs.Execution.Store.{written}
-use Rattle.wh_host_model.specs.Frames.{tally}
-use Rattle.wh_host_model.specs.Space.Parts.{Space, view}
-use Rattle.wh_host_model.specs.Space.Ready.{IsAtHand, Ready}
-use Rattle.wh_host_model.specs.Space.States.{at, page_at}
+use Rattle.wh_model.specs.Execution.{Stores, written}
+use Rattle.wh_space_model.specs.{tally, Space, view, IsAtHand, at, page_at}
+use Rattle.wh_space_model.specs.Ready.{Ready}
 use Rattle.wh_space.specs.Steps.{LeavesStore}
 use Rattle.wh_overlay.specs.declared.upper.WrittenPage.{WrittenPage}
 use Rattle.wh_overlay.specs.LaidBack.{HasLaid}
@@ -52,9 +49,7 @@ loop-page-preserved c =
     let long = c.requires.whole k x there in
     let sum = in_all (λ (z : WrittenPage). at lacks_frame (page_at s.tables i z.number)) pages k x there in
     let one = lacking_less s m i (x ∷ []) had.0.alone (only s i x hand) in
-    let free = had.0.free in
-    let few = c.requires.frames in
-    let ready = page_ready m i x c.invariant.ensures.sound long (had.0.at_hand x.number hand) (omega (arith, sum, one, free, few)) in
+    let ready = page_ready m i x c.invariant.ensures.sound long (had.0.at_hand x.number hand) (omega (arith, sum, one, had.0.free, c.requires.frames)) in
     let s2 = c.store.new.self in
     let stores = subst (λ n. Stores (Ready m i) (view m i) (4096 * n) x.bytes c.store.result (view s2 i)) c.from.ensures c.store.ensures.stores in
     let leaves = subst (λ n. LeavesStore m i (4096 * n) x.bytes c.store.result s2) c.from.ensures c.store.ensures.leaves in

@@ -1,6 +1,6 @@
 use Rattle.std.proofs.Common.{◌<◌, ◌∙◌, sym, arith}
-use Rattle.wh_host_model.specs.Space.Ready.{frames_in_all, may_take}
-use Rattle.wh_host_model.proofs.Space.Serving.{can_leave}
+use Rattle.wh_space_model.specs.{frames_in_all, may_take}
+use Rattle.wh_space_model.proofs.Serving.{can_leave}
 use Rattle.wh_reclaim.proofs.Beginning.{begins_evict, wants_stands}
 use Rattle.wh_reclaim.proofs.Sending.{evicting_now}
 use Rattle.wh_reclaim.proofs.begin.evict_begin.Goals as goal

@@ -1,7 +1,5 @@
 use Rattle.std.proofs.Common.{◌≡◌, ◌∙◌, ℕ, length, min, ap, subst}
-use Rattle.wh_host_model.specs.Space.Parts.{Space}
-use Rattle.wh_host_model.specs.Space.Moves.{Earmarks, pinned}
-use Rattle.wh_host_model.specs.Space.Ready.{frames_in_all}
+use Rattle.wh_space_model.specs.{Space, Earmarks, pinned, frames_in_all}
 use Rattle.wh_reclaim.proofs.begin.reserve.Goals as goal
 
 pub returns-clause-reserves : goal.returns-clause-reserves

@@ -1,6 +1,6 @@
 use Rattle.std.proofs.Common.{◌∙◌, sym, subst}
 use Rattle.std.specs.Prelude.{IfOk, OnErr}
-use Rattle.wh_host_model.specs.Space.Provide.{FailsToProvide, FailsTruly, Provides, ProvidesTruly}
+use Rattle.wh_space_model.specs.{FailsToProvide, FailsTruly, Provides, ProvidesTruly}
 use Rattle.wh_reclaim.proofs.Beginning.{wants_stands}
 use Rattle.wh_reclaim.proofs.Providing.{is_right, keeps_others, none_left, one_need, under_err, under_ok}
 use Rattle.wh_reclaim.proofs.Whole.{provides_whole}

@@ -1,7 +1,6 @@
 use Rattle.std.proofs.Common.{◌≡◌, ◌∙◌, [], ◌∷◌, length, refl, ap, arith}
-use Rattle.wh_host_model.specs.Space.Parts.{Space, kept}
-use Rattle.wh_host_model.specs.Space.Provide.{comes, goes}
-use Rattle.wh_host_model.proofs.Space.Provided.{moves_nearer, serves_way}
+use Rattle.wh_space_model.specs.{Space, kept, comes, goes}
+use Rattle.wh_space_model.proofs.Provided.{moves_nearer, serves_way}
 use Rattle.wh_reclaim.specs.Providing.{left_by}
 use Rattle.wh_reclaim.proofs.DeviceCalls.{serves_still, serves_then}
 use Rattle.wh_reclaim.proofs.Going.{came_nearer, came_once, earmarked, gives_up, goes_came, goes_done, goes_left, left_nearer, left_once, none_kept, pinned_once, stands_still}

@@ -1,7 +1,5 @@
 use Rattle.std.proofs.Common.{◌≡◌, ◌+◌, ◌≤◌, ℕ, List, []}
-use Rattle.wh_host_model.specs.Frames.{one_if, tally}
-use Rattle.wh_host_model.specs.Space.Parts.{pinned_by}
-use Rattle.wh_host_model.specs.Space.Provide.{Move, Serves, ServesTruly, far, leaves}
+use Rattle.wh_space_model.specs.{one_if, tally, pinned_by, Move, Serves, ServesTruly, far, leaves}
 use Rattle.wh_swap.specs.DeviceCalls.{ServesOn}
 use Rattle.wh_reclaim.proofs.ready.provide_for.Given as goal
 

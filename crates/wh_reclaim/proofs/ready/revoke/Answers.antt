@@ -1,4 +1,4 @@
-use Rattle.wh_host_model.proofs.Space.Serving.{can_leave, page_is_there, slot_is_there}
+use Rattle.wh_space_model.proofs.Serving.{can_leave, page_is_there, slot_is_there}
 use Rattle.wh_reclaim.proofs.Providing.{revoked}
 use Rattle.wh_reclaim.proofs.ready.revoke.Goals as goal
 

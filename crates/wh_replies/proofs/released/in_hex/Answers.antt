@@ -1,6 +1,6 @@
 use Rattle.std.proofs.Common.{◌≡◌, arith, string_bytes}
 use Rattle.hex.specs.Hex.{encode_lower}
-use Rattle.wh_script_model.specs.Texts.{hex_text}
+use Rattle.wh_script_model.specs.{hex_text}
 use Rattle.wh_replies.proofs.Hex.{encoded_so, weaker}
 use Rattle.wh_replies.proofs.released.in_hex.Goals as goal
 

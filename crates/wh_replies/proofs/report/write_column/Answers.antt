@@ -1,7 +1,7 @@
 use Rattle.std.proofs.Common.{◌≡◌, ◌++◌, ◌∙◌, ap, OnOk, string_bytes, subst, arith}
 use Rattle.std.proofs.lemmas.Bool.{ne_eqb}
 use Rattle.std.specs.Fmt.{styled_decimal}
-use Rattle.wh_script_model.specs.Texts.{column}
+use Rattle.wh_script_model.specs.{column}
 use Rattle.wh_replies.proofs.Columns.{column_of}
 use Rattle.wh_replies.proofs.report.write_column.Goals as goal
 

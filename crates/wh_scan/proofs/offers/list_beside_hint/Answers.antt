@@ -1,8 +1,7 @@
 use Rattle.std.proofs.Common.{inr, ◌≡◌, ◌<◌, slice_get, slice_set, length, length-set, refl, ap, ◌∙◌, arith, rules}
-use Rattle.wh_host_model.specs.declared.states.Mark.TheVariants.{Plain, Sharers, Unlisted}
-use Rattle.wh_host_model.specs.Space.Offers.{IsOffered, joined_to}
-use Rattle.wh_host_model.specs.Space.Parts.{Space, frame_bytes}
-use Rattle.wh_host_model.proofs.Space.Putting.{set_same, there_of}
+use Rattle.wh_space_model.specs.declared.states.Mark.TheVariants.{Plain, Sharers, Unlisted}
+use Rattle.wh_space_model.specs.{IsOffered, joined_to, Space, frame_bytes}
+use Rattle.wh_space_model.proofs.Putting.{set_same, there_of}
 use Rattle.wh_scan.proofs.offers.list_beside_hint.Goals as goal
 
 pub returns-then-ne : goal.returns-then-ne

@@ -1,6 +1,5 @@
 use Rattle.std.proofs.Common.{inr, ◌≡◌, rules}
-use Rattle.wh_host_model.specs.Space.Offers.{IsOffered}
-use Rattle.wh_host_model.specs.Space.Parts.{frame_bytes}
+use Rattle.wh_space_model.specs.{IsOffered, frame_bytes}
 use Rattle.wh_scan.proofs.offers.offer_to_hint.Goals as goal
 
 pub returns : goal.returns

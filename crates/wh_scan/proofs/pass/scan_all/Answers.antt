@@ -1,5 +1,5 @@
 use Rattle.std.proofs.Common.{◌+◌, ◌∙◌, ◌^◌, ◌<◌, ℕ, Option, Some, None, subst, arith}
-use Rattle.wh_host_model.proofs.Space.Passed.{passes_fully}
+use Rattle.wh_space_model.proofs.Passed.{passes_fully}
 use Rattle.wh_tables.specs.Line.{IsAbove}
 use Rattle.wh_scan.specs.Pass.{ScansAll}
 use Rattle.wh_scan.proofs.ByNumber.{full_pass, pass_begun, pass_done, pass_many}

@@ -1,5 +1,5 @@
 use Rattle.std.proofs.Common.{◌≡◌, ℕ, List, [], get_or, length, sym, subst, arith}
-use Rattle.wh_host_model.specs.Space.Scanning.{Scans}
+use Rattle.wh_space_model.specs.{Scans}
 use Rattle.wh_scan.specs.Pass.{pages_before}
 use Rattle.wh_scan.proofs.Passing.{before_next, few_rows, scans_few, scans_one}
 use Rattle.wh_scan.proofs.pass.scan_place.Goals as goal

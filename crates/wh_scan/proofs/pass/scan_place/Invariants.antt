@@ -1,4 +1,4 @@
-use Rattle.wh_host_model.specs.Space.Scanning.{Scans}
+use Rattle.wh_space_model.specs.{Scans}
 use Rattle.wh_scan.specs.Pass.{pages_before}
 use Rattle.wh_scan.proofs.pass.scan_place.Given as goal
 

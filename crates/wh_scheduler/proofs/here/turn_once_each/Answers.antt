@@ -1,11 +1,11 @@
-use Rattle.std.proofs.Common.{◌≡◌, ◌∙◌, ◌+◌, Some, inl, inr, get_or, slice_get, subst, true, false, arith}
+use Rattle.std.proofs.Common.{◌≡◌, ◌∙◌, Some, inl, inr, get_or, slice_get, subst, true, false, arith}
 use Rattle.std.proofs.lemmas.Option.{slice_get-get_or}
-use Rattle.wh_host_model.specs.declared.plain.InstId.{InstId}
+use Rattle.wh_space_model.specs.declared.plain.InstId.{InstId}
 use Rattle.wh_host.specs.Hosting.{HostState}
 use Rattle.wh_host.specs.Paging.{IsAwaiting, IsGoing, Tells}
 use Rattle.wh_scheduler.specs.declared.here.Outlook.TheVariants.{Rests as OutlookRests}
 use Rattle.wh_scheduler.specs.InHand.{Rests, RestsOrWaits}
-use Rattle.wh_scheduler.proofs.OwnTurns.{all_below, one_more, ran_one}
+use Rattle.wh_scheduler.proofs.OwnTurns.{all_below, one_more, owner_alone, owner_only, ran_one}
 use Rattle.wh_scheduler.proofs.here.turn_once_each.Goals.{in-Goes, in-Waits, in-Rests}
 use Rattle.wh_scheduler.proofs.here.turn_once_each.Goals as goal
 
@@ -23,7 +23,7 @@ loop-at-preserved g c =
           rw (w.locked-is, w.shares-is, w.turns-is, w.waits-is) (
             omega (arith, c.if-turns-most.false),
             ran_one _ _ _ _ _ counted.0 _ _ was.1 counted.2 counted.3,
-            counted.2.only ∙ (λ i. record (was.2 i) { owner = w.own_turn.new.shares.owner }),
+            owner_only c.args.shares.now c.loop-at.shares w.own_turn.new.shares was.2 (owner_alone c.loop-at.shares w.own_turn.new.shares _ counted.2),
             w.own_turn.ensures.known ∙ was.3,
             λ none. absurd (omega (arith, none)),
             λ none no. absurd (omega (arith, none)),

@@ -1,5 +1,5 @@
 use Rattle.std.proofs.Common.{◌≡◌, ◌∙◌, ◌+◌, subst, arith}
-use Rattle.wh_scheduler.specs.InHand.{RunsHere, own_of}
+use Rattle.wh_scheduler.specs.InHand.{RunsHere}
 use Rattle.wh_scheduler.proofs.OwnTurns.{ran_more}
 use Rattle.wh_scheduler.proofs.here.turns_here.Goals as goal
 
@@ -7,14 +7,14 @@ pub returns-then-pass-clause-runs : goal.returns-then-pass-clause-runs
 returns-then-pass-clause-runs g c =
     let pass = c.turn_once_each-pass in
     let none : c.loop-turns.turns + pass.result.turns ≡ c.loop-turns.turns = omega (arith, c.if-pass-eq0.true) in
-    subst (λ n. RunsHere c.args.locked.now.books (own_of c.args.shares.now) n pass.new.locked.books (own_of pass.new.shares)) none
+    subst (λ n. RunsHere c.args.locked.now.books c.args.shares.now.owner n pass.new.locked.books pass.new.shares.owner) none
     (ran_more _ _ _ _ _ _ _ _ c.loop-turns.invariant.1 pass.ensures.runs)
 
 pub returns-else-pass-clause-runs : goal.returns-else-pass-clause-runs
 returns-else-pass-clause-runs g c =
     let pass = c.turn_once_each-pass in
     let none : c.loop-turns.turns + pass.result.turns ≡ c.loop-turns.turns = omega (arith, c.if-pass-eq0.true) in
-    subst (λ n. RunsHere c.args.locked.now.books (own_of c.args.shares.now) n pass.new.locked.books (own_of pass.new.shares)) none
+    subst (λ n. RunsHere c.args.locked.now.books c.args.shares.now.owner n pass.new.locked.books pass.new.shares.owner) none
     (ran_more _ _ _ _ _ _ _ _ c.loop-turns.invariant.1 pass.ensures.runs)
 
 pub returns-else-pass-clause-rest : goal.returns-else-pass-clause-rest

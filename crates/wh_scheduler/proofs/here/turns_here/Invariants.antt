@@ -1,11 +1,11 @@
 use Rattle.std.proofs.Common.{◌-◌, ◌≡◌, ◌≤◌}
-use Rattle.wh_scheduler.specs.InHand.{RunsHere, own_of}
+use Rattle.wh_scheduler.specs.InHand.{RunsHere}
 use Rattle.wh_scheduler.proofs.here.turns_here.Given as goal
 
 abbrev pub invariant-loop-turns : goal.invariant-loop-turns
 invariant-loop-turns g l =
     (l.turns ≤ l.most)
-    × RunsHere l.fn.locked.books (own_of l.fn.shares) l.turns l.locked.books (own_of l.shares)
+    × RunsHere l.fn.locked.books l.fn.shares.owner l.turns l.locked.books l.shares.owner
     × (l.shares ≡ record l.fn.shares { owner = l.shares.owner })
     × (l.locked.known ≡ l.fn.locked.known)
 

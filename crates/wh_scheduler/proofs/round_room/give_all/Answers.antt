@@ -12,18 +12,15 @@ loop-at-preserved c =
     let i = now.invariant in
     let long = now.auto.runners in
     let less = c.loop-at-test.true in
-    let many = c.requires.many in
     let old = get_or now.runners now.at c.index-runners-at.result in
     let there = slice_get-get_or now.runners now.at c.index-runners-at.result (omega (arith, long, less)) in
     let new = c.give.new.self in
     let free : IsFree new = subst IsFree (sym c.give.ensures) (i.free now.at old there) in
     let o = c.index-orders-at.result in
-    let at : slice_get c.args.orders.now now.at ≡ Some o = slice_get-get_or c.args.orders.now now.at o (omega (arith, many, less)) ∙ ap Some (sym c.index-orders-at.is) in
+    let at : slice_get c.args.orders.now now.at ≡ Some o = slice_get-get_or c.args.orders.now now.at o (omega (arith, c.requires.many, less)) ∙ ap Some (sym c.index-orders-at.is) in
     let id : o.instance ≡ new.id = sym c.instance.ensures ∙ sym (ap (λ (y : Runner). y.id) c.give.ensures) in
     let quantum : o.quantum ≡ c.args.aim.quantum = sym c.quantum.ensures ∙ c.if-quantum-aim.false in
-    let count = c.count.ensures in
-    let further = c.if-count-aim.false in
-    let enough : c.args.aim.further + 1 ≤ o.count = omega (arith, count, further) in
+    let enough : c.args.aim.further + 1 ≤ o.count = omega (arith, c.count.ensures, c.if-count-aim.false) in
     let within : now.at < length now.runners = omega (arith, long, less) in
     record {
       free = λ k z is. each_next (λ j w. IsFree w) now.runners now.at k new z within is free (λ other was. i.free k z was);
@@ -36,6 +33,4 @@ loop-at-preserved c =
 pub returns-clause-received : goal.returns-clause-received
 returns-clause-received c = λ yes k y there.
     (let less = slice_get_within c.loop-at.runners k y there in
-    let long = c.loop-at.auto.runners in
-    let end = c.loop-at-test.false in
-    c.loop-at.invariant.received k y (omega (arith, less, long, end)) there)
+    c.loop-at.invariant.received k y (omega (arith, less, c.loop-at.auto.runners, c.loop-at-test.false)) there)

@@ -1,5 +1,5 @@
 use Rattle.std.proofs.Common.{◌≡◌, ◌≤◌, take}
-use Rattle.wh_host_model.specs.Frames.{tally}
+use Rattle.wh_space_model.specs.{tally}
 use Rattle.wh_space.specs.Counts.{is_shared}
 use Rattle.wh_space.proofs.counts.frames_shared.Given as goal
 

@@ -1,5 +1,5 @@
 use Rattle.std.proofs.Common.{◌≡◌, ◌≤◌, ◌*◌, take}
-use Rattle.wh_host_model.specs.Frames.{tally}
+use Rattle.wh_space_model.specs.{tally}
 use Rattle.wh_space.specs.Counts.{sharers_in}
 use Rattle.wh_space.proofs.counts.pages_sharing.Given as goal
 

@@ -1,9 +1,9 @@
 use Rattle.std.proofs.Common.{[], ◌∙◌, ap, sym, get_or, length}
-use Rattle.wh_model.specs.Execution.Store.{bytes_at}
-use Rattle.wh_host_model.specs.declared.states.Page.{Page}
-use Rattle.wh_host_model.specs.Space.States.{page_bytes}
-use Rattle.wh_host_model.proofs.Space.Transit.{on_frame}
-use Rattle.wh_host_model.proofs.Space.Reading.{read_zeros}
+use Rattle.wh_model.specs.Execution.{bytes_at}
+use Rattle.wh_space_model.specs.declared.states.Page.{Page}
+use Rattle.wh_space_model.specs.{page_bytes}
+use Rattle.wh_space_model.proofs.Transit.{on_frame}
+use Rattle.wh_space_model.proofs.Reading.{read_zeros}
 use Rattle.wh_space.proofs.loads.read_page.Goals as goal
 
 pub read_frame-requires-clause-taken : goal.read_frame-requires-clause-taken

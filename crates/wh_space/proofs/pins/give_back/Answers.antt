@@ -1,6 +1,6 @@
 use Rattle.std.proofs.Common.{◌≤◌, ◌∷◌, [], refl, arith}
-use Rattle.wh_host_model.specs.Frames.{one_if, tally}
-use Rattle.wh_host_model.proofs.Tally.{one_same, tally-append}
+use Rattle.wh_space_model.specs.{one_if, tally}
+use Rattle.wh_space_model.proofs.Tally.{one_same, tally-append}
 use Rattle.wh_space.specs.Pinning.{numbers_in}
 use Rattle.wh_space.proofs.pins.give_back.Goals as goal
 

@@ -1,5 +1,5 @@
 use Rattle.std.proofs.Common.{[], get_or, arith}
-use Rattle.wh_host_model.specs.Space.States.{swapped}
+use Rattle.wh_space_model.specs.{swapped}
 use Rattle.wh_space.proofs.Summing.{tally_next}
 use Rattle.wh_space.proofs.reporting.swapped_in.Goals as goal
 

@@ -1,6 +1,5 @@
 use Rattle.std.proofs.Common.{◌≡◌, ◌≤◌, [], get_or, take}
-use Rattle.wh_host_model.specs.Frames.{tally}
-use Rattle.wh_host_model.specs.Space.States.{swapped}
+use Rattle.wh_space_model.specs.{tally, swapped}
 use Rattle.wh_space.proofs.reporting.swapped_in.Given as goal
 
 -- the count so far

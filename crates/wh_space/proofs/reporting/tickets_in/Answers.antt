@@ -1,5 +1,5 @@
 use Rattle.std.proofs.Common.{arith}
-use Rattle.wh_host_model.specs.Space.Errands.{is_ticket}
+use Rattle.wh_space_model.specs.{is_ticket}
 use Rattle.wh_space.proofs.Summing.{tally_next}
 use Rattle.wh_space.proofs.reporting.tickets_in.Goals as goal
 

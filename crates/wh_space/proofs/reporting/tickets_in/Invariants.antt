@@ -1,6 +1,5 @@
 use Rattle.std.proofs.Common.{◌≡◌, ◌≤◌, take}
-use Rattle.wh_host_model.specs.Frames.{tally}
-use Rattle.wh_host_model.specs.Space.Errands.{is_ticket}
+use Rattle.wh_space_model.specs.{tally, is_ticket}
 use Rattle.wh_space.proofs.reporting.tickets_in.Given as goal
 
 -- the count so far

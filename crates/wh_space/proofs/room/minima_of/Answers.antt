@@ -1,5 +1,5 @@
 use Rattle.std.proofs.Common.{◌+◌, ◌<◌, ◌∙◌, length, rules, arith}
-use Rattle.wh_host_model.specs.Space.Parts.{of_occupant}
+use Rattle.wh_space_model.specs.{of_occupant}
 use Rattle.wh_space.proofs.Summing.{sum_part, sum_step}
 use Rattle.wh_space.proofs.room.minima_of.Goals as goal
 

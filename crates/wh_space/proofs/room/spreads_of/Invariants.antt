@@ -1,6 +1,5 @@
 use Rattle.std.proofs.Common.{◌≡◌, ◌+◌, ◌-◌, take, map}
-use Rattle.wh_host_model.specs.Frames.{tally}
-use Rattle.wh_host_model.specs.Space.Parts.{of_occupant}
+use Rattle.wh_space_model.specs.{tally, of_occupant}
 use Rattle.wh_space.specs.Parts.{occupant_of}
 use Rattle.wh_space.proofs.room.spreads_of.Given as goal
 

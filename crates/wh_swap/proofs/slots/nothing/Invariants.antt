@@ -2,7 +2,7 @@ use Rattle.std.proofs.Common.{◌≡◌, ◌≤◌, [], replicate, vec_capacity,
 use Rattle.wh_swap.specs.SlotParts.{all_held}
 use Rattle.wh_swap.proofs.slots.nothing.Given as goal
 
--- so many so far, and there is room for all
+-- n so far, and there is room for all
 abbrev pub invariant-loop : goal.invariant-loop
 invariant-loop l = record {
   held : all_held l.tags.items ≡ replicate l.counter [];

@@ -1,5 +1,5 @@
 use Rattle.std.proofs.Common.{◌≡◌, ◌≤◌, ◌+◌, ◌++◌, vec_capacity, vec_len}
-use Rattle.wh_host_model.specs.Space.Parts.{numbers_below}
+use Rattle.wh_space_model.specs.{numbers_below}
 use Rattle.wh_swap.proofs.slots.numbers.Given as goal
 
 -- the greatest are there, the ones below `left` are to come, and there is room for them

@@ -1,6 +1,6 @@
 use Rattle.std.proofs.Common.{leb, rules}
 use Rattle.std.proofs.lemmas.List.Sorted.{IsPartitionPoint-from_clause, IsPartitionedBy-leb}
-use Rattle.wh_host_model.specs.declared.plain.InstId.{InstId}
+use Rattle.wh_space_model.specs.declared.plain.InstId.{InstId}
 use Rattle.wh_tables.proofs.Lines.{split_at}
 use Rattle.wh_tables.proofs.line.rank_above.Goals as goal
 

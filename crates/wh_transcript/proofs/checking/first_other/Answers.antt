@@ -11,9 +11,8 @@ returns-then-not-is_call_asked c =
     let r = c.index-requested-at.result in
     let k = c.index-calls-at.result in
     let low = c.loop-at-test.true in
-    let same = c.requires in
     let here = read_at rs at r low c.index-requested-at.is in
-    let there = read_at cs at k (omega (arith, low, same)) c.index-calls-at.is in
+    let there = read_at cs at k (omega (arith, low, c.requires)) c.index-calls-at.is in
     λ all. c.if-not-is_call_asked.ensures (zip_at IsCallAsked rs cs at r k here there all)
 
 pub loop-at-preserved : goal.loop-at-preserved
@@ -24,7 +23,6 @@ loop-at-preserved c =
     let r = c.index-requested-at.result in
     let k = c.index-calls-at.result in
     let low = c.loop-at-test.true in
-    let same = c.requires in
     let here = read_at rs at r low c.index-requested-at.is in
-    let there = read_at cs at k (omega (arith, low, same)) c.index-calls-at.is in
+    let there = read_at cs at k (omega (arith, low, c.requires)) c.index-calls-at.is in
     zip_further IsCallAsked rs cs at r k here there c.loop-at.invariant c.if-not-is_call_asked.ensures

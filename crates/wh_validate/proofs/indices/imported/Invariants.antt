@@ -1,5 +1,5 @@
 use Rattle.std.proofs.Common.{◌≡◌, ℕ, ◌<◌, get_or, length, map, drop, ◌++◌}
-use Rattle.wh_model.specs.Validity.Valid.{imported_funcs, imported_globals}
+use Rattle.wh_model.specs.Validity.{imported_funcs, imported_globals}
 use Rattle.wh_syntax.specs.View.{view_import, view_global_type}
 use Rattle.wh_syntax.specs.declared.module.Import.{Import}
 use Rattle.wh_validate.specs.Naming.{NamesType}

@@ -1,5 +1,5 @@
 use Rattle.std.proofs.Common.{arith}
-use Rattle.wh_model.specs.Validity.Valid.{WithinBound, most_pages}
+use Rattle.wh_model.specs.Validity.{WithinBound, most_pages}
 use Rattle.wh_syntax.specs.View.{view_limits}
 use Rattle.wh_validate.proofs.Lists.{one_all}
 use Rattle.wh_validate.proofs.sizes.check_memories.Goals as goal

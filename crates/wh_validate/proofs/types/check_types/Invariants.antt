@@ -1,5 +1,5 @@
 use Rattle.std.proofs.Common.{ℕ, ◌<◌, get_or}
-use Rattle.wh_model.specs.Validity.Valid.{ValidType}
+use Rattle.wh_model.specs.Validity.{ValidType}
 use Rattle.wh_syntax.specs.View.{view_type}
 use Rattle.wh_syntax.specs.declared.module.FuncType.{FuncType}
 use Rattle.wh_validate.proofs.types.check_types.Given as goal

@@ -1,5 +1,5 @@
 use Rattle.wh_model.specs.Validity.Valid.{Valid}
-use Rattle.wh_model.specs.Validity.Heights.{Fits}
+use Rattle.wh_model.specs.Validity.{Fits}
 use Rattle.wh_validate.proofs.whole.validate.Goals as goal
 
 pub returns-clause-valid : goal.returns-clause-valid

@@ -1,5 +1,5 @@
 use Rattle.std.proofs.Common.{inr, Some, ap, sym, ◌∙◌, subst}
-use Rattle.wh_host_model.specs.Host.Happens.{IsRefuel}
+use Rattle.wh_host_model.specs.Host.{IsRefuel}
 use Rattle.wolqedir.specs.ExportContracts.{ExportAsks}
 use Rattle.wolqedir.specs.Codes.{host_error_code}
 use Rattle.wolqedir.proofs.Helding.{left_at, nothing, same_held}

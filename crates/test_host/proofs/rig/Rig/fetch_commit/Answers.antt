@@ -1,6 +1,6 @@
 use Rattle.std.proofs.Common.{◌<◌, length, sym, subst, arith}
 use Rattle.wh_swap.specs.Written.{page_held}
-use Rattle.wh_host_model.specs.Space.Errands.{pass_of, to_read}
+use Rattle.wh_space_model.specs.{pass_of, to_read}
 use Rattle.std.proofs.Common.{◌≡◌, Some, slice_get}
 use Rattle.test_host.specs.Carried.{IsCarried, coming_slots, leaving_slots}
 use Rattle.test_host.proofs.Carrying.{fetch_first, fetch_returned, host_on, slot_within}
@@ -8,15 +8,13 @@ use Rattle.test_host.proofs.rig.Rig.fetch_commit.Goals as goal
 
 pub read-answer-requires : goal.read-answer-requires
 read-answer-requires c =
-    let ok = c.args.self.now.coming.ok in
-    let less : 0 < length c.args.self.now.coming.items = grind (arith, ok, c.if-is_empty.false, c.is_empty.ensures) in
+    let less : 0 < length c.args.self.now.coming.items = grind (arith, c.args.self.now.coming.ok, c.if-is_empty.false, c.is_empty.ensures) in
     let e = c.remove-fetched.result in
     slot_within c.args.self.now.host.space _ _ _ e.ticket.slot to_read (fetch_first c.args.self.now.host.space _ _ c.args.self.now.coming.items e less c.remove-fetched.ensures.value c.args.self.now.carried) c.args.self.now.carried
 
 pub fetch_commit-end-requires : goal.fetch_commit-end-requires
 fetch_commit-end-requires c =
-    let ok = c.args.self.now.coming.ok in
-    let less : 0 < length c.args.self.now.coming.items = grind (arith, ok, c.if-is_empty.false, c.is_empty.ensures) in
+    let less : 0 < length c.args.self.now.coming.items = grind (arith, c.args.self.now.coming.ok, c.if-is_empty.false, c.is_empty.ensures) in
     record {
       out = subst (λ k. slice_get (pass_of c.args.self.now.host.space).out k ≡ Some (Some to_read)) (sym c.read-answer.ensures.slot)
           (fetch_first c.args.self.now.host.space _ _ c.args.self.now.coming.items c.remove-fetched.result less c.remove-fetched.ensures.value c.args.self.now.carried);
@@ -24,8 +22,7 @@ fetch_commit-end-requires c =
 
 pub invariant_of-self-2 : goal.invariant_of-self-2
 invariant_of-self-2 c =
-    let ok = c.args.self.now.coming.ok in
-    let less : 0 < length c.args.self.now.coming.items = grind (arith, ok, c.if-is_empty.false, c.is_empty.ensures) in
+    let less : 0 < length c.args.self.now.coming.items = grind (arith, c.args.self.now.coming.ok, c.if-is_empty.false, c.is_empty.ensures) in
     let h = c.args.self.now.host in
     let h2 = c.fetch_commit-end.new.self in
     let held = page_held c.args.self.now.device in

@@ -6,16 +6,14 @@ use Rattle.test_host.proofs.rig.Rig.fetch_fails.Goals as goal
 
 pub fetch_commit-end-requires : goal.fetch_commit-end-requires
 fetch_commit-end-requires c =
-    let ok = c.args.self.now.coming.ok in
-    let less : 0 < length c.args.self.now.coming.items = grind (arith, ok, c.if-is_empty.false, c.is_empty.ensures) in
+    let less : 0 < length c.args.self.now.coming.items = grind (arith, c.args.self.now.coming.ok, c.if-is_empty.false, c.is_empty.ensures) in
     record {
       out = fetch_first c.args.self.now.host.space _ _ c.args.self.now.coming.items c.remove-fetched.result less c.remove-fetched.ensures.value c.args.self.now.carried;
     }
 
 pub invariant_of-self : goal.invariant_of-self
 invariant_of-self c =
-    let ok = c.args.self.now.coming.ok in
-    let less : 0 < length c.args.self.now.coming.items = grind (arith, ok, c.if-is_empty.false, c.is_empty.ensures) in
+    let less : 0 < length c.args.self.now.coming.items = grind (arith, c.args.self.now.coming.ok, c.if-is_empty.false, c.is_empty.ensures) in
     let h = c.args.self.now.host in
     let h2 = c.fetch_commit-end.new.self in
     let held = page_held c.args.self.now.device in

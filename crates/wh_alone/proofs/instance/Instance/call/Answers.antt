@@ -3,7 +3,7 @@ use Rattle.wh_alone.specs.declared.outcome.Stage.TheVariants.{Idle}
 use Rattle.wh_alone.specs.InstanceStates.{Kept}
 use Rattle.wh_alone.specs.Journal.{InstanceState, IsSomewhere, CallEnds}
 use Rattle.wh_alone.specs.Stages.{IsNoCall}
-use Rattle.wh_model.specs.Execution.Replay.{store_at}
+use Rattle.wh_model.specs.Execution.{store_at}
 use Rattle.wh_alone.specs.Stages.{after_call}
 use Rattle.wh_alone.proofs.Moving.{call_comes, somewhere_called}
 use Rattle.wh_alone.proofs.Present.{record_of, at_stage}
@@ -11,7 +11,6 @@ use Rattle.wh_alone.proofs.instance.Instance.call.Goals as goal
 
 pub returns-then-not-can_call-clause-err : goal.returns-then-not-can_call-clause-err
 returns-then-not-can_call-clause-err c =
-    let k : Kept = record { linked = c.self.inside.linked; store = c.self.inside.store; memory = c.self.inside.memory; machine = c.self.inside.machine } in
     ((ap (λ (i : InstanceState). i.stage) (sym c.self.view_is) ∙ c.in-Idle.is, subst (λ (i : InstanceState). IsNoCall i.kept c.args.func c.args.args.now) c.self.view_is (λ cx inst is h. c.if-not-can_call.ensures cx inst is h)), refl)
 
 pub call-outcome-requires : goal.call-outcome-requires

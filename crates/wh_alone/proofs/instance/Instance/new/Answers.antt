@@ -1,6 +1,5 @@
 use Rattle.std.proofs.Common.{rules, ◌<◌, ◌^◌, map, refl, sym, ap, subst, ◌∙◌}
-use Rattle.wh_model.specs.Execution.Instance.{AreGiven, fragments}
-use Rattle.wh_model.specs.Execution.Replay.{with_pieces}
+use Rattle.wh_model.specs.Execution.{AreGiven, fragments, with_pieces}
 use Rattle.wh_syntax.specs.declared.module.Module.{Module}
 use Rattle.wh_syntax.specs.View.{view_module}
 use Rattle.wh_bodies.specs.View.{view_side}
@@ -70,8 +69,7 @@ returns-clause-ok c =
     let base : p.base < 2 ^ 32 = search rules in
     let salt : p.salt < 2 ^ 64 = search rules in
     let given : AreGiven p = record { base = base; salt = salt; inputs = subst (AllByRecursion (λ n. n < 2 ^ 64)) c.deref.ensures.value c.are_words.ensures } in
-    let start = c.module-2.result.now.start in
-    let x = begun_at k (view_module l.valid.decoded) p b.inst first (fragments b.segments) start refl given b.is_initial (sound.context, around) (ap (λ (m : Module). m.start) (sym c.module-2.ensures.same))
+    let x = begun_at k (view_module l.valid.decoded) p b.inst first (fragments b.segments) c.module-2.result.now.start refl given b.is_initial (sound.context, around) (ap (λ (m : Module). m.start) (sym c.module-2.ensures.same))
     (λ y e. start_called (view_module l.valid.decoded) (linked_parts l) sound.context b.inst y sound.valid around.instance (ap (λ (m : Module). m.start) (sym c.module-2.ensures.same) ∙ e)) in
     let is_at = subst (λ s. IsAtStanding (record_of k s) (view_module l.valid.decoded) p x.ended x.current x.z) (sym c.first_stage-stage.ensures) x.is_at in
     record { m = view_module l.valid.decoded; accepted = c.in_ok-linked.ensures.ok; ended = x.ended; current = x.current; z = x.z; is_at = is_at; fresh = subst (λ s. IsFresh s x.ended x.current) (ap (λ (m : Module). m.start) c.module-2.ensures.same) x.fresh }

@@ -1,5 +1,5 @@
 use Rattle.std.proofs.Common.{sym, subst}
-use Rattle.wh_host_model.specs.Space.Laws.{IsProvided}
+use Rattle.wh_space_model.specs.{IsProvided}
 use Rattle.wh_cell.specs.Locking.{IsInStep, LockedState}
 use Rattle.wh_cell.proofs.cell.HostCell.move_nearer.Goals as goal
 

@@ -1,5 +1,5 @@
 use Rattle.std.proofs.Common.{◌∙◌, Some, sym, ap, subst}
-use Rattle.wh_host_model.specs.Space.Errands.{pass_of, to_write}
+use Rattle.wh_space_model.specs.{pass_of, to_write}
 use Rattle.wh_host.specs.TicketsOut.{slot_to_write}
 use Rattle.wh_cell.specs.Knowing.{AgreesWith, with_ticket}
 use Rattle.wh_cell.specs.Locking.{LockedState}
@@ -34,7 +34,6 @@ returns-in-Ok-clause-begun g c =
     let f = c.evict_begin in
     let h = c.self.inside.host in
     let device = c.self.invariant.device in
-    let slot = c.in-Ok.eviction.ticket.slot in
     let known = ap (λ (l : LockedState g.row.D.Denot). l.known) c.self.view_is ∙ c.requires.agree in
     let agrees = subst (λ k. AgreesWith g.D.SwapDev.held h.space k device) known c.self.invariant.agrees in
     let waits = may_wait h c.args.id c.self.invariant.some c.if-not-awaits_frame.ensures in
@@ -42,5 +41,5 @@ returns-in-Ok-clause-begun g c =
     let is = ap slot_to_write c.in-Ok.is in
     let passes = subst (λ x. Passes h.space h.space.slots.held (out_with (pass_of h.space).out x to_write) f.new.self.space) is (eviction_passes h f.new.self c.args.id f.result waits f.ensures.begins f.ensures.idle) in
     let after = c.begin_write.ensures.keeper ∙ ap (λ k. with_ticket c.args.keeper.now k to_write) c.slot.ensures in
-    let out = goes_out g.D.SwapDev.held h.space f.new.self.space c.args.keeper.now c.begin_write.new.self device slot to_write sound agrees passes c.in-Ok.ensures.out after in
+    let out = goes_out g.D.SwapDev.held h.space f.new.self.space c.args.keeper.now c.begin_write.new.self device c.in-Ok.eviction.ticket.slot to_write sound agrees passes c.in-Ok.ensures.out after in
     out

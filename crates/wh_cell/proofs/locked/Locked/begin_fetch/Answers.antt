@@ -1,5 +1,5 @@
 use Rattle.std.proofs.Common.{◌∙◌, Some, sym, ap, subst}
-use Rattle.wh_host_model.specs.Space.Errands.{pass_of, to_read}
+use Rattle.wh_space_model.specs.{pass_of, to_read}
 use Rattle.wh_host.specs.TicketsOut.{slot_to_read}
 use Rattle.wh_cell.specs.Knowing.{AgreesWith, with_ticket}
 use Rattle.wh_cell.specs.Locking.{LockedState}

@@ -1,5 +1,5 @@
 use Rattle.std.proofs.Common.{◌≡◌, ◌+◌, ap, subst}
-use Rattle.wh_host_model.specs.Host.Worlds.{World}
+use Rattle.wh_host_model.specs.Host.{World}
 use Rattle.wh_host.specs.Hosting.{IsHost}
 use Rattle.wh_cell.specs.Going.{TurnsIfGoing}
 use Rattle.wh_cell.specs.LeftByOwner.{HasTakenOn}

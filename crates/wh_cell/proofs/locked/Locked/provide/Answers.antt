@@ -1,9 +1,8 @@
 use Rattle.std.proofs.Common.{◌≡◌, ◌∙◌, Some, sym, ap, subst}
 use Rattle.std.specs.Prelude.{Ok, IfOk, OnErr}
 use Rattle.wh_model.specs.declared.memory.Need.{Need}
-use Rattle.wh_host_model.specs.Host.Happens.{AwaitsFrame}
-use Rattle.wh_host_model.specs.Space.Laws.{IsProvided}
-use Rattle.wh_host_model.specs.Space.Provide.{FailsToProvide, FailsTruly, Provides, ProvidesTruly}
+use Rattle.wh_host_model.specs.Host.{AwaitsFrame}
+use Rattle.wh_space_model.specs.{IsProvided, FailsToProvide, FailsTruly, Provides, ProvidesTruly}
 use Rattle.wh_host.specs.Paging.{MovesAnyhow, MovesWith, WaitsFor, provide_fault}
 use Rattle.wh_cell.specs.Knowing.{BackingState, KnownState, NoneOut}
 use Rattle.wh_cell.specs.Locking.{LockedState}

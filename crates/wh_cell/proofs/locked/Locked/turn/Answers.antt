@@ -1,6 +1,6 @@
 use Rattle.std.proofs.Common.{◌≡◌, ◌+◌, ℕ, ap, subst}
-use Rattle.wh_host_model.specs.declared.plain.InstId.{InstId}
-use Rattle.wh_host_model.specs.Host.Worlds.{World}
+use Rattle.wh_space_model.specs.declared.plain.InstId.{InstId}
+use Rattle.wh_host_model.specs.Host.{World}
 use Rattle.wh_host.specs.Hosting.{HostState, IsHost}
 use Rattle.wh_cell.specs.Going.{TurnsIfGoing}
 use Rattle.wh_cell.specs.LeftByOwner.{HasTakenOn}

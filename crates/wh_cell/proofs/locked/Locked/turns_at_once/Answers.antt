@@ -1,5 +1,5 @@
 use Rattle.std.proofs.Common.{◌+◌, ap, subst, arith}
-use Rattle.wh_host_model.specs.Host.Worlds.{World}
+use Rattle.wh_host_model.specs.Host.{World}
 use Rattle.wh_host.specs.Hosting.{HostState, IsHost}
 use Rattle.wh_host.specs.Rounds.{AllTurn, NoneIsLeftOut}
 use Rattle.wh_threads.specs.declared.books.Books.{Books}
@@ -16,9 +16,8 @@ count_round-requires g c =
     let some = c.self.invariant.some in
     let x = t.ensures.turns some.0 some.1 in
     let r = c.requires in
-    let long = t.auto.runners in
     record {
-      room = omega (arith, r.room, long);
+      room = omega (arith, r.room, t.auto.runners);
       due = are_few c.args.burst.quantum (c.args.burst.further + 1) some.0 x.0 c.args.runners.now t.new.runners c.args.orders.now r.quantum r.further r.received t.ensures.same x.1;
     }
 
@@ -50,6 +49,5 @@ returns-clause-all g c =
 pub returns-clause-taken : goal.returns-clause-taken
 returns-clause-taken g c =
     let t = c.turns_at_once in
-    let i = c.self.invariant in
     subst (λ (l : LockedState g.row.D.Denot). HasTakenOn l.host (charges_of_round t.new.runners) t.new.self) c.self.view_is
-    (round_taken c.self.inside.host t.new.self c.args.burst.quantum (c.args.burst.further + 1) t.new.runners i.some t.ensures.turns)
+    (round_taken c.self.inside.host t.new.self c.args.burst.quantum (c.args.burst.further + 1) t.new.runners c.self.invariant.some t.ensures.turns)

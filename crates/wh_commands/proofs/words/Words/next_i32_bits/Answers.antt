@@ -1,6 +1,6 @@
 use Rattle.std.proofs.Common.{ℕ}
 use Rattle.wh_model.specs.declared.ValType.TheVariants.{I32}
-use Rattle.wh_script_model.specs.Words.{IsBits}
+use Rattle.wh_script_model.specs.{IsBits}
 use Rattle.wh_commands.proofs.Asking.{not_such}
 use Rattle.wh_commands.proofs.words.Words.next_i32_bits.Goals as goal
 

@@ -1,5 +1,5 @@
 use Rattle.std.proofs.Common.{ℕ, ◌<◌, List, length}
-use Rattle.wh_host_model.specs.declared.states.Mark.{Mark}
+use Rattle.wh_space_model.specs.declared.states.Mark.{Mark}
 use Rattle.wh_content.specs.Chains.{IsPlace, AreChains}
 use Rattle.wh_content.proofs.chains.Chains.behind.Given as goal
 

@@ -1,6 +1,6 @@
 use Rattle.std.proofs.Common.{refl, ◌∙◌, ap, Some, length-set}
 use Rattle.std.proofs.lemmas.Option.{slice_get_read}
-use Rattle.wh_host_model.specs.declared.states.Mark.TheVariants.{Sharers, Unlisted}
+use Rattle.wh_space_model.specs.declared.states.Mark.TheVariants.{Sharers, Unlisted}
 use Rattle.wh_content.proofs.Buckets.{remarked}
 use Rattle.wh_content.proofs.Entries.{apart_put}
 use Rattle.wh_content.proofs.table.Table.drop_sharer.Goals as goal

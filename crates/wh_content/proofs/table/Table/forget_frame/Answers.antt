@@ -1,6 +1,6 @@
 use Rattle.std.proofs.Common.{◌<◌, ◌%◌, inr, refl, length-set, arith}
 use Rattle.std.proofs.lemmas.Option.{slice_get_read}
-use Rattle.wh_host_model.specs.declared.states.Mark.TheVariants.{Plain}
+use Rattle.wh_space_model.specs.declared.states.Mark.TheVariants.{Plain}
 use Rattle.wh_content.proofs.Buckets.{remarked, removed}
 use Rattle.wh_content.proofs.Entries.{apart_put}
 use Rattle.wh_content.proofs.table.Table.forget_frame.Goals as goal

@@ -1,6 +1,6 @@
 use Rattle.std.proofs.Common.{ℕ, ◌+◌, inl, inr, slice_get, refl, subst, arith}
 use Rattle.std.proofs.lemmas.Bool.{cases_eq}
-use Rattle.wh_host_model.specs.Space.Sound.{HasHash}
+use Rattle.wh_space_model.specs.{HasHash}
 use Rattle.wh_content.proofs.Buckets.{in_range, led_on, none_from}
 use Rattle.wh_content.proofs.table.Table.look.Goals as goal
 

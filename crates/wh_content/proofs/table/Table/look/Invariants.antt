@@ -1,5 +1,5 @@
 use Rattle.std.proofs.Common.{ℕ, ◌≤◌, ◌%◌, slice_get}
-use Rattle.wh_host_model.specs.Space.Sound.{HasHash}
+use Rattle.wh_space_model.specs.{HasHash}
 use Rattle.wh_content.specs.Chains.{IsPlace}
 use Rattle.wh_content.proofs.table.Table.look.Given as goal
 

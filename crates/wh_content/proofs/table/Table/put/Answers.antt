@@ -1,6 +1,6 @@
 use Rattle.std.proofs.Common.{◌<◌, ◌%◌, inr, refl, ◌∙◌, length, length-set, arith}
 use Rattle.std.proofs.lemmas.List.{set-set}
-use Rattle.wh_host_model.specs.declared.states.Mark.TheVariants.{Plain}
+use Rattle.wh_space_model.specs.declared.states.Mark.TheVariants.{Plain}
 use Rattle.wh_content.proofs.Buckets.{inserted, leads_before}
 use Rattle.wh_content.proofs.Entries.{put_within, put_there, apart_put, only_plain}
 use Rattle.wh_content.proofs.table.Table.put.Goals as goal
@@ -11,15 +11,13 @@ insert-requires-clause-last c =
     let n = a.frames in
     let f = c.args.frame in
     let b = c.args.hash % n in
-    let old = c.args.self.now in
     let marks = a.marks.items in
     let inv = c.self.invariant in
     let forgot = c.self.view_is ∙ c.forget_frame.ensures in
-    let there = put_within old marks f n Plain forgot inv.many c.requires.within in
     let below : b < n = omega arith in
     leads_before n marks a.chains inv.chains b c.behind-place.result below
     (c.behind-place.ensures.place n b marks inv.chains below (inr c.head_of.ensures)) f
-    (put_there old marks f Plain forgot c.requires.within) c.behind-place.ensures.last
+    (put_there c.args.self.now marks f Plain forgot c.requires.within) c.behind-place.ensures.last
 
 pub invariant_of-self : goal.invariant_of-self
 invariant_of-self c =

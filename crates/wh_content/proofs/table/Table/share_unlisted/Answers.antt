@@ -1,6 +1,6 @@
-use Rattle.std.proofs.Common.{◌≡◌, ◌<◌, ℕ, zero, suc, List, [], ◌∷◌, slice_get, slice_set, length, refl, sym, ◌∙◌, ap, Some, length-set}
-use Rattle.wh_host_model.specs.declared.states.Mark.TheVariants.{Plain, Unlisted}
-use Rattle.wh_host_model.proofs.Space.Putting.{set_same}
+use Rattle.std.proofs.Common.{◌≡◌, ◌<◌, ℕ, zero, suc, List, [], ◌∷◌, slice_get, slice_set, length, refl, ◌∙◌, ap, Some, length-set}
+use Rattle.wh_space_model.specs.declared.states.Mark.TheVariants.{Plain, Unlisted}
+use Rattle.wh_space_model.proofs.Putting.{set_same}
 use Rattle.wh_content.proofs.Buckets.{remarked}
 use Rattle.wh_content.proofs.Entries.{apart_put}
 use Rattle.wh_content.proofs.table.Table.share_unlisted.Goals as goal

@@ -8,14 +8,13 @@ pub returns-then-carries : goal.returns-then-carries
 returns-then-carries c =
     let items = c.self.inside.items.items in
     let rest = c.take_last-top.new.self.items in
-    let a = c.requires in
     let b = ap length c.self.view_is in
     let d = length-reverse items in
     let e = ap words_carried c.if-carries.true in
     let f = ap length c.take_last-top.ensures.items in
     let g = length-append rest (c.take_last-top.result ∷ []) in
     ap reverse (c.push_reserved.ensures.items ∙ ap (λ w. w ++ c.take_last-top.result ∷ []) c.truncate.ensures.items)
-    ∙ cut_one items rest c.take_last-top.result c.args.height c.args.carries c.if-carries.true c.take_last-top.ensures.items (omega (arith, a, b, d, e, f, g))
+    ∙ cut_one items rest c.take_last-top.result c.args.height c.args.carries c.if-carries.true c.take_last-top.ensures.items (omega (arith, c.requires, b, d, e, f, g))
     ∙ ap (λ w. cut w (words_carried c.args.carries) c.args.height) c.self.view_is
 
 pub returns-else-carries : goal.returns-else-carries

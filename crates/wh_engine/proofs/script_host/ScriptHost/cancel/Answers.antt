@@ -1,9 +1,7 @@
 use Rattle.std.proofs.Common.{Ok, Err, refl, sym}
 use Rattle.wh_host_model.specs.Host.Events as events
-use Rattle.wh_host_model.specs.Host.Happens.{call_ok, IsCancel}
-use Rattle.wh_script_model.specs.Answers.{no_one_to_cancel}
-use Rattle.wh_script_model.specs.Commands.{cancel}
-use Rattle.wh_script_model.specs.Texts.{cancel_refused}
+use Rattle.wh_host_model.specs.Host.{call_ok, IsCancel}
+use Rattle.wh_script_model.specs.{no_one_to_cancel, cancel, cancel_refused}
 use Rattle.wh_script_laws.specs.Replies.{cancel_reply}
 use Rattle.wh_engine.proofs.Again.{obeyed_again, obeyed_gone, whole_in}
 use Rattle.wh_engine.proofs.Asked.{asked, answered_ok, answered_err}

@@ -1,5 +1,5 @@
 use Rattle.std.proofs.Common.{arith, ◌∙◌, ◌<◌, ◌++◌, ◌∷◌, [], length, None, ap, sym, subst, refl}
-use Rattle.wh_script_model.specs.ScriptState.{call_rejected}
+use Rattle.wh_script_model.specs.{call_rejected}
 use Rattle.wh_engine.proofs.Again.{whole_in}
 use Rattle.wh_engine.proofs.Called.{call_again, called, gone_there, refused_gone, taken_so, turned_so}
 use Rattle.wh_engine.proofs.Found.{absent_gone, read_there}

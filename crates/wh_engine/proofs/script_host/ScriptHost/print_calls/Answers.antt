@@ -45,8 +45,7 @@ returns-clause-says g c =
     rw (← c.self.view_is, c.loop-at.invariant.same) (λ settings m s well.
     let l = c.loop-at in
     let first = c.self.inside in
-    let left = c.forget_calls.new.invoked.items in
     let vs = l.self-inside.invoked.items in
     let steps = all_changed (PrintsCallOf first.host.host first.instances.items) first.invoked.items vs l.at (string_bytes c.args.text.now) (string_bytes l.text) l.invariant.so_far
     (omega (arith, l.invariant.many)) in
-    calls_are_said settings _ m left vs (string_bytes c.args.text.now) (string_bytes l.text) s well steps c.forget_calls.ensures)
+    calls_are_said settings _ m c.forget_calls.new.invoked.items vs (string_bytes c.args.text.now) (string_bytes l.text) s well steps c.forget_calls.ensures)

@@ -1,7 +1,7 @@
 use Rattle.std.proofs.Common.{arith, rules, false, true, ◌≡◌, ◌<◌, length, slice_set, refl, ap, sym, subst, ◌∙◌, string_bytes}
 use Rattle.std.proofs.lemmas.List.{length-set}
 use Rattle.std.proofs.lemmas.Option.{same_Some, slice_get_within}
-use Rattle.wh_host_model.proofs.Space.Putting.{set_same}
+use Rattle.wh_space_model.proofs.Putting.{set_same}
 use Rattle.wh_host.specs.Paging.{IsGoing, Tells}
 use Rattle.wh_scheduler.specs.InHand.{OwnedState}
 use Rattle.wh_engine.specs.Printing.{PrintsStartOf}
@@ -58,18 +58,16 @@ forget_instances-requires g c e =
     let none = l.invariant.none_over e in
     all_stay xs (λ k x at.
     let within = slice_get_within xs k x at in
-    let many = l.invariant.many in
-    none.none k x (omega (arith, within, many)) at)
+    none.none k x (omega (arith, within, l.invariant.many)) at)
 
 pub returns-clause-says : goal.returns-clause-says
 returns-clause-says g c =
     rw (← c.self.view_is, c.loop-at.invariant.same) (λ settings m s well.
     let l = c.loop-at in
     let first = c.self.inside in
-    let left = c.forget_instances.new.instances.items in
     let xs = l.self-inside.instances.items in
     let steps = all_changed (PrintsStartOf first.host.host) first.instances.items xs l.at (string_bytes c.args.text.now) (string_bytes l.text) l.invariant.so_far (omega (arith, l.invariant.many)) in
-    starts_are_said settings _ m left xs (string_bytes c.args.text.now) (string_bytes l.text) s well steps c.forget_instances.ensures)
+    starts_are_said settings _ m c.forget_instances.new.instances.items xs (string_bytes c.args.text.now) (string_bytes l.text) s well steps c.forget_instances.ensures)
 
 pub returns-clause-rests : goal.returns-clause-rests
 returns-clause-rests g c =

@@ -1,9 +1,7 @@
 use Rattle.std.proofs.Common.{Ok, Err, refl, sym}
 use Rattle.wh_host_model.specs.Host.Events as events
-use Rattle.wh_host_model.specs.Host.Happens.{call_ok, IsRefuel}
-use Rattle.wh_script_model.specs.Answers.{no_one_to_refuel}
-use Rattle.wh_script_model.specs.Commands.{refuel}
-use Rattle.wh_script_model.specs.Texts.{refuel_refused}
+use Rattle.wh_host_model.specs.Host.{call_ok, IsRefuel}
+use Rattle.wh_script_model.specs.{no_one_to_refuel, refuel, refuel_refused}
 use Rattle.wh_script_laws.specs.Replies.{refuel_reply}
 use Rattle.wh_engine.proofs.Again.{obeyed_again, obeyed_gone, whole_in}
 use Rattle.wh_engine.proofs.Asked.{asked, answered_ok, answered_err}

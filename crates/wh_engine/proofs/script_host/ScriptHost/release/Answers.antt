@@ -1,8 +1,6 @@
 use Rattle.std.proofs.Common.{◌∙◌, ◌<◌, length, Ok, sym, subst}
 use Rattle.std.proofs.lemmas.Option.{same_Some}
-use Rattle.wh_script_model.specs.Answers.{no_one_to_release}
-use Rattle.wh_script_model.specs.Commands.{release}
-use Rattle.wh_script_model.specs.Texts.{release_refused}
+use Rattle.wh_script_model.specs.{no_one_to_release, release, release_refused}
 use Rattle.wh_host.specs.Releasing.{AnswersRelease}
 use Rattle.wh_engine.specs.declared.parts.NamedInstance.{NamedInstance}
 use Rattle.wh_engine.proofs.Again.{obeyed_again, obeyed_gone, whole_in}

@@ -1,6 +1,6 @@
 use Rattle.std.proofs.Common.{◌-◌, ◌++◌, ◌∷◌, [], length, arith}
 use Rattle.std.proofs.lemmas.List.{append_assoc, length-append}
-use Rattle.wh_host_model.proofs.FrameLemmas.{IsTaken-gives}
+use Rattle.wh_space_model.proofs.FrameLemmas.{IsTaken-gives}
 use Rattle.wh_frames.specs.Parts.{falling, pool_of}
 use Rattle.wh_frames.proofs.Free.{taken_of, gives_back, given_back-le}
 use Rattle.wh_frames.proofs.pool.FramePool.give.Goals as goal

@@ -1,6 +1,6 @@
 use Rattle.std.proofs.Common.{◌-◌, length, refl, ◌∙◌, arith}
 use Rattle.wh_frames.specs.declared.pool.FramePool.TheInside.{Inside}
-use Rattle.wh_host_model.proofs.FrameLemmas.{IsTaken-takes}
+use Rattle.wh_space_model.proofs.FrameLemmas.{IsTaken-takes}
 use Rattle.wh_frames.specs.Parts.{pool_of}
 use Rattle.wh_frames.proofs.Free.{takes_back, takes_given, takes_next, taken_next, nothing_left, length_frames}
 use Rattle.wh_frames.proofs.pool.FramePool.take.Goals as goal

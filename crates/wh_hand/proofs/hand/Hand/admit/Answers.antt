@@ -18,8 +18,7 @@ settle-requires-clause-settles c =
 pub settle-requires-clause-few : goal.settle-requires-clause-few
 settle-requires-clause-few c =
     let i = c.self.inside in
-    let a = c.self.invariant in
-    comer_few i.host c.admit.new.self c.args.of.number (view_params c.args.params) c.in-Ok.id a.led
+    comer_few i.host c.admit.new.self c.args.of.number (view_params c.args.params) c.in-Ok.id c.self.invariant.led
     (admit_leads i.host c.admit.new.self c.args.of.number (view_params c.args.params) c.in-Ok.id c.admit.result c.in-Ok.is c.admit.ensures.admits)
 
 pub invariant_of-self-2 : goal.invariant_of-self-2

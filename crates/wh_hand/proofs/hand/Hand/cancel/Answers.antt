@@ -1,10 +1,9 @@
 use Rattle.wh_hand.specs.HandStates.{HandState}
 use Rattle.wh_host.specs.CallRequests.{AnswersCall}
-use Rattle.wh_host_model.specs.Host.Happens.{IsCancel}
+use Rattle.wh_host_model.specs.Host.{IsCancel, cancel}
 use Rattle.std.specs.Prelude.{Ok}
 use Rattle.std.proofs.Common.{◌≤◌, sym, subst}
 use Rattle.std.specs.VecDeque.{deque_capacity}
-use Rattle.wh_host_model.specs.Host.Events.{cancel}
 use Rattle.wh_swap.specs.MemorySwaps.{memory_held}
 use Rattle.wh_hand.proofs.Asked.{asked_few, asked_in_hand, asked_settles, cancel_leads}
 use Rattle.wh_hand.proofs.hand.Hand.cancel.Goals as goal

@@ -3,7 +3,7 @@ use Rattle.wh_host.specs.CallRequests.{AnswersInvoke}
 use Rattle.std.specs.Prelude.{Ok}
 use Rattle.std.proofs.Common.{◌≤◌, sym, subst}
 use Rattle.std.specs.VecDeque.{deque_capacity}
-use Rattle.wh_host_model.specs.Host.Events.{invoke}
+use Rattle.wh_host_model.specs.Host.{invoke}
 use Rattle.wh_swap.specs.MemorySwaps.{memory_held}
 use Rattle.wh_hand.proofs.Asked.{asked_few, asked_in_hand, asked_settles, invoke_leads}
 use Rattle.wh_hand.proofs.hand.Hand.invoke.Goals as goal

@@ -3,7 +3,7 @@ use Rattle.wh_hand.specs.ReleasedOutputs.{AnswersReleaseHere}
 use Rattle.std.specs.Prelude.{Ok, Err}
 use Rattle.std.proofs.Common.{◌≤◌, sym, subst}
 use Rattle.std.specs.VecDeque.{deque_capacity}
-use Rattle.wh_host_model.specs.Host.Events.{release}
+use Rattle.wh_host_model.specs.Host.{release}
 use Rattle.wh_swap.specs.MemorySwaps.{memory_held}
 use Rattle.wh_hand.proofs.Asked.{asked_few, asked_in_hand, asked_settles, release_err, release_here, release_leads}
 use Rattle.wh_hand.proofs.hand.Hand.release.Goals as goal

@@ -1,7 +1,6 @@
 use Rattle.std.proofs.Common.{◌≡◌, ◌+◌, ℕ, List, length, subst}
 use Rattle.std.specs.Prelude.{IfSome}
-use Rattle.wh_host_model.specs.Space.Scanning.{IsDistinct}
-use Rattle.wh_host_model.specs.Hash.{fnv64}
+use Rattle.wh_space_model.specs.{IsDistinct, fnv64}
 use Rattle.wh_scan.specs.Pass.{MayPass, PassesOverAll}
 use Rattle.wh_hand.specs.HandStates.{HandState}
 use Rattle.wh_host.specs.Paging.{MovesOnly}
@@ -20,8 +19,7 @@ returns-clause-moves c = subst (λ (z : HandState). MovesOnly z.host c.scan.new.
 
 pub returns-clause-full : goal.returns-clause-full
 returns-clause-full c =
-    let s2 = c.scan.new.self.space in
-    subst (λ (z : HandState). IfSome c.scan.result (λ _. MayPass fnv64 z.host.space → PassesOverAll fnv64 z.host.space s2)) c.self.view_is c.scan.ensures.full
+    subst (λ (z : HandState). IfSome c.scan.result (λ _. MayPass fnv64 z.host.space → PassesOverAll fnv64 z.host.space c.scan.new.self.space)) c.self.view_is c.scan.ensures.full
 
 pub returns-clause-counts : goal.returns-clause-counts
 returns-clause-counts c =

@@ -39,5 +39,4 @@ loop-turns-preserved c =
 
 pub returns-clause-leaves : goal.returns-clause-leaves
 returns-clause-leaves c =
-    let many = c.loop-turns-test.false in
-    leaves_many c.args.self.now.host c.loop-turns.self.host c.args.charges c.loop-turns.left c.loop-turns.turns (omega (arith, many)) c.loop-turns.invariant.0
+    leaves_many c.args.self.now.host c.loop-turns.self.host c.args.charges c.loop-turns.left c.loop-turns.turns (omega (arith, c.loop-turns-test.false)) c.loop-turns.invariant.0

@@ -3,7 +3,7 @@ use Rattle.wh_reclaim.specs.Whole.{IsAsWhole}
 use Rattle.wh_hand.specs.RunParts.{RunsPart}
 use Rattle.wh_hand.proofs.hand.Hand.take.Given as goal
 
--- so many charges were taken in so many turns
+-- n charges were taken in n turns
 abbrev pub invariant-loop-turns : goal.invariant-loop-turns
 invariant-loop-turns l =
     RunsPart l.fn.self.host (l.fn.charges - l.left) l.turns l.self.host × (l.left ≤ l.fn.charges)

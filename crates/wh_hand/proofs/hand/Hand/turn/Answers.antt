@@ -4,11 +4,10 @@ use Rattle.wh_hand.proofs.hand.Hand.turn.Goals as goal
 
 pub invariant_of-self : goal.invariant_of-self
 invariant_of-self c =
-    let i = c.self.inside in
     let a = c.self.invariant in
     let e = c.advance.ensures in
     record {
-      led = led_by_turn i.host c.advance.new.host c.advance.result e.same e.runs a.led;
+      led = led_by_turn c.self.inside.host c.advance.new.host c.advance.result e.same e.runs a.led;
       together = e.together;
       lists = e.lists;
       few = (let few = a.few in let live = e.live in omega (arith, few, live));

@@ -1,12 +1,9 @@
-use Rattle.std.proofs.Common.{sym, subst}
-use Rattle.wh_host_model.specs.Host.Happens.{AwaitsFrame}
-use Rattle.wh_host.specs.Hosting.{HostState, IsHost}
+use Rattle.std.proofs.Common.{sym}
+use Rattle.wh_host_model.specs.Host.{AwaitsFrame}
 use Rattle.wh_host.proofs.Paged.{told_of}
+use Rattle.wh_host.proofs.Fields.{host_of, shown_host}
 use Rattle.wh_host.proofs.host.Host.awaits_frame.Goals as goal
 
 pub returns : goal.returns
 returns c w st =
-    let i = c.self.inside in
-    let h : HostState = record { modules = i.modules.items; entries = i.entries.slots; live = i.live; space = i.memory; next = i.next; next_module = i.next_module } in
-    let here = subst (λ z. IsHost z w) (sym c.self.view_is) st in
-    told_of h w c.args.id c.in-Some.entry.now c.awaits_frame.result AwaitsFrame here (sym c.in-Some.ensures) c.if-not-has_number.ensures c.awaits_frame.ensures
+    told_of (host_of c.self.inside) w c.args.id c.in-Some.entry.now c.awaits_frame.result AwaitsFrame (shown_host w c.self.view_is st) (sym c.in-Some.ensures) c.if-not-has_number.ensures c.awaits_frame.ensures

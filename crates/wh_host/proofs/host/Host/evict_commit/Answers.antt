@@ -1,14 +1,14 @@
-use Rattle.std.proofs.Common.{◌≡◌, is_ok, sym, ap, subst, ◌∙◌}
+use Rattle.std.proofs.Common.{◌≡◌, is_ok, ap, subst, ◌∙◌}
 use Rattle.wh_space.specs.TicketOwners.{ticket_place}
 use Rattle.wh_host.specs.TicketsOut.{EndsEvict, KeepsFault, evict_fault}
-use Rattle.wh_host.specs.Hosting.{HostState, IsHost}
+use Rattle.wh_host.specs.Hosting.{HostState}
 use Rattle.wh_host.proofs.Carrying.{evict_ended, nobody_left}
+use Rattle.wh_host.proofs.Fields.{host_of, shown_host}
 use Rattle.wh_host.proofs.host.Host.evict_commit.Goals as goal
 
 pub invariant_of-self : goal.invariant_of-self
 invariant_of-self c =
-    let i = c.self.inside in
-    let h : HostState = record { modules = i.modules.items; entries = i.entries.slots; live = i.live; space = i.memory; next = i.next; next_module = i.next_module } in
+    let h = host_of c.self.inside in
     let inv = c.self.invariant in
     let kept = subst (λ f. KeepsFault h.entries c.args.eviction.id c.args.eviction.call f c.keep_fault.new.entries.slots) c.fault_of_evict.ensures c.keep_fault.ensures in
     let made = evict_ended h inv.0 c.args.eviction.id c.args.eviction.call c.args.eviction.ticket.slot (is_ok c.args.device) c.args.eviction.ticket.bytes c.end_eviction-end.result.0 (evict_fault c.end_eviction-end.result.0 c.args.device) c.end_eviction-end.new.memory c.keep_fault.new.entries.slots c.leave_released.new.entries.slots inv.1 c.end_eviction-end.ensures.ends kept c.leave_released.ensures.stays in
@@ -16,23 +16,19 @@ invariant_of-self c =
 
 pub returns-clause-moves : goal.returns-clause-moves
 returns-clause-moves c w st =
-    let i = c.self.inside in
-    let h : HostState = record { modules = i.modules.items; entries = i.entries.slots; live = i.live; space = i.memory; next = i.next; next_module = i.next_module } in
-    let here = subst (λ z. IsHost z w) (sym c.self.view_is) st in
+    let h = host_of c.self.inside in
     let kept = subst (λ f. KeepsFault h.entries c.args.eviction.id c.args.eviction.call f c.keep_fault.new.entries.slots) c.fault_of_evict.ensures c.keep_fault.ensures in
-    evict_ended h w c.args.eviction.id c.args.eviction.call c.args.eviction.ticket.slot (is_ok c.args.device) c.args.eviction.ticket.bytes c.end_eviction-end.result.0 (evict_fault c.end_eviction-end.result.0 c.args.device) c.end_eviction-end.new.memory c.keep_fault.new.entries.slots c.leave_released.new.entries.slots here c.end_eviction-end.ensures.ends kept c.leave_released.ensures.stays
+    evict_ended h w c.args.eviction.id c.args.eviction.call c.args.eviction.ticket.slot (is_ok c.args.device) c.args.eviction.ticket.bytes c.end_eviction-end.result.0 (evict_fault c.end_eviction-end.result.0 c.args.device) c.end_eviction-end.new.memory c.keep_fault.new.entries.slots c.leave_released.new.entries.slots (shown_host w c.self.view_is st) c.end_eviction-end.ensures.ends kept c.leave_released.ensures.stays
 
 pub returns-clause-ends : goal.returns-clause-ends
 returns-clause-ends c =
-    let i = c.self.inside in
-    let h : HostState = record { modules = i.modules.items; entries = i.entries.slots; live = i.live; space = i.memory; next = i.next; next_module = i.next_module } in
+    let h = host_of c.self.inside in
     let space : h.space ≡ c.args.self.now.space = ap (λ (z : HostState). z.space) c.self.view_is in
     subst (λ s. EndsEvict s c.args.eviction.ticket.slot (is_ok c.args.device) c.args.eviction.ticket.bytes c.end_eviction-end.result.0 c.end_eviction-end.new.memory) space c.end_eviction-end.ensures.ends
 
 pub returns-clause-leaves : goal.returns-clause-leaves
 returns-clause-leaves c at e free =
-    let i = c.self.inside in
-    let h : HostState = record { modules = i.modules.items; entries = i.entries.slots; live = i.live; space = i.memory; next = i.next; next_module = i.next_module } in
+    let h = host_of c.self.inside in
     let inv = c.self.invariant in
     let space : h.space ≡ c.args.self.now.space = ap (λ (z : HostState). z.space) c.self.view_is in
     let kept = subst (λ f. KeepsFault h.entries c.args.eviction.id c.args.eviction.call f c.keep_fault.new.entries.slots) c.fault_of_evict.ensures c.keep_fault.ensures in

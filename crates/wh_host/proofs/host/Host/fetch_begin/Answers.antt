@@ -1,8 +1,9 @@
-use Rattle.std.proofs.Common.{◌≡◌, Some, None, sym, ap, subst}
-use Rattle.wh_host_model.specs.Space.Tickets.{BeginsFetch}
-use Rattle.wh_host.specs.Hosting.{HostState, IsHost}
+use Rattle.std.proofs.Common.{◌≡◌, Some, None, ap, subst}
+use Rattle.wh_space_model.specs.{BeginsFetch}
+use Rattle.wh_host.specs.Hosting.{HostState}
 use Rattle.wh_host.proofs.Carrying.{fetch_begun, fetching_out}
 use Rattle.wh_host.proofs.Paged.{only_nothing}
+use Rattle.wh_host.proofs.Fields.{host_of, shown_host}
 use Rattle.wh_host.proofs.host.Host.fetch_begin.Goals as goal
 
 pub returns-in_default-clause-moves : goal.returns-in_default-clause-moves
@@ -15,23 +16,17 @@ returns-in_default-clause-begins c need waits =
 
 pub invariant_of-self : goal.invariant_of-self
 invariant_of-self c =
-    let i = c.self.inside in
-    let h : HostState = record { modules = i.modules.items; entries = i.entries.slots; live = i.live; space = i.memory; next = i.next; next_module = i.next_module } in
     let inv = c.self.invariant in
-    let made = fetch_begun h inv.0 c.args.id None c.fetch_begin.new.memory inv.1 c.in-Err.ensures.begins in
+    let made = fetch_begun (host_of c.self.inside) inv.0 c.args.id None c.fetch_begin.new.memory inv.1 c.in-Err.ensures.begins in
     (made.0, made.2)
 
 pub returns-in-Err-clause-moves : goal.returns-in-Err-clause-moves
 returns-in-Err-clause-moves c w st =
-    let i = c.self.inside in
-    let h : HostState = record { modules = i.modules.items; entries = i.entries.slots; live = i.live; space = i.memory; next = i.next; next_module = i.next_module } in
-    let here = subst (λ z. IsHost z w) (sym c.self.view_is) st in
-    fetch_begun h w c.args.id None c.fetch_begin.new.memory here c.in-Err.ensures.begins
+    fetch_begun (host_of c.self.inside) w c.args.id None c.fetch_begin.new.memory (shown_host w c.self.view_is st) c.in-Err.ensures.begins
 
 pub returns-in-Err-clause-begins : goal.returns-in-Err-clause-begins
 returns-in-Err-clause-begins c need waits =
-    let i = c.self.inside in
-    let h : HostState = record { modules = i.modules.items; entries = i.entries.slots; live = i.live; space = i.memory; next = i.next; next_module = i.next_module } in
+    let h = host_of c.self.inside in
     let space : h.space ≡ c.args.self.now.space = ap (λ (z : HostState). z.space) c.self.view_is in
     subst (λ s. BeginsFetch s c.args.id.place None c.fetch_begin.new.memory) space c.in-Err.ensures.begins
 
@@ -41,23 +36,17 @@ returns-in-Err-clause-idle c none =
 
 pub invariant_of-self-2 : goal.invariant_of-self-2
 invariant_of-self-2 c =
-    let i = c.self.inside in
-    let h : HostState = record { modules = i.modules.items; entries = i.entries.slots; live = i.live; space = i.memory; next = i.next; next_module = i.next_module } in
     let inv = c.self.invariant in
-    let made = fetch_begun h inv.0 c.args.id (Some c.in-Ok.ticket.slot) c.fetch_begin.new.memory inv.1 c.in-Ok.ensures.begins in
+    let made = fetch_begun (host_of c.self.inside) inv.0 c.args.id (Some c.in-Ok.ticket.slot) c.fetch_begin.new.memory inv.1 c.in-Ok.ensures.begins in
     (made.0, made.2)
 
 pub returns-clause-moves : goal.returns-clause-moves
 returns-clause-moves c w st =
-    let i = c.self.inside in
-    let h : HostState = record { modules = i.modules.items; entries = i.entries.slots; live = i.live; space = i.memory; next = i.next; next_module = i.next_module } in
-    let here = subst (λ z. IsHost z w) (sym c.self.view_is) st in
-    fetch_begun h w c.args.id (Some c.in-Ok.ticket.slot) c.fetch_begin.new.memory here c.in-Ok.ensures.begins
+    fetch_begun (host_of c.self.inside) w c.args.id (Some c.in-Ok.ticket.slot) c.fetch_begin.new.memory (shown_host w c.self.view_is st) c.in-Ok.ensures.begins
 
 pub returns-clause-begins : goal.returns-clause-begins
 returns-clause-begins c need waits =
-    let i = c.self.inside in
-    let h : HostState = record { modules = i.modules.items; entries = i.entries.slots; live = i.live; space = i.memory; next = i.next; next_module = i.next_module } in
+    let h = host_of c.self.inside in
     let space : h.space ≡ c.args.self.now.space = ap (λ (z : HostState). z.space) c.self.view_is in
     subst (λ s. BeginsFetch s c.args.id.place (Some c.in-Ok.ticket.slot) c.fetch_begin.new.memory) space c.in-Ok.ensures.begins
 

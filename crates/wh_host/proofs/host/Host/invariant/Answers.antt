@@ -1,5 +1,5 @@
 use Rattle.std.proofs.Common.{subst}
-use Rattle.wh_host_model.specs.Host.Worlds.{World}
+use Rattle.wh_host_model.specs.Host.{World}
 use Rattle.wh_host.specs.Hosting.{HostState, IsHost}
 use Rattle.wh_host.proofs.host.Host.invariant.Goals as goal
 

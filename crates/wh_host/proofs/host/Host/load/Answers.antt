@@ -1,9 +1,9 @@
-use Rattle.std.proofs.Common.{◌≡◌, ◌<◌, length, refl, sym, ap, subst, ◌∙◌, arith, List}
-use Rattle.wh_host_model.specs.Host.Admission.{modules_full, host_out_of_memory}
-use Rattle.wh_host_model.specs.Host.Happens.{load_ok, load_refused, load_out_of_memory}
+use Rattle.std.proofs.Common.{◌<◌, length, refl, sym, ap, subst, ◌∙◌, arith, List}
+use Rattle.wh_host_model.specs.Host.{modules_full, host_out_of_memory, load_ok, load_refused, load_out_of_memory}
 use Rattle.wh_host.specs.declared.parts.LoadedModule.{LoadedModule}
 use Rattle.wh_host.specs.Hosting.{HostState, IsHost}
 use Rattle.wh_host.proofs.Requests.{bytes_refused, kept_here, modules_are_full, no_room_to_keep}
+use Rattle.wh_host.proofs.Fields.{host_of, shown_host}
 use Rattle.wh_host.proofs.host.Host.load.Goals as goal
 
 pub returns-in-Err-clause-loads : goal.returns-in-Err-clause-loads
@@ -13,36 +13,31 @@ returns-in-Err-clause-loads c w st =
 
 pub returns-then-len-ge-MOST_MODULES-clause-loads : goal.returns-then-len-ge-MOST_MODULES-clause-loads
 returns-then-len-ge-MOST_MODULES-clause-loads c w st =
-    let i = c.self.inside in
-    let h : HostState = record { modules = i.modules.items; entries = i.entries.slots; live = i.live; space = i.memory; next = i.next; next_module = i.next_module } in
-    let here = subst (λ z. IsHost z w) (sym c.self.view_is) st in
-    (load_refused modules_full, w, refl, modules_are_full h w c.args.bytes.now _ here c.in-Ok.ensures.ok (omega (arith, c.if-len-ge-MOST_MODULES.true, c.len.ensures)), st)
+    (load_refused modules_full, w, refl, modules_are_full (host_of c.self.inside) w c.args.bytes.now _ (shown_host w c.self.view_is st) c.in-Ok.ensures.ok (omega (arith, c.if-len-ge-MOST_MODULES.true, c.len.ensures)), st)
 
 pub invariant_of-self : goal.invariant_of-self
 invariant_of-self c =
-    let i = c.self.inside in
-    let h : HostState = record { modules = i.modules.items; entries = i.entries.slots; live = i.live; space = i.memory; next = i.next; next_module = i.next_module } in
+    let h = host_of c.self.inside in
     let inv = c.self.invariant in
     (inv.0, subst (λ ms. IsHost (record h { modules = ms }) inv.0) (sym c.in-Err-keep.ensures.err) inv.1)
 
 pub returns-in-Err-keep-clause-loads : goal.returns-in-Err-keep-clause-loads
 returns-in-Err-keep-clause-loads c w st =
     let i = c.self.inside in
-    let h : HostState = record { modules = i.modules.items; entries = i.entries.slots; live = i.live; space = i.memory; next = i.next; next_module = i.next_module } in
-    let here = subst (λ z. IsHost z w) (sym c.self.view_is) st in
+    let h = host_of i in
+    let here = shown_host w c.self.view_is st in
     let few : length i.modules.items < 1024 = omega (arith, c.if-len-ge-MOST_MODULES.false, c.len.ensures) in
     (load_out_of_memory host_out_of_memory, w, refl, no_room_to_keep h w c.args.bytes.now _ here c.in-Ok.ensures.ok few, subst (λ ms. IsHost (record h { modules = ms }) w) (sym c.in-Err-keep.ensures.err) here)
 
 pub returns-in-Err-keep-clause-err : goal.returns-in-Err-keep-clause-err
 returns-in-Err-keep-clause-err c =
-    let i = c.self.inside in
-    let h : HostState = record { modules = i.modules.items; entries = i.entries.slots; live = i.live; space = i.memory; next = i.next; next_module = i.next_module } in
+    let h = host_of c.self.inside in
     ap (λ (ms : List LoadedModule). let s : HostState = record h { modules = ms } in s) c.in-Err-keep.ensures.err ∙ c.self.view_is
 
 pub invariant_of-self-2 : goal.invariant_of-self-2
 invariant_of-self-2 c =
     let i = c.self.inside in
-    let h : HostState = record { modules = i.modules.items; entries = i.entries.slots; live = i.live; space = i.memory; next = i.next; next_module = i.next_module } in
+    let h = host_of i in
     let inv = c.self.invariant in
     let few : length i.modules.items < 1024 = omega (arith, c.if-len-ge-MOST_MODULES.false, c.len.ensures) in
     let made = kept_here h inv.0 c.args.bytes.now _ _ i.next_module inv.1 c.in-Ok-keep.ensures.ok c.in-Ok.ensures.ok refl few in
@@ -51,8 +46,7 @@ invariant_of-self-2 c =
 pub returns-clause-loads : goal.returns-clause-loads
 returns-clause-loads c w st =
     let i = c.self.inside in
-    let h : HostState = record { modules = i.modules.items; entries = i.entries.slots; live = i.live; space = i.memory; next = i.next; next_module = i.next_module } in
-    let here = subst (λ z. IsHost z w) (sym c.self.view_is) st in
+    let h = host_of i in
     let few : length i.modules.items < 1024 = omega (arith, c.if-len-ge-MOST_MODULES.false, c.len.ensures) in
-    let made = kept_here h w c.args.bytes.now _ _ i.next_module here c.in-Ok-keep.ensures.ok c.in-Ok.ensures.ok refl few in
+    let made = kept_here h w c.args.bytes.now _ _ i.next_module (shown_host w c.self.view_is st) c.in-Ok-keep.ensures.ok c.in-Ok.ensures.ok refl few in
     (load_ok i.next_module, made.0, refl, made.1, made.2)

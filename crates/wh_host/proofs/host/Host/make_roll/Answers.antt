@@ -1,14 +1,14 @@
 use Rattle.std.proofs.Common.{◌≡◌, ◌∙◌, ap, map, refl, sym, subst}
-use Rattle.wh_host.specs.Hosting.{HostState, IsHost}
 use Rattle.wh_host.specs.Rolls.{listed_refs, modules_from, view_listed, view_listed_module}
 use Rattle.wh_host.specs.InstanceRefs.{AreInstanceRefs}
 use Rattle.wh_host.proofs.Enrolling.{roll_is}
+use Rattle.wh_host.proofs.Fields.{host_of, shown_host}
 use Rattle.wh_host.proofs.host.Host.make_roll.Goals as goal
 
 pub invariant_of-result : goal.invariant_of-result
 invariant_of-result c =
     let i = c.self.inside in
-    let h : HostState = record { modules = i.modules.items; entries = i.entries.slots; live = i.live; space = i.memory; next = i.next; next_module = i.next_module } in
+    let h = host_of i in
     let inv = c.self.invariant in
     let instance_refs = c.in_ok-instance_refs.instance_refs.items in
     let are = subst (λ z. AreInstanceRefs z instance_refs) (sym c.self.view_is) c.in_ok-instance_refs.ensures in
@@ -21,12 +21,11 @@ invariant_of-result c =
 pub returns : goal.returns
 returns c w st =
     let i = c.self.inside in
-    let h : HostState = record { modules = i.modules.items; entries = i.entries.slots; live = i.live; space = i.memory; next = i.next; next_module = i.next_module } in
-    let here = subst (λ z. IsHost z w) (sym c.self.view_is) st in
+    let h = host_of i in
     let instance_refs = c.in_ok-instance_refs.instance_refs.items in
     let are = subst (λ z. AreInstanceRefs z instance_refs) (sym c.self.view_is) c.in_ok-instance_refs.ensures in
     let modules = map view_listed_module c.in_ok-modules.modules.items in
     let instances = map view_listed c.in_ok-instances.instances.items in
     let numbered : modules ≡ modules_from 0 h.modules = c.in_ok-modules.ensures ∙ ap (modules_from 0) c.deref.ensures.value in
     let listed : instances ≡ listed_refs h.entries instance_refs = c.in_ok-instances.ensures ∙ ap (listed_refs h.entries) c.deref-2.ensures.value in
-    roll_is h instance_refs modules i.next c.tickets.result instances are numbered refl c.tickets.ensures listed w here
+    roll_is h instance_refs modules i.next c.tickets.result instances are numbered refl c.tickets.ensures listed w (shown_host w c.self.view_is st)

@@ -1,8 +1,9 @@
-use Rattle.std.proofs.Common.{sym, ap, subst}
-use Rattle.wh_host.specs.Hosting.{HostState, IsHost}
+use Rattle.std.proofs.Common.{ap}
+use Rattle.wh_host.specs.Hosting.{HostState}
 use Rattle.wh_host.proofs.Backed.{offers_backing, same_backing, then_backing}
 use Rattle.wh_host.proofs.Offering.{offered_here}
 use Rattle.wh_host.proofs.Paged.{only_nothing}
+use Rattle.wh_host.proofs.Fields.{host_of, shown_host}
 use Rattle.wh_host.proofs.host.Host.offer.Goals as goal
 
 pub returns-then-not-has_few_pages-clause-moves : goal.returns-then-not-has_few_pages-clause-moves
@@ -15,20 +16,15 @@ returns-then-place-clause-moves g c w st =
 
 pub invariant_of-self : goal.invariant_of-self
 invariant_of-self g c =
-    let i = c.self.inside in
-    let h : HostState = record { modules = i.modules.items; entries = i.entries.slots; live = i.live; space = i.memory; next = i.next; next_module = i.next_module } in
     let inv = c.self.invariant in
     let hashes = g.H.PageHash.hashes c.args.hasher.now in
-    let made = offered_here h inv.0 hashes c.args.id c.args.page c.args.hash c.offer-answer.result c.offer-answer.new.memory inv.1 c.offer-answer.ensures in
+    let made = offered_here (host_of c.self.inside) inv.0 hashes c.args.id c.args.page c.args.hash c.offer-answer.result c.offer-answer.new.memory inv.1 c.offer-answer.ensures in
     (made.0, made.2)
 
 pub returns-clause-moves : goal.returns-clause-moves
 returns-clause-moves g c w st =
-    let i = c.self.inside in
-    let h : HostState = record { modules = i.modules.items; entries = i.entries.slots; live = i.live; space = i.memory; next = i.next; next_module = i.next_module } in
-    let here = subst (λ z. IsHost z w) (sym c.self.view_is) st in
     let hashes = g.H.PageHash.hashes c.args.hasher.now in
-    offered_here h w hashes c.args.id c.args.page c.args.hash c.offer-answer.result c.offer-answer.new.memory here c.offer-answer.ensures
+    offered_here (host_of c.self.inside) w hashes c.args.id c.args.page c.args.hash c.offer-answer.result c.offer-answer.new.memory (shown_host w c.self.view_is st) c.offer-answer.ensures
 
 pub returns-clause-backing : goal.returns-clause-backing
 returns-clause-backing g c =

@@ -1,59 +1,45 @@
 use Rattle.std.proofs.Common.{ap, ◌≡◌, ◌+◌, ◌-◌, Some, None, refl, sym, subst, ◌∙◌, arith}
-use Rattle.wh_host_model.specs.Host.Happens.{no_one_to_release}
-use Rattle.wh_host_model.specs.Space.Places.{Exits}
-use Rattle.wh_host.specs.Hosting.{HostState, IsHost, entry_at}
+use Rattle.wh_host_model.specs.Host.{no_one_to_release}
+use Rattle.wh_space_model.specs.{Exits}
+use Rattle.wh_host.specs.Hosting.{HostState}
 use Rattle.wh_host.proofs.Backed.{exits_backing, same_backing, then_backing}
-use Rattle.wh_host.proofs.Hosts.{nobody, one_there, put_back, somebody_else}
+use Rattle.wh_host.proofs.Hosts.{one_there, put_back}
 use Rattle.wh_host.proofs.Requests.{gone_here, lives_there}
+use Rattle.wh_host.proofs.Fields.{another_there, host_of, nobody_there, some_host, shown_host}
 use Rattle.wh_host.proofs.host.Host.release.Goals as goal
 
 pub returns-in_default-clause-goes : goal.returns-in_default-clause-goes
 returns-in_default-clause-goes c w st =
-    let i = c.self.inside in
-    let h : HostState = record { modules = i.modules.items; entries = i.entries.slots; live = i.live; space = i.memory; next = i.next; next_module = i.next_module } in
-    let here = subst (λ z. IsHost z w) (sym c.self.view_is) st in
-    (None, w, refl, no_one_to_release (nobody h w c.args.id here (sym c.in_default.ensures.value)), here)
+    let (none, here) = nobody_there (host_of c.self.inside) w c.args.id c.self.view_is st (sym c.in_default.ensures.value) in
+    (None, w, refl, no_one_to_release none, here)
 
 pub invariant_of-self-then-not-has_number : goal.invariant_of-self-then-not-has_number
 invariant_of-self-then-not-has_number c =
-    let i = c.self.inside in
-    let h : HostState = record { modules = i.modules.items; entries = i.entries.slots; live = i.live; space = i.memory; next = i.next; next_module = i.next_module } in
-    let inv = c.self.invariant in
-    (inv.0, subst (λ z. IsHost z inv.0) (sym (put_back h c.args.id.place c.in-Some.entry.now (sym c.in-Some.ensures.value))) inv.1)
+    some_host (put_back (host_of c.self.inside) c.args.id.place c.in-Some.entry.now (sym c.in-Some.ensures.value)) c.self.invariant
 
 pub returns-then-not-has_number-clause-goes : goal.returns-then-not-has_number-clause-goes
 returns-then-not-has_number-clause-goes c w st =
-    let i = c.self.inside in
-    let h : HostState = record { modules = i.modules.items; entries = i.entries.slots; live = i.live; space = i.memory; next = i.next; next_module = i.next_module } in
-    let here = subst (λ z. IsHost z w) (sym c.self.view_is) st in
-    let at : entry_at h.entries c.args.id.place ≡ Some c.in-Some.entry.now = sym c.in-Some.ensures.value in
-    let back = subst (λ z. IsHost z w) (sym (put_back h c.args.id.place c.in-Some.entry.now at)) here in
-    (None, w, refl, no_one_to_release (somebody_else h w c.args.id c.in-Some.entry.now here at c.if-not-has_number.ensures), back)
+    let (none, here) = another_there (host_of c.self.inside) w c.args.id c.in-Some.entry.now c.self.view_is st (sym c.in-Some.ensures.value) c.if-not-has_number.ensures in
+    (None, w, refl, no_one_to_release none, here)
 
 pub returns-then-not-has_number-clause-err : goal.returns-then-not-has_number-clause-err
 returns-then-not-has_number-clause-err c =
-    let i = c.self.inside in
-    let h : HostState = record { modules = i.modules.items; entries = i.entries.slots; live = i.live; space = i.memory; next = i.next; next_module = i.next_module } in
-    put_back h c.args.id.place c.in-Some.entry.now (sym c.in-Some.ensures.value) ∙ c.self.view_is
+    put_back (host_of c.self.inside) c.args.id.place c.in-Some.entry.now (sym c.in-Some.ensures.value) ∙ c.self.view_is
 
 pub exit-requires : goal.exit-requires
 exit-requires c =
-    let i = c.self.inside in
-    let h : HostState = record { modules = i.modules.items; entries = i.entries.slots; live = i.live; space = i.memory; next = i.next; next_module = i.next_module } in
     let inv = c.self.invariant in
-    lives_there h inv.0 c.args.id.place c.args.id.number c.in-Some.entry.now inv.1 (sym c.in-Some.ensures.value) c.if-not-has_number.ensures
+    lives_there (host_of c.self.inside) inv.0 c.args.id.place c.args.id.number c.in-Some.entry.now inv.1 (sym c.in-Some.ensures.value) c.if-not-has_number.ensures
 
 pub overflow_sub-self : goal.overflow_sub-self
 overflow_sub-self c =
-    let i = c.self.inside in
-    let h : HostState = record { modules = i.modules.items; entries = i.entries.slots; live = i.live; space = i.memory; next = i.next; next_module = i.next_module } in
     let inv = c.self.invariant in
-    one_there h inv.0 c.args.id.place c.args.id.number c.in-Some.entry.now inv.1 (sym c.in-Some.ensures.value) c.if-not-has_number.ensures
+    one_there (host_of c.self.inside) inv.0 c.args.id.place c.args.id.number c.in-Some.entry.now inv.1 (sym c.in-Some.ensures.value) c.if-not-has_number.ensures
 
 pub invariant_of-self-2 : goal.invariant_of-self-2
 invariant_of-self-2 c =
     let i = c.self.inside in
-    let h : HostState = record { modules = i.modules.items; entries = i.entries.slots; live = i.live; space = i.memory; next = i.next; next_module = i.next_module } in
+    let h = host_of i in
     let inv = c.self.invariant in
     let x = c.in-Some.entry.now in
     let some = one_there h inv.0 c.args.id.place c.args.id.number x inv.1 (sym c.in-Some.ensures.value) c.if-not-has_number.ensures in
@@ -64,8 +50,8 @@ invariant_of-self-2 c =
 pub returns-clause-goes : goal.returns-clause-goes
 returns-clause-goes c w st =
     let i = c.self.inside in
-    let h : HostState = record { modules = i.modules.items; entries = i.entries.slots; live = i.live; space = i.memory; next = i.next; next_module = i.next_module } in
-    let here = subst (λ z. IsHost z w) (sym c.self.view_is) st in
+    let h = host_of i in
+    let here = shown_host w c.self.view_is st in
     let x = c.in-Some.entry.now in
     let some = one_there h w c.args.id.place c.args.id.number x here (sym c.in-Some.ensures.value) c.if-not-has_number.ensures in
     let fewer : i.live ≡ 1 + (i.live - 1) = omega (arith, some) in

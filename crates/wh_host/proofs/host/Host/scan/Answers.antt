@@ -1,8 +1,9 @@
-use Rattle.std.proofs.Common.{sym, ap, subst}
-use Rattle.wh_host.specs.Hosting.{HostState, IsHost}
+use Rattle.std.proofs.Common.{ap}
+use Rattle.wh_host.specs.Hosting.{HostState}
 use Rattle.wh_host.proofs.Backed.{scans_backing, same_backing, then_backing}
 use Rattle.wh_host.proofs.Offering.{scanned_here}
 use Rattle.wh_host.proofs.Paged.{only_nothing}
+use Rattle.wh_host.proofs.Fields.{host_of, shown_host}
 use Rattle.wh_host.proofs.host.Host.scan.Goals as goal
 
 pub returns-then-not-has_few_pages-clause-moves : goal.returns-then-not-has_few_pages-clause-moves
@@ -11,20 +12,15 @@ returns-then-not-has_few_pages-clause-moves g c w st =
 
 pub invariant_of-self : goal.invariant_of-self
 invariant_of-self g c =
-    let i = c.self.inside in
-    let h : HostState = record { modules = i.modules.items; entries = i.entries.slots; live = i.live; space = i.memory; next = i.next; next_module = i.next_module } in
     let inv = c.self.invariant in
     let hashes = g.H.PageHash.hashes c.args.hasher.now in
-    let made = scanned_here h inv.0 hashes _ c.scan_all.new.memory inv.1 c.scan_all.ensures.scans.2 in
+    let made = scanned_here (host_of c.self.inside) inv.0 hashes _ c.scan_all.new.memory inv.1 c.scan_all.ensures.scans.2 in
     (made.0, made.2)
 
 pub returns-clause-moves : goal.returns-clause-moves
 returns-clause-moves g c w st =
-    let i = c.self.inside in
-    let h : HostState = record { modules = i.modules.items; entries = i.entries.slots; live = i.live; space = i.memory; next = i.next; next_module = i.next_module } in
-    let here = subst (λ z. IsHost z w) (sym c.self.view_is) st in
     let hashes = g.H.PageHash.hashes c.args.hasher.now in
-    scanned_here h w hashes _ c.scan_all.new.memory here c.scan_all.ensures.scans.2
+    scanned_here (host_of c.self.inside) w hashes _ c.scan_all.new.memory (shown_host w c.self.view_is st) c.scan_all.ensures.scans.2
 
 pub returns-clause-backing : goal.returns-clause-backing
 returns-clause-backing g c =

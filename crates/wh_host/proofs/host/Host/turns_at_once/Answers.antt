@@ -1,28 +1,25 @@
 use Rattle.std.proofs.Common.{◌+◌, sym, subst, ◌∙◌, arith}
-use Rattle.wh_host.specs.Hosting.{HostState, IsHost}
+use Rattle.wh_host.specs.Hosting.{IsHost}
 use Rattle.wh_host.proofs.Reaching.{each_had_leave, each_takes_some}
 use Rattle.wh_host.proofs.RunnerTurns.{have_run, heard_all, may_run_all}
+use Rattle.wh_host.proofs.Fields.{host_of}
 use Rattle.wh_host.proofs.host.Host.turns_at_once.Goals as goal
 
 pub run_all-requires-clause-may : goal.run_all-requires-clause-may
 run_all-requires-clause-may g c =
-    let i = c.self.inside in
-    let h : HostState = record { modules = i.modules.items; entries = i.entries.slots; live = i.live; space = i.memory; next = i.next; next_module = i.next_module } in
     let inv = c.self.invariant in
-    may_run_all h inv.0 c.take_all.new.entries.slots c.take_all.new.runners inv.1 c.take_all.ensures.out
+    may_run_all (host_of c.self.inside) inv.0 c.take_all.new.entries.slots c.take_all.new.runners inv.1 c.take_all.ensures.out
 
 pub lay_all-requires : goal.lay_all-requires
 lay_all-requires g c =
-    let i = c.self.inside in
-    let h : HostState = record { modules = i.modules.items; entries = i.entries.slots; live = i.live; space = i.memory; next = i.next; next_module = i.next_module } in
+    let h = host_of c.self.inside in
     let inv = c.self.invariant in
     let out = c.take_all.ensures in
     (h, c.args.burst.quantum, c.args.burst.further + 1, h.entries, h.space, inv.0, have_run h c.args.burst.quantum (c.args.burst.further + 1) c.take_all.new.entries.slots c.take_all.new.runners c.run_all.new.runners c.run_all.auto.runners (let few = out.frames in let free = c.free.ensures in omega (arith, few, free)) out.out out.rest c.run_all.ensures, inv.1)
 
 pub invariant_of-self : goal.invariant_of-self
 invariant_of-self g c =
-    let i = c.self.inside in
-    let h : HostState = record { modules = i.modules.items; entries = i.entries.slots; live = i.live; space = i.memory; next = i.next; next_module = i.next_module } in
+    let h = host_of c.self.inside in
     let inv = c.self.invariant in
     let out = c.take_all.ensures in
     let t = c.lay_all.ensures.turns h c.args.burst.quantum (c.args.burst.further + 1) h.entries h.space inv.0 (have_run h c.args.burst.quantum (c.args.burst.further + 1) c.take_all.new.entries.slots c.take_all.new.runners c.run_all.new.runners c.run_all.auto.runners (let few = out.frames in let free = c.free.ensures in omega (arith, few, free)) out.out out.rest c.run_all.ensures) inv.1 in
@@ -30,8 +27,7 @@ invariant_of-self g c =
 
 pub returns-clause-turns : goal.returns-clause-turns
 returns-clause-turns g c w st =
-    let i = c.self.inside in
-    let h : HostState = record { modules = i.modules.items; entries = i.entries.slots; live = i.live; space = i.memory; next = i.next; next_module = i.next_module } in
+    let h = host_of c.self.inside in
     let out = c.take_all.ensures in
     c.lay_all.ensures.turns h c.args.burst.quantum (c.args.burst.further + 1) h.entries h.space w (have_run h c.args.burst.quantum (c.args.burst.further + 1) c.take_all.new.entries.slots c.take_all.new.runners c.run_all.new.runners c.run_all.auto.runners (let few = out.frames in let free = c.free.ensures in omega (arith, few, free)) out.out out.rest c.run_all.ensures)
     (subst (λ z. IsHost z w) (sym c.self.view_is) st)
@@ -40,20 +36,16 @@ pub returns-clause-same : goal.returns-clause-same
 returns-clause-same g c = λ k y there.
     (let last = c.lay_all.ensures.same k y there in
     let ran = c.run_all.ensures k last.0 last.1 in
-    let runs = ran.2 in
     let first = c.take_all.ensures.same k ran.0 ran.1 in
-    (first.0, first.1, last.2 ∙ runs.id ∙ first.2))
+    (first.0, first.1, last.2 ∙ ran.2.id ∙ first.2))
 
 pub returns-clause-all : goal.returns-clause-all
 returns-clause-all g c w st =
-    let i = c.self.inside in
-    let h : HostState = record { modules = i.modules.items; entries = i.entries.slots; live = i.live; space = i.memory; next = i.next; next_module = i.next_module } in
-    heard_all h w c.args.burst.quantum (c.args.burst.further + 1) c.take_all.new.runners c.run_all.new.runners c.lay_all.new.runners (subst (λ z. IsHost z w) (sym c.self.view_is) st) c.run_all.auto.runners c.lay_all.auto.runners c.take_all.ensures.left c.run_all.ensures c.lay_all.ensures.answers
+    heard_all (host_of c.self.inside) w c.args.burst.quantum (c.args.burst.further + 1) c.take_all.new.runners c.run_all.new.runners c.lay_all.new.runners (subst (λ z. IsHost z w) (sym c.self.view_is) st) c.run_all.auto.runners c.lay_all.auto.runners c.take_all.ensures.left c.run_all.ensures c.lay_all.ensures.answers
 
 pub returns-clause-some : goal.returns-clause-some
 returns-clause-some g c least w st =
-    let i = c.self.inside in
-    let h : HostState = record { modules = i.modules.items; entries = i.entries.slots; live = i.live; space = i.memory; next = i.next; next_module = i.next_module } in
+    let h = host_of c.self.inside in
     let out = c.take_all.ensures in
     each_takes_some h w c.args.burst.quantum (c.args.burst.further + 1) c.take_all.new.entries.slots h.space c.run_all.new.runners c.lay_all.new.runners (subst (λ z. IsHost z w) (sym c.self.view_is) st) least
     (have_run h c.args.burst.quantum (c.args.burst.further + 1) c.take_all.new.entries.slots c.take_all.new.runners c.run_all.new.runners c.run_all.auto.runners (let few = out.frames in let free = c.free.ensures in omega (arith, few, free)) out.out out.rest c.run_all.ensures)
@@ -61,8 +53,7 @@ returns-clause-some g c least w st =
 
 pub returns-clause-leave : goal.returns-clause-leave
 returns-clause-leave g c =
-    let i = c.self.inside in
-    let h : HostState = record { modules = i.modules.items; entries = i.entries.slots; live = i.live; space = i.memory; next = i.next; next_module = i.next_module } in
+    let h = host_of c.self.inside in
     let out = c.take_all.ensures in
     each_had_leave h c.args.burst.quantum (c.args.burst.further + 1) c.take_all.new.entries.slots h.space c.run_all.new.runners c.lay_all.new.runners
     (have_run h c.args.burst.quantum (c.args.burst.further + 1) c.take_all.new.entries.slots c.take_all.new.runners c.run_all.new.runners c.run_all.auto.runners (let few = out.frames in let free = c.free.ensures in omega (arith, few, free)) out.out out.rest c.run_all.ensures)

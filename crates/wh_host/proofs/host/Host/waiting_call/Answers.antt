@@ -1,16 +1,15 @@
 use Rattle.std.proofs.Common.{sym, subst}
 use Rattle.wh_model.specs.declared.memory.Need.{Need}
 use Rattle.wh_host.specs.TicketsOut.{IsPresentCall}
-use Rattle.wh_host.specs.Hosting.{HostState}
 use Rattle.wh_host.specs.Paging.{WaitsFor}
 use Rattle.wh_host.proofs.Carrying.{present_there}
 use Rattle.wh_host.proofs.Paged.{waits_there}
+use Rattle.wh_host.proofs.Fields.{host_of}
 use Rattle.wh_host.proofs.host.Host.waiting_call.Goals as goal
 
 pub returns : goal.returns
 returns c =
-    let i = c.self.inside in
-    let h : HostState = record { modules = i.modules.items; entries = i.entries.slots; live = i.live; space = i.memory; next = i.next; next_module = i.next_module } in
+    let h = host_of c.self.inside in
     let x = c.in-Some.entry.now in
     let at = sym c.in-Some.ensures in
     let number = c.if-not-has_number.ensures in

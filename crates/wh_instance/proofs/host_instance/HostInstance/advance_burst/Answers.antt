@@ -1,4 +1,4 @@
-use Rattle.std.proofs.Common.{inl, ℕ, ◌*◌, refl, sym, subst, arith}
+use Rattle.std.proofs.Common.{inl, ℕ, refl, sym, subst, arith}
 use Rattle.std.proofs.Math.Nat.{one-mul}
 use Rattle.wh_machine.specs.CallStates.{setting_of}
 use Rattle.wh_instance.specs.Advancing.{AdvancesAny}

@@ -2,7 +2,7 @@ use Rattle.std.proofs.Common.{◌≡◌, [], List, slice_get, refl, sym, ap, sub
 use Rattle.std.specs.Option.{option_copied}
 use Rattle.wh_journal.specs.Calls.{JournalCallState}
 use Rattle.wh_machine.specs.CallStates.{setting_of}
-use Rattle.wh_host_model.specs.Host.Worlds.{computing}
+use Rattle.wh_host_model.specs.Host.{computing}
 use Rattle.wh_instance.specs.declared.stages.CallStage.TheVariants.{UnderWay}
 use Rattle.wh_instance.specs.Tenancy.{HostInstanceState, IsWhere, RepresentsTenant}
 use Rattle.wh_instance.proofs.Advanced.{opened, present, is_facing, faced_as, isnt_left, isnt_faced, advanced}
@@ -15,8 +15,7 @@ unreachable-requires g c =
     let x1 : HostInstanceState = record { store = i.store; machine = i.machine; places = i.places.items; cursor = i.cursor; progress = i.progress; journal = i.journal; waiting_for = i.waiting_for; dead = i.dead } in
     let same : x1 ≡ c.args.self.now = c.self.view_is in
     let p = present w c.args.self.now c.args.memory.now c.requires.call in
-    let o = p.opened in
-    let at = ap (λ (z : HostInstanceState). z.journal.open_calls) same ∙ o.at in
+    let at = ap (λ (z : HostInstanceState). z.journal.open_calls) same ∙ p.opened.at in
     let never = sym (ap option_copied c.in-None.is) ∙ c.present.ensures ∙ ap (λ (z : List JournalCallState). slice_get z 0) at in
     cc never
 
@@ -36,8 +35,7 @@ func_of-requires g c = λ none.
     let calls = ap (λ (z : HostInstanceState). z.journal.open_calls) same ∙ o.at in
     let found = sym (ap option_copied c.in-Some.is) ∙ c.present.ensures ∙ ap (λ (z : List JournalCallState). slice_get z 0) calls in
     let call : c.in-Some.call.now ≡ o.c = cc found in
-    let first = o.first in
-    let never = sym none ∙ ap (λ (z : JournalCallState). z.func) call ∙ sym first.func ∙ st.calls in
+    let never = sym none ∙ ap (λ (z : JournalCallState). z.func) call ∙ sym o.first.func ∙ st.calls in
     cc never
 
 pub turn_first-came-requires : goal.turn_first-came-requires

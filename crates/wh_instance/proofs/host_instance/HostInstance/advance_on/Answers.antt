@@ -1,7 +1,7 @@
 use Rattle.std.proofs.Common.{◌≡◌, [], ◌*◌, refl, sym, ap, subst, ◌∙◌, arith}
 use Rattle.wh_journal.specs.Calls.{JournalCallState}
 use Rattle.wh_machine.specs.CallStates.{setting_of}
-use Rattle.wh_host_model.specs.Host.Worlds.{computing}
+use Rattle.wh_host_model.specs.Host.{computing}
 use Rattle.wh_instance.specs.Tenancy.{HostInstanceState, IsWhere, RepresentsTenant}
 use Rattle.wh_instance.proofs.Advanced.{opened, present, has_present, is_computing, isnt_left, isnt_faced, advanced}
 use Rattle.wh_instance.proofs.host_instance.HostInstance.advance_on.Goals as goal
@@ -28,8 +28,7 @@ turn_on-requires g c =
     let first = o.first in
     let charges = c.charges-charges.ensures ∙ ap (λ (z : JournalCallState). z.charges) call ∙ sym first.charges in
     let fuel = c.fuel-fuel.ensures ∙ ap (λ (z : JournalCallState). z.fuel) call ∙ sym first.fuel in
-    let e = p.e in
-    record { computing = (t.inst, e.call, t.rest, term, st); within = omega (arith, within, charges, fuel) }
+    record { computing = (t.inst, p.e.call, t.rest, term, st); within = omega (arith, within, charges, fuel) }
 
 pub returns-clause-advances : goal.returns-clause-advances
 returns-clause-advances g c t e es is_open given =

@@ -1,8 +1,8 @@
 use Rattle.std.proofs.Common.{◌≡◌, ℕ, ◌+◌, ◌<◌, ◌^◌, length, List, sym, ap, subst, ◌∙◌, arith}
 use Rattle.wh_journal.specs.Calls.{JournalCallState}
-use Rattle.wh_model.specs.Execution.Instance.{Piece}
+use Rattle.wh_model.specs.Execution.{Piece}
 use Rattle.wh_machine.specs.CallStates.{setting_of}
-use Rattle.wh_host_model.specs.Host.Worlds.{has_left}
+use Rattle.wh_host_model.specs.Host.{has_left}
 use Rattle.wh_instance.specs.Pieces.{pieces_left}
 use Rattle.wh_instance.specs.Tenancy.{HostInstanceState, IsWhere, RepresentsTenant}
 use Rattle.wh_instance.proofs.Advanced.{opened, present, has_present, is_writing, starting_as, advanced}
@@ -40,8 +40,7 @@ returns-clause-advances g c t e es is_open given =
     let at = ap (λ (z : HostInstanceState). z.progress) same ∙ c.requires.writes in
     let h = is_writing w x1 m t.inst t.rest t.doing e es at (subst (IsWhere w x1 m t.inst t.rest t.doing) is_open rep.is_where) in
     let call = c.present.ensures o.c o.cs o.at in
-    let first = o.first in
-    let fuel = c.fuel-fuel.ensures ∙ ap (λ (z : JournalCallState). z.fuel) call ∙ sym first.fuel in
+    let fuel = c.fuel-fuel.ensures ∙ ap (λ (z : JournalCallState). z.fuel) call ∙ sym o.first.fuel in
     let segments = c.args.linked.now.valid.decoded.segments.items in
     let k = c.turn_start-came in
     let v : c.deref.result.now ≡ i.places.items = c.deref.ensures.value in
@@ -53,14 +52,12 @@ returns-clause-advances g c t e es is_open given =
     let x2 : HostInstanceState = record x1 { store = k.new.store; machine = k.new.machine; cursor = k.new.cursor; progress = progress.result } in
     let turns = k.ensures.turns t.inst e.call t.rest h.func (sym fuel) (starting_as w x1 m t.inst e t.rest h.ps ps h.starting same_ps) in
     let counted = o.counted in
-    let starting = h.starting in
-    let none = starting.no_charges in
     let few = subst (λ (z : List Piece). e.call.fragments + length z < 2 ^ 64) same_ps h.few in
     advanced w c.args.q x2 m k.new.memory t e es k.result.0 k.result.1 k.result.2 left (has_left ps) (h.doing ∙ ap (λ z. has_left z) same_ps) turns
     (record {
       started = λ qs is. (h.func, subst (λ (z : List Piece). e.call.fragments + length z < 2 ^ 64) (cc is) few);
       counted = counted.pieces;
-      within = omega (arith, none);
+      within = omega (arith, h.starting.no_charges);
       at_end = λ empty. progress.ensures.under_way (sym same_left ∙ empty);
       at_piece = λ some. (progress.ensures.writing (λ empty. some (same_left ∙ empty)), same_left);
       begun = progress.ensures.begun;

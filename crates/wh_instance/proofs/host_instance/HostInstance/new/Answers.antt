@@ -1,6 +1,6 @@
 use Rattle.std.proofs.Common.{◌≡◌, ◌≢◌, ◌≤◌, ◌*◌, List, [], ℕ, length, map, sym, ap, subst, ◌∙◌}
 use Rattle.std.specs.Bool.{MatchBool}
-use Rattle.wh_model.specs.Execution.Instance.{Piece, Within, fragments, first_size}
+use Rattle.wh_model.specs.Execution.{Piece, Within, fragments, first_size}
 use Rattle.wh_syntax.specs.declared.module.Data.{Data}
 use Rattle.wh_syntax.specs.declared.module.Module.{Module}
 use Rattle.wh_syntax.specs.View.{view_module}
@@ -27,7 +27,6 @@ returns c p i =
     let left : pieces_left segments begun.places.items cursor ≡ fragments i.segments = c.first-cursor.ensures.all segments begun.places.items ∙ ap fragments are in
     let within : Within (first_size m.memories * 65536) (placed_data segments begun.places.items) = subst (Within (first_size m.memories * 65536)) (sym are) i.segments_within in
     let few = subst (λ (z : List Piece). length z ≤ first_size m.memories * 65536 * length segments) left (c.first-cursor.ensures.few segments begun.places.items (first_size m.memories * 65536) within) in
-    let valid = sound.valid in
     let start = c.module-module.result.now.start in
     let same_start : m.start ≡ start = sym (ap (λ (z : Module). z.start) same) in
     let has = c.has_pieces-has_pieces.result in
@@ -35,7 +34,7 @@ returns c p i =
     let all : pieces_left c.as_slice.result.now c.deref.result.now cursor ≡ fragments i.segments = ap (λ (z : List Data). pieces_left z c.deref.result.now cursor) seen ∙ ap (λ (z : List ℕ). pieces_left segments z cursor) c.deref.ensures.value ∙ left in
     let decided : MatchBool has (fragments i.segments ≢ []) (fragments i.segments ≡ []) = subst (λ (z : List Piece). MatchBool has (z ≢ []) (z ≡ [])) all c.has_pieces-has_pieces.ensures in
     let h = begins_tenant l p begun i c.args.fuel c.args.machine cursor
-    (record { known = record { sound = sound; resolved = resolved }; left = left; few = few_pieces m (length segments) (length (fragments i.segments)) valid.memories c.requires.few few; counted = c.ranges.fuel.fits })
+    (record { known = record { sound = sound; resolved = resolved }; left = left; few = few_pieces m (length segments) (length (fragments i.segments)) sound.valid.memories c.requires.few few; counted = c.ranges.fuel.fits })
     start same_start has decided in
     let journal = c.in_ok-journal.ensures ∙ ap (λ b. journal_at_first start c.args.fuel b) c.is_over-over.ensures in
     rw (c.first_progress-progress.ensures, journal) h

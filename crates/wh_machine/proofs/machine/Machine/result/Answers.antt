@@ -6,7 +6,5 @@ use Rattle.wh_machine.proofs.machine.Machine.result.Goals as goal
 
 pub returns : goal.returns
 returns c =
-    let some = c.if-len-eq0.false in
-    let e = c.len.ensures in
     let same = its_stack c.in-Some.is c.self.view_is in
-    subst (λ (z : Stack). Some c.top.result ≡ slice_get z.words 0) same (top_first c.in-Some.stack.words c.top.result (omega (arith, some, e)) c.top.ensures)
+    subst (λ (z : Stack). Some c.top.result ≡ slice_get z.words 0) same (top_first c.in-Some.stack.words c.top.result (omega (arith, c.if-len-eq0.false, c.len.ensures)) c.top.ensures)

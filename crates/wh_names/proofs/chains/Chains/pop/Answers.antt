@@ -5,9 +5,7 @@ use Rattle.wh_names.proofs.chains.Chains.pop.Goals as goal
 
 pub returns-clause-chains : goal.returns-clause-chains
 returns-clause-chains c f at chains =
-    let heads = c.args.self.now.heads.items in
     let links = c.args.self.now.links.items in
-    let b = c.args.bucket in
     let n = length links - 1 in
     let some = c.requires.last in
     let all : c.len-last.result ≡ length links = omega arith in
@@ -17,4 +15,4 @@ returns-clause-chains c f at chains =
     get_or_read links (c.len-last.result - 1) c.index.result.now less c.index.ensures 0 ∙ ap (λ k. get_or links k 0) place in
     let fewer : c.truncate.new.self.items ≡ take n links = c.truncate.ensures.items ∙ ap (λ k. take k links) place in
     let one_more : length links ≡ n + 1 = omega (arith, some) in
-    rw (read, fewer) (popped f heads links b n one_more c.requires.bucket at chains)
+    rw (read, fewer) (popped f c.args.self.now.heads.items links c.args.bucket n one_more c.requires.bucket at chains)

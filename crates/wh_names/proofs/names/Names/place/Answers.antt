@@ -18,12 +18,11 @@ loop-before-init c =
     let heads = c.self.inside.chains.heads.items in
     let links = c.self.inside.chains.links.items in
     let index = c.self.invariant.index in
-    let roomy = index.buckets in
     let many = index.links in
     let b = c.bucket_of-bucket.result in
     let all : c.len-2.result ≡ length heads = omega arith in
     let falls : b ≡ hash_of name % length heads = cc (c.bucket_of-bucket.ensures, c.as_bytes-name.ensures.value, all) in
-    let within : b < length heads = omega (arith, falls, roomy) in
+    let within : b < length heads = omega (arith, falls, index.buckets) in
     let read : c.index-link.result.now ≡ get_or heads b 0 =
     get_or_read heads b c.index-link.result.now within c.index-link.ensures 0 in
     let leads = subst (λ l. LeadsToName (bucket_at names (length heads)) b (length links) l) (sym read)
@@ -41,18 +40,16 @@ get-requires c =
 
 pub returns-then-eq : goal.returns-then-eq
 returns-then-eq c =
-    let names = c.self.inside.texts in
     let name = c.args.name.now in
     let same : c.get.result.now ≡ name = (slice_eq-Decides Decides-eqb _ _ _ c.eq.ensures).0 c.if-eq.true ∙ c.as_bytes-name.ensures.value in
-    sym (place_is names name c.in-Some.before c.self.invariant.apart (c.get.ensures ∙ ap (λ x. Some x) same))
+    sym (place_is c.self.inside.texts name c.in-Some.before c.self.invariant.apart (c.get.ensures ∙ ap (λ x. Some x) same))
     ∙ ap (λ xs. place_of_name xs name) c.self.view_is
 
 pub index-link-requires-in-Some : goal.index-link-requires-in-Some
 index-link-requires-in-Some c =
     let e : c.loop-before.link ≡ c.in-Some.before + 1 = omega arith in
     let less = (c.loop-before.invariant.there c.in-Some.before e).0 in
-    let many = c.self.invariant.index.links in
-    omega (arith, less, many)
+    omega (arith, less, c.self.invariant.index.links)
 
 pub loop-before-smaller : goal.loop-before-smaller
 loop-before-smaller c =
@@ -61,8 +58,7 @@ loop-before-smaller c =
     let less = (c.loop-before.invariant.there before e).0 in
     let links = c.self.inside.chains.links.items in
     let index = c.self.invariant.index in
-    let many = index.links in
-    let within : before < length links = omega (arith, less, many) in
+    let within : before < length links = omega (arith, less, index.links) in
     let read : c.index-link-in-Some.result.now ≡ get_or links before 0 =
     get_or_read links before c.index-link-in-Some.result.now within c.index-link-in-Some.ensures 0 in
     let down = leads_down _ _ before (get_or links before 0) (index.chains.from_name before within) in
@@ -79,8 +75,7 @@ loop-before-preserved c =
     let heads = c.self.inside.chains.heads.items in
     let links = c.self.inside.chains.links.items in
     let index = c.self.invariant.index in
-    let many = index.links in
-    let within : before < length links = omega (arith, less, many) in
+    let within : before < length links = omega (arith, less, index.links) in
     let b = c.bucket_of-bucket.result in
     let all : c.len-2.result ≡ length heads = omega arith in
     let falls : b ≡ hash_of name % length heads = cc (c.bucket_of-bucket.ensures, c.as_bytes-name.ensures.value, all) in
@@ -92,8 +87,7 @@ loop-before-preserved c =
     let other : c.get.result.now ≢ name =
     λ same.
     let holds = (slice_eq-Decides Decides-eqb _ _ _ c.eq.ensures).1 (same ∙ sym c.as_bytes-name.ensures.value) in
-    let fails = c.if-eq.false in
-    cc (holds, fails) in
+    cc (holds, c.if-eq.false) in
     let none : (k : ℕ) → before ≤ k → slice_get names k ≢ Some name =
     λ k past has. elim (cases_order k before) [
       | inl at ↦ other (same_Some _ _ (sym c.get.ensures ∙ ap (slice_get names) (sym at) ∙ has))
@@ -107,8 +101,7 @@ loop-before-preserved c =
 
 pub returns : goal.returns
 returns c =
-    let names = c.self.inside.texts in
     let name = c.args.name.now in
     let no_link : c.loop-before.link ≡ 0 = omega arith in
-    sym (place_none names name (λ k. c.loop-before.invariant.without k (omega (arith, no_link))))
+    sym (place_none c.self.inside.texts name (λ k. c.loop-before.invariant.without k (omega (arith, no_link))))
     ∙ ap (λ xs. place_of_name xs name) c.self.view_is

@@ -11,6 +11,4 @@ returns-clause-long c =
 
 pub returns-clause-few : goal.returns-clause-few
 returns-clause-few c =
-    let below = c.size.ensures.bytes in
-    let few = c.self.invariant.counted in
-    omega (arith, below, few)
+    omega (arith, c.size.ensures.bytes, c.self.invariant.counted)

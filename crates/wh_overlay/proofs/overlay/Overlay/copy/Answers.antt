@@ -1,7 +1,6 @@
 use Rattle.std.proofs.Common.{◌≡◌, ◌∙◌, ◌+◌, ◌*◌, ◌++◌, ◌∷◌, [], ap, refl, slice_get, subst, sym, arith}
-use Rattle.wh_host_model.specs.Space.Parts.{view}
-use Rattle.wh_host_model.specs.Space.States.{page_at}
-use Rattle.wh_model.specs.Execution.Store.{bytes_at}
+use Rattle.wh_space_model.specs.{view, page_at}
+use Rattle.wh_model.specs.Execution.{bytes_at}
 use Rattle.wh_overlay.specs.declared.upper.WrittenPage.{WrittenPage}
 use Rattle.wh_overlay.specs.LaidPages.{IsAmong, IsNoted, UpperState}
 use Rattle.wh_overlay.specs.Over.{OverlayState}

@@ -1,5 +1,5 @@
 use Rattle.std.proofs.Common.{◌+◌, ◌*◌, ◌<◌, ◌≤◌, ◌^◌, length, refl, sym, ap, subst, arith}
-use Rattle.wh_host_model.specs.Space.Parts.{view}
+use Rattle.wh_space_model.specs.{view}
 use Rattle.wh_space.specs.Steps.{page_limit}
 use Rattle.wh_overlay.specs.LaidPages.{IsNoted, UpperState}
 use Rattle.wh_overlay.specs.Over.{AreAtHand, HasGrown, OverlayState, ReadsAreThere, frames_lacking, sees}

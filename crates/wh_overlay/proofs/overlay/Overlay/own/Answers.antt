@@ -1,6 +1,5 @@
 use Rattle.std.proofs.Common.{◌∙◌, ◌++◌, ◌∷◌, [], inl, inr, ap, refl, slice_get, subst, sym, arith}
-use Rattle.wh_host_model.specs.Space.Ready.{IsAtHand}
-use Rattle.wh_host_model.specs.Space.States.{at}
+use Rattle.wh_space_model.specs.{IsAtHand, at}
 use Rattle.wh_overlay.specs.declared.upper.WrittenPage.{WrittenPage}
 use Rattle.wh_overlay.specs.LaidPages.{IsNoted, UpperState}
 use Rattle.wh_overlay.specs.Over.{lacks_frame}

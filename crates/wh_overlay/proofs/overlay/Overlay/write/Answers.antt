@@ -1,6 +1,6 @@
 use Rattle.std.proofs.Common.{◌≡◌, ◌∙◌, ◌+◌, ◌*◌, ◌<◌, ◌≤◌, ◌^◌, refl, ap, sym, subst, length, arith}
-use Rattle.wh_model.specs.Execution.Store.{written}
-use Rattle.wh_host_model.specs.Space.Parts.{view}
+use Rattle.wh_model.specs.Execution.{written}
+use Rattle.wh_space_model.specs.{view}
 use Rattle.wh_overlay.specs.LaidPages.{IsNoted, IsWrittenAt, UpperState, with_upper}
 use Rattle.wh_overlay.specs.Over.{AreAtHand, HasGrown, IsOverSame, OverlayState, ReadsAreThere, frames_lacking, sees}
 use Rattle.wh_overlay.proofs.OverPages.{page_with}

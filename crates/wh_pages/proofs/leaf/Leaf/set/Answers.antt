@@ -3,7 +3,7 @@ use Rattle.std.specs.Global.{Vec}
 use Rattle.std.specs.Vec.{with_item}
 use Rattle.std.proofs.lemmas.List.{length-set}
 use Rattle.std.proofs.lemmas.Option.{slice_get-get_or}
-use Rattle.wh_host_model.proofs.Space.Sums.{get_tally, set_tally}
+use Rattle.wh_space_model.proofs.Sums.{get_tally, set_tally}
 use Rattle.wh_pages.specs.declared.entry.PageEntry.{PageEntry}
 use Rattle.wh_pages.specs.Leaves.{actives_of, residents_of}
 use Rattle.wh_pages.proofs.LeafCounts.{actives_most, residents_most}

@@ -7,10 +7,9 @@ use Rattle.wh_pages.proofs.table.PageTable.put.Goals as goal
 
 pub invariant_of-self : goal.invariant_of-self
 invariant_of-self c =
-    let a = c.self.inside in
     let i = c.self.invariant in
     let rooms = ap length c.set.ensures in
-    let same = length-set a.rows c.args.at c.args.entry in
+    let same = length-set c.self.inside.rows c.args.at c.args.entry in
     record { within = i.within; room = omega (arith, i.room, rooms, same); most = i.most }
 
 pub returns : goal.returns

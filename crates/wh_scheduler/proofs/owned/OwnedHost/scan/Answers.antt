@@ -6,7 +6,7 @@ use Rattle.wh_cell.specs.Counted.{countable, offers_of}
 use Rattle.wh_cell.specs.Knowing.{KnownState}
 use Rattle.wh_cell.specs.Locking.{BooksState}
 use Rattle.wh_cell.specs.Scanned.{IsScanned}
-use Rattle.wh_scheduler.specs.InHand.{AreSums, OwnedState, owned_of}
+use Rattle.wh_scheduler.specs.InHand.{AreSums, OwnedState, by_scanners, owned_of}
 use Rattle.wh_scheduler.proofs.InHand.{in_hand_counted}
 use Rattle.wh_scheduler.proofs.Scans.{Came, came_backing, came_books, came_known, came_moves, came_own, came_same, came_scans, came_sums, on_both, owned_is, owned_then, sums_now}
 use Rattle.wh_scheduler.proofs.owned.OwnedHost.scan.Goals as goal
@@ -71,7 +71,7 @@ returns-clause-books g c =
     let is = sym c.take.ensures.value ∙ c.in-Some.is in
     let hashes = g.H.PageHash.hashes c.args.hasher in
     let came : Came hashes c.in-Some.locked c.self.inside.shares t.result.0 t.result.1 t.new.shares = (t.ensures.ok, t.ensures.err, t.ensures.only) in
-    on_both (λ (o o2 : OwnedState g.row.D.Denot). IfOk t.result.0 (λ offered. o2.books ≡ record o.books { offers = o.books.offers + countable o.books.offers (offers_of offered) })) c.args.self.now (owned_of (Some c.sync_owner.new.self) c.sync_owner.new.owner t.new.shares) l t.result.1 c.self.inside.shares t.new.shares
+    on_both (λ (o o2 : OwnedState g.row.D.Denot). IfOk t.result.0 (λ offered. o2.books ≡ record o.books { offers = o.books.offers + countable (by_scanners o.books o.own) (offers_of offered) })) c.args.self.now (owned_of (Some c.sync_owner.new.self) c.sync_owner.new.owner t.new.shares) l t.result.1 c.self.inside.shares t.new.shares
     (owned_is c.self.inside.locked c.self.inside.backing c.self.inside.owner c.self.inside.shares c.args.self.now l c.self.invariant c.self.view_is is)
     (owned_then t.result.1 c.sync_owner.new.self c.sync_owner.new.owner t.new.shares c.sync_owner.ensures.host c.sync_owner.ensures.known c.sync_owner.ensures.books c.sync_owner.ensures.knows) (came_books hashes l c.self.inside.shares t.result.0 t.result.1 t.new.shares came (sums_now c.self.inside.locked c.self.inside.backing c.self.inside.owner c.self.inside.shares l c.self.invariant is))
 

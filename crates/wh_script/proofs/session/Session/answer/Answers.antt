@@ -1,9 +1,7 @@
-use Rattle.std.proofs.Common.{◌≡◌, ◌∙◌, ◌<◌, ◌≤◌, inr, ℕ, List, [], length, true, false, true≢false, arith, ap, subst, sym, string_bytes}
+use Rattle.std.proofs.Common.{◌∙◌, ◌<◌, ◌≤◌, inr, [], length, true≢false, arith, subst, sym, string_bytes}
 use Rattle.wh_script.specs.Causes.{cause_number, line_error}
 use Rattle.wh_commands.specs.ParsedCommands.{FindsAsked}
-use Rattle.wh_script_model.specs.Lines.{is_skipped, longest_line}
-use Rattle.wh_script_model.specs.Commands.{Command, AsksCommand, scan, report}
-use Rattle.wh_script_model.specs.Texts.{error}
+use Rattle.wh_script_model.specs.{longest_line, Command, AsksCommand, scan, report, error}
 use Rattle.wh_engine.proofs.Printings.{on_ok_then}
 use Rattle.wh_script.specs.Coming.{IsKind}
 use Rattle.wh_script.specs.Speaking.{AsksReport, AsksScan}
@@ -12,7 +10,6 @@ use Rattle.wh_script.proofs.Answered.{is_skipped_line, is_too_long, isnt_found, 
 use Rattle.wh_engine.proofs.Runs.{holds_same}
 use Rattle.wh_script.proofs.Devices.{holds_map}
 use Rattle.wh_script.proofs.OfHost.{is_report, is_scan, none_found}
-use Rattle.wh_script.proofs.Stopped.{asked_open, complained_open}
 use Rattle.wh_script.proofs.session.Session.answer.Goals as goal
 
 pub returns-in-End-clause-answers : goal.returns-in-End-clause-answers
@@ -61,22 +58,6 @@ returns-in-Err-clause-answers g c =
     (subst (λ xs. (asked : Command) → AsksCommand xs asked → FindsAsked c.parse.result asked) k.0 c.parse.ensures.only) (k.1, k.2)
     (subst (λ t. Complains (error (cause_number (line_error c.in-Err.error)) c.args.number) e t e2 text2 met) c.clear.ensures.bytes
     (subst (λ cause. Complains (error (cause_number cause) c.args.number) e (string_bytes c.clear.new.self) e2 text2 met) c.from.ensures complains))))
-
-pub returns-in-TooLong-clause-open : goal.returns-in-TooLong-clause-open
-returns-in-TooLong-clause-open g c =
-    let before = c.args.self.now in
-    complained_open before.script_host c.args.kind c.args.held.now c.complain_drained.result c.complain_drained.ensures.open
-
-pub returns-in-Ok-clause-open : goal.returns-in-Ok-clause-open
-returns-in-Ok-clause-open g c =
-    let before = c.args.self.now in
-    let found = c.in-Ok.ensures.found in
-    asked_open before.script_host c.in-Ok.command c.args.held.now found.0 c.command.result found.1 found.2 c.args.kind c.in-Kept.is c.command.ensures.open
-
-pub returns-in-Err-clause-open : goal.returns-in-Err-clause-open
-returns-in-Err-clause-open g c =
-    let before = c.args.self.now in
-    complained_open before.script_host c.args.kind c.args.held.now c.complain_drained-in-Err.result c.complain_drained-in-Err.ensures.open
 
 pub returns-in-End-clause-scans : goal.returns-in-End-clause-scans
 returns-in-End-clause-scans g c line is asks =

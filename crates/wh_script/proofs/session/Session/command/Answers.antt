@@ -1,11 +1,11 @@
-use Rattle.std.proofs.Common.{◌≡◌, ◌∙◌, ℕ, List, Err, IfErr, ap, subst, sym, string_bytes}
+use Rattle.std.proofs.Common.{◌∙◌, ℕ, List, Err, IfErr, ap, subst, sym, string_bytes}
 use Rattle.std.proofs.lemmas.Result.{err_from_is_err_and}
 use Rattle.wh_commands.specs.declared.command.Command.TheVariants.{Invoke, Scan, Report}
 use Rattle.wh_commands.specs.ParsedCommands.{Says}
 use Rattle.wh_script_model.specs.Commands as asked_of
 use Rattle.wh_engine.proofs.Printings.{on_ok_then}
-use Rattle.wh_engine.proofs.Opened.{err_open_or, err_scan_or, open_or}
-use Rattle.wh_engine.specs.Draining.{DeviceHoldsAmid, StopsOpenOr}
+use Rattle.wh_engine.proofs.Opened.{memory_open}
+use Rattle.wh_engine.specs.Draining.{DeviceHoldsAmid, StopsOnlyOpen}
 use Rattle.wh_settings.specs.Hashing.{hashes_by}
 use Rattle.wh_settings.specs.View.{hashing_of}
 use Rattle.wh_script.specs.declared.session.SessionConfig.{SessionConfig}
@@ -46,30 +46,11 @@ returns-in-Invoke-clause-answers g c =
     c.deref.ensures.value (answers files) in
     subst (λ a. AnswersCommand files c.args.number a e (string_bytes before.text) e2 (string_bytes after.text) met) (sym is) given))
 
-pub returns-in_err-drain-in_default-clause-open : goal.returns-in_err-drain-in_default-clause-open
-returns-in_err-drain-in_default-clause-open g c =
-    let before = c.args.self.now in
-    let e = before.script_host in
-    let p = err_from_is_err_and c.from_residual.result c.from_residual.ensures.1 in
-    subst (λ r. IfErr r (StopsOpenOr (c.args.command ≡ Scan) e)) (sym (p.1 ∙ ap Err p.2))
-    (open_or (c.args.command ≡ Scan) e c.in_err-drain-in_default.field-0.0 c.in_err-drain-in_default.ensures.open)
-
-pub returns-in_ok-drain-in_default-clause-open : goal.returns-in_ok-drain-in_default-clause-open
-returns-in_ok-drain-in_default-clause-open g c =
-    let before = c.args.self.now in
-    err_scan_or (c.args.command ≡ Scan) before.script_host c.obey.result c.obey.ensures.err c.obey.ensures.threads
-
-pub returns-in-Invoke-clause-open : goal.returns-in-Invoke-clause-open
-returns-in-Invoke-clause-open g c =
-    let before = c.args.self.now in
-    err_open_or (c.args.command ≡ Scan) before.script_host c.invoke.result c.invoke.ensures.open
-
 pub returns-in_ok-drain-in_default-clause-scans : goal.returns-in_ok-drain-in_default-clause-scans
 returns-in_ok-drain-in_default-clause-scans g c =
     let drained = c.drain.new.self in
-    let obeyed = c.obey.new.self in
     on_ok_then c.obey.result c.obey.ensures.scans (λ scans same.
-    (drained.script_host, subst (λ (k : SessionConfig). HasOffered (hashes_by (hashing_of k.hash)) drained.script_host obeyed.script_host) c.drain.ensures.config (scans same)))
+    (drained.script_host, subst (λ (k : SessionConfig). HasOffered (hashes_by (hashing_of k.hash)) drained.script_host c.obey.new.self.script_host) c.drain.ensures.config (scans same)))
 
 pub returns-in_ok-drain-in_default-clause-shows : goal.returns-in_ok-drain-in_default-clause-shows
 returns-in_ok-drain-in_default-clause-shows g c = on_ok_then c.obey.result c.obey.ensures.shows (λ shows same. (string_bytes c.drain.new.self.text, shows same))
@@ -81,3 +62,11 @@ returns-in-Invoke-clause-scans g c =
 pub returns-in-Invoke-clause-shows : goal.returns-in-Invoke-clause-shows
 returns-in-Invoke-clause-shows g c =
     not_the _ c.invoke.result c.args.command (Invoke c.in-Invoke.inst c.in-Invoke.export c.in-Invoke.fuel c.in-Invoke.args) Report c.in-Invoke.is (λ same. absurd (cc same))
+
+pub returns-in_err-drain-in_default-clause-open : goal.returns-in_err-drain-in_default-clause-open
+returns-in_err-drain-in_default-clause-open g c =
+    let p = err_from_is_err_and c.from_residual.result c.from_residual.ensures.1 in
+    subst (λ r. IfErr r (StopsOnlyOpen c.args.self.now.script_host)) (sym (p.1 ∙ ap Err p.2)) c.in_err-drain-in_default.ensures.open
+
+pub returns-in_ok-drain-in_default-clause-open : goal.returns-in_ok-drain-in_default-clause-open
+returns-in_ok-drain-in_default-clause-open g c = memory_open c.args.self.now.script_host c.obey.result c.obey.ensures.err

@@ -1,6 +1,6 @@
 use Rattle.std.proofs.Common.{subst, sym, string_bytes}
 use Rattle.wh_script.specs.Causes.{cause_number}
-use Rattle.wh_script_model.specs.Texts.{error}
+use Rattle.wh_script_model.specs.{error}
 use Rattle.wh_engine.proofs.Printings.{on_ok_then}
 use Rattle.wh_engine.specs.Draining.{DeviceHoldsAmid}
 use Rattle.wh_script.specs.Answering.{Complains, HasDrained}

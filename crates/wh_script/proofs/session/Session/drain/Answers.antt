@@ -12,10 +12,9 @@ use Rattle.wh_script.proofs.session.Session.drain.Goals as goal
 
 pub returns-in_err-run-clause-open : goal.returns-in_err-run-clause-open
 returns-in_err-run-clause-open g c =
-    let before = c.args.self.now in
-    let e = before.script_host in
+    let e = c.args.self.now.script_host in
     let p = err_from_is_err_and c.from_residual.result c.from_residual.ensures.1 in
-    subst (λ r. IfErr r (StopsOnlyOpen e)) (sym (p.1 ∙ ap Err p.2)) c.in_err-run.ensures.open
+    subst (λ r. IfErr r (StopsOnlyOpen e)) (sym (p.1 ∙ ap Err p.2)) (subst (StopsOnlyOpen e) (sym c.in_err-run.ensures.err) tt)
 
 pub returns-clause-open : goal.returns-clause-open
 returns-clause-open g c =

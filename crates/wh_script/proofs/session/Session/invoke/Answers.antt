@@ -1,5 +1,5 @@
 use Rattle.std.proofs.Common.{ℕ, List, subst, sym, string_bytes}
-use Rattle.wh_script_model.specs.Answers.{Files}
+use Rattle.wh_script_model.specs.{Files}
 use Rattle.wh_script_model.specs.Commands as asked_of
 use Rattle.wh_engine.proofs.Printings.{on_ok_then}
 use Rattle.wh_engine.specs.Draining.{DeviceHoldsAmid, DeviceMayFail, DeviceStaysTrue}
@@ -35,9 +35,7 @@ returns-then-is_err-clause-answers g c =
 
 pub returns-then-is_err-clause-open : goal.returns-then-is_err-clause-open
 returns-then-is_err-clause-open g c =
-    let before = c.args.self.now in
-    let mid = c.invoke-asked.new in
-    err_before before.script_host mid.self c.complain_drained-then-is_err.result
+    err_before c.args.self.now.script_host c.invoke-asked.new.self c.complain_drained-then-is_err.result
     (where_err c.invoke-asked.result c.if-is_err.ensures.value c.invoke-asked.ensures.err) c.complain_drained-then-is_err.ensures.open
 
 pub returns-clause-answers : goal.returns-clause-answers

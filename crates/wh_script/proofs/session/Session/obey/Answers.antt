@@ -1,5 +1,4 @@
-use Rattle.std.proofs.Common.{◌≡◌, Ok, subst, sym, string_bytes}
-use Rattle.wh_engine.proofs.Opened.{err_scans, memory_scans, memory_threads}
+use Rattle.std.proofs.Common.{Ok, subst, sym, string_bytes}
 use Rattle.wh_engine.proofs.Printings.{on_ok_then}
 use Rattle.wh_script.specs.Answering.{IsNoInvoke, Obeys}
 use Rattle.wh_commands.specs.declared.command.Command.TheVariants.{Module, Load, Admit, Invoke, Drain, Refuel, Cancel, Retry, Scan, Report, Release}
@@ -25,90 +24,74 @@ returns-in-Module-clause-obeys g c =
 pub returns-in-Load-clause-obeys : goal.returns-in-Load-clause-obeys
 returns-in-Load-clause-obeys g c =
     let files = g.S.Source.files c.args.source.now in
-    let e = c.args.self.now.script_host in
     let text = string_bytes c.args.self.now.text in
-    let e2 = c.load.new.self.script_host in
     let text2 = string_bytes c.load.new.self.text in
     on_ok_then c.load.result c.load.ensures.obeys (λ obeys asked says free.
     let is = asked_as (Load c.in-Load.name c.in-Load.path) asked (subst (λ k. Says k asked) c.in-Load.is says) in
-    subst (λ a. Obeys files c.args.number a e text e2 text2) (sym is) obeys)
+    subst (λ a. Obeys files c.args.number a c.args.self.now.script_host text c.load.new.self.script_host text2) (sym is) obeys)
 
 pub returns-in-Admit-clause-obeys : goal.returns-in-Admit-clause-obeys
 returns-in-Admit-clause-obeys g c =
     let files = g.S.Source.files c.args.source.now in
-    let e = c.args.self.now.script_host in
     let text = string_bytes c.args.self.now.text in
-    let e2 = c.admit.new.self.script_host in
     let text2 = string_bytes c.admit.new.self.text in
     on_ok_then c.admit.result c.admit.ensures.obeys (λ obeys asked says free.
     let is = asked_as (Admit c.in-Admit.inst c.in-Admit.module c.in-Admit.given) asked (subst (λ k. Says k asked) c.in-Admit.is says) in
-    subst (λ a. Obeys files c.args.number a e text e2 text2) (sym is) (obeys files))
+    subst (λ a. Obeys files c.args.number a c.args.self.now.script_host text c.admit.new.self.script_host text2) (sym is) (obeys files))
 
 pub returns-in-Refuel-clause-obeys : goal.returns-in-Refuel-clause-obeys
 returns-in-Refuel-clause-obeys g c =
     let files = g.S.Source.files c.args.source.now in
-    let e = c.args.self.now.script_host in
     let text = string_bytes c.args.self.now.text in
-    let e2 = c.refuel.new.self.script_host in
     let text2 = string_bytes c.refuel.new.self.text in
     on_ok_then c.refuel.result c.refuel.ensures.obeys (λ obeys asked says free.
     let is = asked_as (Refuel c.in-Refuel.inst c.in-Refuel.fuel) asked (subst (λ k. Says k asked) c.in-Refuel.is says) in
-    subst (λ a. Obeys files c.args.number a e text e2 text2) (sym is) (obeys files))
+    subst (λ a. Obeys files c.args.number a c.args.self.now.script_host text c.refuel.new.self.script_host text2) (sym is) (obeys files))
 
 pub returns-in-Cancel-clause-obeys : goal.returns-in-Cancel-clause-obeys
 returns-in-Cancel-clause-obeys g c =
     let files = g.S.Source.files c.args.source.now in
-    let e = c.args.self.now.script_host in
     let text = string_bytes c.args.self.now.text in
-    let e2 = c.cancel.new.self.script_host in
     let text2 = string_bytes c.cancel.new.self.text in
     on_ok_then c.cancel.result c.cancel.ensures.obeys (λ obeys asked says free.
     let is = asked_as (Cancel c.in-Cancel.inst) asked (subst (λ k. Says k asked) c.in-Cancel.is says) in
-    subst (λ a. Obeys files c.args.number a e text e2 text2) (sym is) (obeys files))
+    subst (λ a. Obeys files c.args.number a c.args.self.now.script_host text c.cancel.new.self.script_host text2) (sym is) (obeys files))
 
 pub returns-in-Retry-clause-obeys : goal.returns-in-Retry-clause-obeys
 returns-in-Retry-clause-obeys g c =
     let files = g.S.Source.files c.args.source.now in
-    let e = c.args.self.now.script_host in
     let text = string_bytes c.args.self.now.text in
-    let e2 = c.retry.new.self.script_host in
     let text2 = string_bytes c.retry.new.self.text in
     on_ok_then c.retry.result c.retry.ensures.obeys (λ obeys asked says free.
     let is = asked_as (Retry c.in-Retry.inst) asked (subst (λ k. Says k asked) c.in-Retry.is says) in
-    subst (λ a. Obeys files c.args.number a e text e2 text2) (sym is) (obeys files))
+    subst (λ a. Obeys files c.args.number a c.args.self.now.script_host text c.retry.new.self.script_host text2) (sym is) (obeys files))
 
 pub returns-in-Scan-clause-obeys : goal.returns-in-Scan-clause-obeys
 returns-in-Scan-clause-obeys g c =
     let files = g.S.Source.files c.args.source.now in
-    let e = c.args.self.now.script_host in
     let text = string_bytes c.args.self.now.text in
-    let e2 = c.scan.new.self.script_host in
     let text2 = string_bytes c.scan.new.self.text in
     on_ok_then c.scan.result c.scan.ensures.obeys (λ obeys asked says free.
     let is = asked_as Scan asked (subst (λ k. Says k asked) c.in-Scan.is says) in
-    subst (λ a. Obeys files c.args.number a e text e2 text2) (sym is) (obeys files c.args.number))
+    subst (λ a. Obeys files c.args.number a c.args.self.now.script_host text c.scan.new.self.script_host text2) (sym is) (obeys files c.args.number))
 
 pub returns-in-Report-clause-obeys : goal.returns-in-Report-clause-obeys
 returns-in-Report-clause-obeys g c =
     let files = g.S.Source.files c.args.source.now in
-    let e = c.args.self.now.script_host in
     let text = string_bytes c.args.self.now.text in
-    let e2 = c.report.new.self.script_host in
     let text2 = string_bytes c.report.new.self.text in
     on_ok_then c.report.result c.report.ensures.obeys (λ obeys asked says free.
     let is = asked_as Report asked (subst (λ k. Says k asked) c.in-Report.is says) in
-    subst (λ a. Obeys files c.args.number a e text e2 text2) (sym is) (obeys files c.args.number))
+    subst (λ a. Obeys files c.args.number a c.args.self.now.script_host text c.report.new.self.script_host text2) (sym is) (obeys files c.args.number))
 
 pub returns-in-Release-clause-obeys : goal.returns-in-Release-clause-obeys
 returns-in-Release-clause-obeys g c =
     let files = g.S.Source.files c.args.source.now in
-    let e = c.args.self.now.script_host in
     let text = string_bytes c.args.self.now.text in
-    let e2 = c.release.new.self.script_host in
     let text2 = string_bytes c.release.new.self.text in
     on_ok_then c.release.result c.release.ensures.obeys (λ obeys asked says free.
     let is = asked_as (Release c.in-Release.inst) asked (subst (λ k. Says k asked) c.in-Release.is says) in
-    subst (λ a. Obeys files c.args.number a e text e2 text2) (sym is) (obeys files))
+    subst (λ a. Obeys files c.args.number a c.args.self.now.script_host text c.release.new.self.script_host text2) (sym is) (obeys files))
 
 pub returns-in-Drain-clause-obeys : goal.returns-in-Drain-clause-obeys
 returns-in-Drain-clause-obeys g c asked says free =
@@ -125,63 +108,6 @@ returns-in-Invoke-clause-obeys g c =
     on_ok_own c.request.result (λ asked says free.
     let is = asked_as (Invoke found.inst found.export found.fuel found.args) asked (subst (λ k. Says k asked) found.is says) in
     elim (subst IsNoInvoke is free) [ ])
-
-pub returns-in-Invoke-clause-err : goal.returns-in-Invoke-clause-err
-returns-in-Invoke-clause-err g c = memory_scans c.request.result c.request.ensures.err
-
-pub returns-in-Invoke-clause-threads : goal.returns-in-Invoke-clause-threads
-returns-in-Invoke-clause-threads g c = memory_threads (c.args.command ≡ Scan) c.request.result c.request.ensures.err
-
-pub returns-in-Module-clause-err : goal.returns-in-Module-clause-err
-returns-in-Module-clause-err g c = memory_scans c.module.result c.module.ensures.err
-
-pub returns-in-Module-clause-threads : goal.returns-in-Module-clause-threads
-returns-in-Module-clause-threads g c = memory_threads (c.args.command ≡ Scan) c.module.result c.module.ensures.err
-
-pub returns-in-Load-clause-err : goal.returns-in-Load-clause-err
-returns-in-Load-clause-err g c = memory_scans c.load.result c.load.ensures.err
-
-pub returns-in-Load-clause-threads : goal.returns-in-Load-clause-threads
-returns-in-Load-clause-threads g c = memory_threads (c.args.command ≡ Scan) c.load.result c.load.ensures.err
-
-pub returns-in-Admit-clause-err : goal.returns-in-Admit-clause-err
-returns-in-Admit-clause-err g c = memory_scans c.admit.result c.admit.ensures.err
-
-pub returns-in-Admit-clause-threads : goal.returns-in-Admit-clause-threads
-returns-in-Admit-clause-threads g c = memory_threads (c.args.command ≡ Scan) c.admit.result c.admit.ensures.err
-
-pub returns-in-Refuel-clause-err : goal.returns-in-Refuel-clause-err
-returns-in-Refuel-clause-err g c = memory_scans c.refuel.result c.refuel.ensures.err
-
-pub returns-in-Refuel-clause-threads : goal.returns-in-Refuel-clause-threads
-returns-in-Refuel-clause-threads g c = memory_threads (c.args.command ≡ Scan) c.refuel.result c.refuel.ensures.err
-
-pub returns-in-Cancel-clause-err : goal.returns-in-Cancel-clause-err
-returns-in-Cancel-clause-err g c = memory_scans c.cancel.result c.cancel.ensures.err
-
-pub returns-in-Cancel-clause-threads : goal.returns-in-Cancel-clause-threads
-returns-in-Cancel-clause-threads g c = memory_threads (c.args.command ≡ Scan) c.cancel.result c.cancel.ensures.err
-
-pub returns-in-Retry-clause-err : goal.returns-in-Retry-clause-err
-returns-in-Retry-clause-err g c = memory_scans c.retry.result c.retry.ensures.err
-
-pub returns-in-Retry-clause-threads : goal.returns-in-Retry-clause-threads
-returns-in-Retry-clause-threads g c = memory_threads (c.args.command ≡ Scan) c.retry.result c.retry.ensures.err
-
-pub returns-in-Report-clause-err : goal.returns-in-Report-clause-err
-returns-in-Report-clause-err g c = memory_scans c.report.result c.report.ensures.err
-
-pub returns-in-Report-clause-threads : goal.returns-in-Report-clause-threads
-returns-in-Report-clause-threads g c = memory_threads (c.args.command ≡ Scan) c.report.result c.report.ensures.err
-
-pub returns-in-Release-clause-err : goal.returns-in-Release-clause-err
-returns-in-Release-clause-err g c = memory_scans c.release.result c.release.ensures.err
-
-pub returns-in-Release-clause-threads : goal.returns-in-Release-clause-threads
-returns-in-Release-clause-threads g c = memory_threads (c.args.command ≡ Scan) c.release.result c.release.ensures.err
-
-pub returns-in-Scan-clause-threads : goal.returns-in-Scan-clause-threads
-returns-in-Scan-clause-threads g c = err_scans (c.args.command ≡ Scan) c.scan.result c.in-Scan.is
 
 -- ---- what the host does
 

@@ -2,7 +2,7 @@ use Rattle.std.proofs.Common.{◌∙◌, ◌++◌, refl, ap, subst, sym, string_
 use Rattle.wh_engine.proofs.Printings.{on_ok_then}
 use Rattle.wh_script_model.specs.Commands as asked_of
 use Rattle.wh_script.specs.Answering.{Obeys}
-use Rattle.wh_script_model.specs.Texts.{release_ok, release_refused, reply_text}
+use Rattle.wh_script_model.specs.{release_ok, release_refused, reply_text}
 use Rattle.wh_host.specs.CallRequests.{host_number}
 use Rattle.wh_script.proofs.Obeyed.{guest_isnt_there, guest_obeyed}
 use Rattle.wh_script.proofs.session.Session.release.Goals as goal

@@ -6,10 +6,9 @@ use Rattle.wh_script.proofs.session.Session.report.Goals as goal
 
 pub returns-clause-obeys : goal.returns-clause-obeys
 returns-clause-obeys g c files number =
-    let e = c.args.self.now.script_host in
     let report = view_report c.in-Ok.report in
     let reports = subst (λ h. ReportsHost h report) (c.host-2.ensures ∙ ap (λ (o : OwnedState g.row.D.Denot). o.host) c.host.ensures) c.in-Ok.ensures.ok in
-    reported files number e (string_bytes c.args.self.now.text) (string_bytes c.write_report.new.text) report reports c.in-Ok-write_report.ensures
+    reported files number c.args.self.now.script_host (string_bytes c.args.self.now.text) (string_bytes c.write_report.new.text) report reports c.in-Ok-write_report.ensures
 
 pub returns-clause-shows : goal.returns-clause-shows
 returns-clause-shows g c =

@@ -11,7 +11,7 @@ use Rattle.wh_engine.specs.Draining.{DeviceHoldsAmid}
 use Rattle.wh_engine.proofs.Runs.{holds_same}
 use Rattle.wh_script.proofs.Devices.{true_same, true_then, fails_same, fails_then, holds_any, holds_map, holds_then}
 use Rattle.wh_script.proofs.Blamed.{read_blames, run_fault_blames, sent_blames}
-use Rattle.wh_script.proofs.Runs.{begins_nothing, starts, stops, stops_at_line, read_fails, ends, goes_on, write_fails}
+use Rattle.wh_script.proofs.Runs.{begins_nothing, starts, stops, read_fails, ends, goes_on, write_fails}
 use Rattle.wh_script.proofs.session.Session.run_lines.Goals as goal
 
 pub returns-in_err-lines-clause-amid : goal.returns-in_err-lines-clause-amid
@@ -153,16 +153,14 @@ returns-in_err-answer-in_default g c =
     let script = left c.args.reader.now.inner in
     let old = coming l.lines (left l.reader.inner) in
     let p = err_from_is_err_and c.from_residual-in_err-answer-in_default.result c.from_residual-in_err-answer-in_default.ensures.1 in
-    let new = coming c.read.new.self (left c.read.new.reader.inner) in
-    let reads = subst (λ held. ReadsLine old new c.in_ok-kind.kind held) (sym c.line.ensures) c.in_ok-kind.ensures.line in
     let fault = c.in_err-answer-in_default.field-0.0 in
     record {
       amid = λ settings stands.
           holds_then keeps honest faults first before after _ _ _ l.invariant.faults c.answer.ensures.device
           (λ met since so_far any.
           subst (ScriptRunsAmid settings files (since ++ met) script (left c.read.new.reader.inner) (contents c.args.writer.now.inner) (contents l.writer.inner)) (sym (p.1 ∙ ap Err p.2))
-          (stops_at_line settings files script old (contents c.args.writer.now.inner) (contents l.writer.inner) l.number l.self.script_host met since so_far
-          new c.in_ok-kind.kind c.line.result.now c.in_default.not-End reads (left c.read.new.reader.inner) fault c.in_err-answer-in_default.ensures.open))
+          (stops settings files script old (contents c.args.writer.now.inner) (contents l.writer.inner) l.number l.self.script_host met since so_far
+          (left c.read.new.reader.inner) fault c.in_err-answer-in_default.ensures.open))
           (l.invariant.so_far settings stands) (holds_any keeps honest faults before after c.answer.ensures.faults);
       faults = fails_then keeps honest faults first before after l.invariant.faults c.answer.ensures.faults;
       device = true_then keeps honest faults first before after l.invariant.device c.answer.ensures.device;
@@ -186,8 +184,6 @@ returns-in_err-send-in_default g c =
     let script = left c.args.reader.now.inner in
     let old = coming l.lines (left l.reader.inner) in
     let new = coming c.read.new.self (left c.read.new.reader.inner) in
-    let e = l.self.script_host in
-    let e2 = answered.script_host in
     let text = string_bytes answered.text in
     let reads = subst (λ held. ReadsLine old new c.in_ok-kind.kind held) (sym c.line.ensures) c.in_ok-kind.ensures.line in
     let fault = c.in_err-send-in_default.field-0.0 in
@@ -198,7 +194,7 @@ returns-in_err-send-in_default g c =
           holds_then keeps honest faults first before after _ _ _ l.invariant.faults c.answer.ensures.device
           (λ met since so_far answers.
           subst (ScriptRunsAmid settings files (since ++ met) script (left c.read.new.reader.inner) (contents c.args.writer.now.inner) (contents c.send-in_default.new.writer.inner)) (sym (p.1 ∙ ap Err p.2))
-          (write_fails settings files script old (contents c.args.writer.now.inner) (contents l.writer.inner) l.number e met since so_far e2 text (contents c.send-in_default.new.writer.inner) (left c.read.new.reader.inner)
+          (write_fails settings files script old (contents c.args.writer.now.inner) (contents l.writer.inner) l.number l.self.script_host met since so_far answered.script_host text (contents c.send-in_default.new.writer.inner) (left c.read.new.reader.inner)
           new c.in_ok-kind.kind c.line.result.now c.in_default.not-End reads answers fault sent))
           (l.invariant.so_far settings stands) c.in_ok-answer-in_default.ensures.answers;
       faults = fails_then keeps honest faults first before after l.invariant.faults c.answer.ensures.faults;

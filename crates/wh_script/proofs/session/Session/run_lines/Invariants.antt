@@ -1,5 +1,5 @@
 use Rattle.std.specs.Prelude.{◌≡◌}
-use Rattle.wh_script_model.specs.ScriptState.{empty_script}
+use Rattle.wh_script_model.specs.{empty_script}
 use Rattle.wh_script_model.specs.Settings.{Settings}
 use Rattle.wh_engine.specs.Draining.{DeviceHoldsAmid, DeviceMayFail, DeviceStaysTrue}
 use Rattle.wh_engine.specs.RepresentedScript.{RepresentsScript}

@@ -1,6 +1,5 @@
 use Rattle.std.proofs.Common.{ap, ◌∙◌, arith}
-use Rattle.wh_host_model.specs.Space.Parts.{Space}
-use Rattle.wh_host_model.specs.Space.Charges.{active_of, charged_of}
+use Rattle.wh_space_model.specs.{Space, active_of, charged_of}
 use Rattle.wh_space.proofs.Charged.{active_now, charged_now, row_few}
 use Rattle.wh_space.proofs.memory.Memory.charged_at.Goals as goal
 

@@ -1,8 +1,5 @@
-use Rattle.std.proofs.Common.{refl, sym, ap, subst, ◌∙◌, ◌≡◌, ◌*◌, ◌/◌, ◌<◌, [], length, get_or, arith}
-use Rattle.wh_host_model.specs.Space.Forks.{LendsFirst}
-use Rattle.wh_host_model.specs.Space.Parts.{Space}
-use Rattle.wh_host_model.specs.Space.Places.{Enters}
-use Rattle.wh_host_model.specs.Space.Sound.{IsSound}
+use Rattle.std.proofs.Common.{ap, subst, ◌∙◌, ◌≡◌, ◌*◌, ◌/◌, ◌<◌, [], length, get_or, arith}
+use Rattle.wh_space_model.specs.{LendsFirst, Space, Enters, IsSound}
 use Rattle.wh_space.specs.Arrivals.{claimed}
 use Rattle.wh_space.proofs.Copying.{may_lend_all, whole_table}
 use Rattle.wh_space.proofs.memory.Memory.copy.Goals as goal

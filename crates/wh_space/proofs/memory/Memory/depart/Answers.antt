@@ -1,12 +1,10 @@
 use Rattle.std.proofs.Common.{◌≡◌, [], refl, sym, arith}
-use Rattle.wh_host_model.specs.declared.states.Slot.TheVariants.{Evicting}
-use Rattle.wh_host_model.specs.Space.Claims.{CanLeave}
-use Rattle.wh_host_model.specs.Space.Parts.{Space, frame_bytes}
-use Rattle.wh_host_model.specs.Space.Tickets.{departing}
-use Rattle.wh_host_model.proofs.Space.Begun.{is_sound_begun}
-use Rattle.wh_host_model.proofs.Space.Putting.{get_or_is, is_page}
-use Rattle.wh_host_model.proofs.Space.Reading.{taken_under}
-use Rattle.wh_host_model.proofs.Space.Slotting.{vacant_there}
+use Rattle.wh_space_model.specs.declared.states.Slot.TheVariants.{Evicting}
+use Rattle.wh_space_model.specs.{CanLeave, Space, frame_bytes, departing}
+use Rattle.wh_space_model.proofs.Begun.{is_sound_begun}
+use Rattle.wh_space_model.proofs.Putting.{get_or_is, is_page}
+use Rattle.wh_space_model.proofs.Reading.{taken_under}
+use Rattle.wh_space_model.proofs.Slotting.{vacant_there}
 use Rattle.wh_space.specs.declared.memory.Memory.TheInside.{Inside}
 use Rattle.wh_space.specs.Parts.{IsWell, space_of}
 use Rattle.wh_space.proofs.Moving.{can_depart, departed_now, may_depart, page_stays, taken_slot}

@@ -1,6 +1,6 @@
 use Rattle.std.proofs.Common.{◌≡◌, ◌+◌, ◌≤◌, [], Some, true, length, refl, ap, arith}
-use Rattle.wh_host_model.specs.Space.Parts.{Occupant, Space, kept, occupant_at}
-use Rattle.wh_host_model.proofs.Space.Reserved.{is_sound_earmarked}
+use Rattle.wh_space_model.specs.{Occupant, Space, kept, occupant_at}
+use Rattle.wh_space_model.proofs.Reserved.{is_sound_earmarked}
 use Rattle.wh_space.specs.declared.memory.Memory.TheInside.{Inside}
 use Rattle.wh_space.specs.Parts.{space_of}
 use Rattle.wh_space.proofs.Earmarked.{earmarks}

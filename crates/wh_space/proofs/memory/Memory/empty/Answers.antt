@@ -1,6 +1,5 @@
-use Rattle.wh_host_model.specs.Frames.{Pool}
+use Rattle.wh_space_model.specs.{Pool, IsSound}
 use Rattle.std.proofs.Common.{length, ap, refl, subst, sym}
-use Rattle.wh_host_model.specs.Space.Sound.{IsSound}
 use Rattle.wh_space.specs.Parts.{space_of}
 use Rattle.wh_space.specs.declared.memory.Memory.TheInside.{Inside}
 use Rattle.wh_space.proofs.Merges.{emptied_sound, is_alone, remade_is}

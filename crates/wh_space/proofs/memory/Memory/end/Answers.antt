@@ -1,6 +1,5 @@
 use Rattle.std.proofs.Common.{◌≡◌, slice_get, refl, ap, ◌∙◌}
-use Rattle.wh_host_model.specs.Space.Parts.{Space, occupant_at}
-use Rattle.wh_host_model.specs.Space.Stores.{ended}
+use Rattle.wh_space_model.specs.{Space, occupant_at, ended}
 use Rattle.wh_space.specs.Parts.{IsWell, space_of}
 use Rattle.wh_space.proofs.Earmarked.{may_end}
 use Rattle.wh_space.proofs.Stood.{ended_well}

@@ -1,10 +1,7 @@
 use Rattle.std.proofs.Common.{◌≡◌, ◌≢◌, ◌∙◌, [], true, false, Some, sym, ap, subst, rules}
-use Rattle.wh_host_model.specs.Space.Moves.{frame_of}
-use Rattle.wh_host_model.specs.Space.Parts.{Space, frame_bytes}
-use Rattle.wh_host_model.specs.Space.Sound.{IsSound}
-use Rattle.wh_host_model.specs.Space.States.{page_at}
-use Rattle.wh_host_model.proofs.Space.Putting.{get_or_is, is_page}
-use Rattle.wh_host_model.proofs.Space.Reading.{taken_under}
+use Rattle.wh_space_model.specs.{frame_of, Space, frame_bytes, IsSound, page_at}
+use Rattle.wh_space_model.proofs.Putting.{get_or_is, is_page}
+use Rattle.wh_space_model.proofs.Reading.{taken_under}
 use Rattle.wh_space.specs.Parts.{space_of}
 use Rattle.wh_space.proofs.Moving.{ends_evicted, ends_failed, ends_void, is_out}
 use Rattle.wh_space.proofs.memory.Memory.end_of_page.Goals as goal

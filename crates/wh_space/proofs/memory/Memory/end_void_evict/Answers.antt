@@ -1,7 +1,7 @@
 use Rattle.std.proofs.Common.{◌≡◌, None, Some, slice_get, refl}
-use Rattle.wh_host_model.specs.declared.states.Slot.TheVariants.{EvictVoid}
-use Rattle.wh_host_model.specs.Space.Tickets.{settled, with_leaving, without_slot}
-use Rattle.wh_host_model.proofs.Space.Voided.{is_sound_evict_void}
+use Rattle.wh_space_model.specs.declared.states.Slot.TheVariants.{EvictVoid}
+use Rattle.wh_space_model.specs.{settled, with_leaving, without_slot}
+use Rattle.wh_space_model.proofs.Voided.{is_sound_evict_void}
 use Rattle.wh_space.specs.declared.memory.Memory.TheInside.{Inside}
 use Rattle.wh_space.specs.Parts.{IsWell, space_of}
 use Rattle.wh_space.proofs.Moving.{ended_void, given, is_void, within_set}

@@ -1,11 +1,11 @@
 use Rattle.std.proofs.Common.{◌≡◌, Some, slice_get, refl}
-use Rattle.wh_host_model.specs.declared.states.Slot.TheVariants.{FetchVoid}
-use Rattle.wh_host_model.specs.Space.Tickets.{settled, with_free, without_slot}
-use Rattle.wh_host_model.proofs.Tally.{one_same}
+use Rattle.wh_space_model.specs.declared.states.Slot.TheVariants.{FetchVoid}
+use Rattle.wh_space_model.specs.{settled, with_free, without_slot}
+use Rattle.wh_space_model.proofs.Tally.{one_same}
 use Rattle.wh_space.specs.declared.memory.Memory.TheInside.{Inside}
 use Rattle.wh_space.specs.Parts.{IsWell, space_of}
 use Rattle.wh_space.proofs.Transiting.{guest_within}
-use Rattle.wh_host_model.proofs.Space.Voided.{is_sound_fetch_void}
+use Rattle.wh_space_model.proofs.Voided.{is_sound_fetch_void}
 use Rattle.wh_space.proofs.Moving.{ended_void_fetch, fetched_into, given, is_void_fetch, within_set}
 use Rattle.wh_space.proofs.memory.Memory.end_void_fetch.Goals as goal
 

@@ -1,7 +1,6 @@
 use Rattle.std.proofs.Common.{◌≡◌, ◌≢◌, ◌<◌, ◌^◌, ℕ, Some, refl, subst, sym, ◌∙◌, arith}
-use Rattle.wh_host_model.specs.Space.Parts.{Occupant, Space, occupant_at}
-use Rattle.wh_host_model.specs.Space.Places.{IsFreePlace, with_row}
-use Rattle.wh_host_model.proofs.Space.Entered.{free_within}
+use Rattle.wh_space_model.specs.{Occupant, Space, occupant_at, IsFreePlace, with_row}
+use Rattle.wh_space_model.proofs.Entered.{free_within}
 use Rattle.wh_space.specs.declared.memory.Memory.TheInside.{Inside}
 use Rattle.wh_space.specs.Parts.{space_of}
 use Rattle.wh_space.proofs.Entering.{MayEnter, entered, guest_of, none_at_free, other_number, with_table}

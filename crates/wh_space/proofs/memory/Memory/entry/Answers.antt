@@ -1,9 +1,7 @@
 use Rattle.std.proofs.Common.{◌≡◌, ℕ, Option, Some, None, IfSome, slice_get}
 use Rattle.wh_content.specs.declared.entry.ContentEntry.{ContentEntry}
 use Rattle.wh_content.specs.Marks.{frame_of_entry, mark_of_entry}
-use Rattle.wh_host_model.specs.Frames.{IsTaken}
-use Rattle.wh_host_model.specs.Space.Parts.{Space}
-use Rattle.wh_host_model.specs.Space.Sound.{IsSound}
+use Rattle.wh_space_model.specs.{IsTaken, Space, IsSound}
 use Rattle.wh_space.specs.Parts.{space_of}
 use Rattle.wh_space.proofs.Merges.{entry_taken}
 use Rattle.wh_space.proofs.memory.Memory.entry.Goals as goal

@@ -1,5 +1,5 @@
 use Rattle.std.proofs.Common.{◌≡◌, refl, ap, ◌∙◌, ℕ, Option, None, IfSome, ◌<◌, length, get_or, subst, sym}
-use Rattle.wh_host_model.specs.Space.Parts.{Slots}
+use Rattle.wh_space_model.specs.{Slots}
 use Rattle.wh_space.specs.declared.memory.Memory.TheInside.{Inside}
 use Rattle.wh_space.specs.Parts.{space_of}
 use Rattle.wh_space.specs.Pinning.{pins_of}

@@ -1,9 +1,7 @@
 use Rattle.std.proofs.Common.{arith, ap, ◌≡◌, Some, [], length, rules, refl}
-use Rattle.wh_host_model.specs.declared.states.Page.TheVariants.{Swapped}
-use Rattle.wh_host_model.specs.Space.Moves.{Fetches}
-use Rattle.wh_host_model.specs.Space.Parts.{kept}
-use Rattle.wh_host_model.specs.Space.States.{page_at}
-use Rattle.wh_host_model.proofs.Space.Putting.{is_page}
+use Rattle.wh_space_model.specs.declared.states.Page.TheVariants.{Swapped}
+use Rattle.wh_space_model.specs.{Fetches, kept, page_at}
+use Rattle.wh_space_model.proofs.Putting.{is_page}
 use Rattle.wh_space.specs.declared.memory.Memory.TheInside.{Inside}
 use Rattle.wh_space.specs.Parts.{IsWell, space_of}
 use Rattle.wh_space.specs.Pinning.{pins_of}

@@ -1,5 +1,5 @@
 use Rattle.std.proofs.Common.{[], length, get_or, ap, subst, arith}
-use Rattle.wh_host_model.specs.Space.Parts.{Space}
+use Rattle.wh_space_model.specs.{Space}
 use Rattle.wh_pages.specs.Seeking.{IsFirstFrom}
 use Rattle.wh_tables.specs.Tables.{IsSoughtAt}
 use Rattle.wh_space.proofs.Choosing.{all_passed, next_leaves, next_passed, none_left, sought_there}
@@ -46,6 +46,5 @@ loop-preserved c =
 
 pub returns : goal.returns
 returns c =
-    let s = c.args.self.now in
     let same = ap (λ (z : Space). length (get_or z.tables c.args.place [])) c.self.view_is in
-    all_passed s c.args.place c.args.idle c.loop.from (omega (arith, c.loop-test.false, c.loop.invariant.far, c.len_at-end.ensures, same)) c.loop.invariant.passed
+    all_passed c.args.self.now c.args.place c.args.idle c.loop.from (omega (arith, c.loop-test.false, c.loop.invariant.far, c.len_at-end.ensures, same)) c.loop.invariant.passed

@@ -1,5 +1,5 @@
 use Rattle.std.proofs.Common.{[], length, get_or, ap, subst, arith}
-use Rattle.wh_host_model.specs.Space.Parts.{Space}
+use Rattle.wh_space_model.specs.{Space}
 use Rattle.wh_pages.specs.Seeking.{IsFirstFrom}
 use Rattle.wh_tables.specs.Tables.{IsSoughtAt}
 use Rattle.wh_space.specs.Claiming.{MightBeTaken}

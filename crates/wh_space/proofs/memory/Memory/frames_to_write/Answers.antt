@@ -1,6 +1,6 @@
 use Rattle.std.proofs.Common.{subst, arith}
-use Rattle.wh_host_model.specs.Space.Sound.{IsSound}
-use Rattle.wh_host_model.proofs.Space.Reserved.{frames_in_all_few}
+use Rattle.wh_space_model.specs.{IsSound}
+use Rattle.wh_space_model.proofs.Reserved.{frames_in_all_few}
 use Rattle.wh_space.proofs.Transiting.{stands_within}
 use Rattle.wh_space.proofs.memory.Memory.frames_to_write.Goals as goal
 

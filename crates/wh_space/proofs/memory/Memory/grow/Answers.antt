@@ -1,9 +1,8 @@
 use Rattle.std.proofs.Common.{◌≡◌, ◌*◌, ◌++◌, ℕ, length, get_or, [], replicate, ap, sym, refl, ◌∙◌, arith}
 use Rattle.std.proofs.lemmas.List.{append-nil}
-use Rattle.wh_host_model.specs.Space.Parts.{Space, view}
-use Rattle.wh_host_model.specs.Space.Stores.{Grew}
-use Rattle.wh_host_model.proofs.Space.Enlarged.{grows_by_zeros}
-use Rattle.wh_host_model.proofs.Space.Putting.{get_or_is}
+use Rattle.wh_space_model.specs.{Space, view, Grew}
+use Rattle.wh_space_model.proofs.Enlarged.{grows_by_zeros}
+use Rattle.wh_space_model.proofs.Putting.{get_or_is}
 use Rattle.wh_space.specs.declared.memory.Memory.TheInside.{Inside}
 use Rattle.wh_space.specs.UnchangedTables.{fixed_in}
 use Rattle.wh_space.specs.Parts.{space_of}

@@ -1,5 +1,5 @@
 use Rattle.std.proofs.Common.{◌∙◌, slice_get, sym, ap}
-use Rattle.wh_host_model.specs.Space.Parts.{Space}
+use Rattle.wh_space_model.specs.{Space}
 use Rattle.wh_space.specs.Parts.{space_of}
 use Rattle.wh_space.proofs.Choosing.{no_leaver, occupant_there}
 use Rattle.wh_space.proofs.Transiting.{table_within}

@@ -1,6 +1,6 @@
 use Rattle.std.proofs.Common.{refl, subst, sym}
-use Rattle.wh_host_model.specs.Space.Sound.{IsSound}
-use Rattle.wh_host_model.proofs.Space.Offered.{hinted_sound}
+use Rattle.wh_space_model.specs.{IsSound}
+use Rattle.wh_space_model.proofs.Offered.{hinted_sound}
 use Rattle.wh_space.specs.Parts.{space_of}
 use Rattle.wh_space.specs.declared.memory.Memory.TheInside.{Inside}
 use Rattle.wh_space.proofs.Merges.{is_alone, remade_is}
@@ -9,8 +9,7 @@ use Rattle.wh_space.proofs.memory.Memory.hint.Goals as goal
 
 pub set_hint-requires-clause-within : goal.set_hint-requires-clause-within
 set_hint-requires-clause-within c =
-    let a = c.self.inside in
-    (is_alone (space_of a) c.args.place c.args.page c.args.frame c.self.invariant.sound (rw (← c.self.view_is) at c.requires.offered.0)).entry
+    (is_alone (space_of c.self.inside) c.args.place c.args.page c.args.frame c.self.invariant.sound (rw (← c.self.view_is) at c.requires.offered.0)).entry
 
 pub invariant_of-self : goal.invariant_of-self
 invariant_of-self c =

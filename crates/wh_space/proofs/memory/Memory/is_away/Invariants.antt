@@ -1,6 +1,6 @@
 use Rattle.std.proofs.Common.{ℕ, ◌≡◌, ◌<◌, Some}
-use Rattle.wh_host_model.specs.declared.states.Page.{Page}
-use Rattle.wh_host_model.specs.Space.States.{page_at}
+use Rattle.wh_space_model.specs.declared.states.Page.{Page}
+use Rattle.wh_space_model.specs.{page_at}
 use Rattle.wh_space.specs.Lendable.{IsHere}
 use Rattle.wh_space.proofs.memory.Memory.is_away.Given as goal
 

@@ -1,5 +1,5 @@
 use Rattle.std.proofs.Common.{◌≡◌, ℕ, ◌<◌, ◌∙◌, List, [], ◌∷◌, Option, Some, None, length, get_or, map, refl, sym, suc, zero, slice_get, ap, arith}
-use Rattle.wh_host_model.specs.Space.Parts.{Occupant, Space}
+use Rattle.wh_space_model.specs.{Occupant, Space}
 use Rattle.wh_space.specs.declared.occupant_entry.OccupantEntry.{OccupantEntry}
 use Rattle.wh_space.specs.Parts.{occupant_of}
 use Rattle.wh_space.proofs.Summing.{guest_at}
@@ -21,7 +21,6 @@ returns c = (
   λ fresh j t there same.
       let is = ap (λ (s : Space). slice_get s.occupants j) c.self.view_is ∙ there in
       let g = guest_at c.self.inside.occupant_entries.items j t is in
-      let less = g.3 in
       let within : j < c.loop-place.place = omega (arith, c.loop-place-test.false, c.len-place-end.ensures) in
       c.loop-place.invariant j g.0 within g.1 (g.2 ∙ same),
   λ all. refl,

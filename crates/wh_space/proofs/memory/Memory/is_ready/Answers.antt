@@ -1,10 +1,10 @@
 use Rattle.std.proofs.Common.{◌≤◌, ◌/◌, List, ℕ, [], get_or, length, ap, subst, sym, arith}
 use Rattle.std.specs.Bool.{MatchBool}
 use Rattle.std.specs.List.{All}
-use Rattle.wh_host_model.specs.Space.Parts.{Space}
+use Rattle.wh_space_model.specs.{Space}
 use Rattle.wh_space.specs.Steps.{CanStep}
-use Rattle.wh_host_model.proofs.Space.Deciding.{no_bytes_are_ready}
-use Rattle.wh_host_model.proofs.Space.Reading.{on_one_page, on_two_pages}
+use Rattle.wh_space_model.proofs.Deciding.{no_bytes_are_ready}
+use Rattle.wh_space_model.proofs.Reading.{on_one_page, on_two_pages}
 use Rattle.wh_space.proofs.Loading.{Hand, beyond, first_away}
 use Rattle.wh_space.proofs.memory.Memory.is_ready.Goals as goal
 

@@ -1,10 +1,8 @@
-use Rattle.wh_host_model.specs.Frames.{Pool}
+use Rattle.wh_space_model.specs.{Pool, FindsShared, HasHash, IsSound}
 use Rattle.std.proofs.Common.{refl, subst, sym, ap, ◌∙◌, ◌+◌, length, length-set, slice_get, slice_set, List, arith}
-use Rattle.wh_host_model.specs.declared.states.Mark.{Mark}
-use Rattle.wh_host_model.specs.declared.states.Mark.TheVariants.{Plain, Sharers}
-use Rattle.wh_host_model.specs.Space.Offers.{FindsShared}
-use Rattle.wh_host_model.specs.Space.Sound.{HasHash, IsSound}
-use Rattle.wh_host_model.proofs.Space.Putting.{there_of}
+use Rattle.wh_space_model.specs.declared.states.Mark.{Mark}
+use Rattle.wh_space_model.specs.declared.states.Mark.TheVariants.{Plain, Sharers}
+use Rattle.wh_space_model.proofs.Putting.{there_of}
 use Rattle.wh_space.specs.Parts.{space_of}
 use Rattle.wh_space.specs.declared.memory.Memory.TheInside.{Inside}
 use Rattle.wh_space.proofs.Merges.{few_sharers, is_alone, joined_sound, none_but, remade_is}

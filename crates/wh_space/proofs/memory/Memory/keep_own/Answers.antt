@@ -1,6 +1,6 @@
 use Rattle.std.proofs.Common.{refl, ◌≡◌, ◌∙◌, ap, ℕ, Option, Some, None, get_or}
-use Rattle.wh_host_model.specs.declared.states.Page.{Page}
-use Rattle.wh_host_model.specs.Space.States.{owns, page_at}
+use Rattle.wh_space_model.specs.declared.states.Page.{Page}
+use Rattle.wh_space_model.specs.{owns, page_at}
 use Rattle.wh_space.specs.Parts.{space_of}
 use Rattle.wh_space.specs.Slotting.{leaver_of, voids_leaver}
 use Rattle.wh_space.proofs.Voids.{leaver_within}

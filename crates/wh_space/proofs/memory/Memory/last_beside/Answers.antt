@@ -1,6 +1,5 @@
 use Rattle.std.proofs.Common.{sym, subst}
-use Rattle.wh_host_model.specs.Space.Claims.{IsBeside}
-use Rattle.wh_host_model.specs.Space.Parts.{Space}
+use Rattle.wh_space_model.specs.{IsBeside, Space}
 use Rattle.wh_space.specs.Parts.{space_of}
 use Rattle.wh_space.proofs.Besides.{IsPast, last_beside, none_beside}
 use Rattle.wh_space.proofs.memory.Memory.last_beside.Goals as goal

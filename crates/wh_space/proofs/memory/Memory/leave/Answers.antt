@@ -1,8 +1,7 @@
 use Rattle.std.proofs.Common.{◌≡◌, ◌∙◌, [], Some, get_or, slice_get, refl, sym, ap}
-use Rattle.wh_host_model.specs.declared.states.Slot.TheVariants.{Evicting}
-use Rattle.wh_host_model.specs.Space.Parts.{Space, frame_bytes, sharers}
-use Rattle.wh_host_model.specs.Space.Tickets.{sent_off}
-use Rattle.wh_host_model.proofs.Space.Putting.{is_page}
+use Rattle.wh_space_model.specs.declared.states.Slot.TheVariants.{Evicting}
+use Rattle.wh_space_model.specs.{Space, frame_bytes, sharers, sent_off}
+use Rattle.wh_space_model.proofs.Putting.{is_page}
 use Rattle.wh_space.specs.declared.memory.Memory.TheInside.{Inside}
 use Rattle.wh_space.specs.Parts.{IsWell, space_of}
 use Rattle.wh_space.proofs.Moving.{is_left, left_now}

@@ -1,5 +1,5 @@
 use Rattle.std.proofs.Common.{subst, arith}
-use Rattle.wh_host_model.specs.Space.Sound.{IsSound}
+use Rattle.wh_space_model.specs.{IsSound}
 use Rattle.wh_space.proofs.Owning.{is_sharer}
 use Rattle.wh_space.proofs.memory.Memory.leave_sharers.Goals as goal
 

@@ -1,8 +1,5 @@
 use Rattle.std.proofs.Common.{refl, subst, sym, ap, ◌∙◌, ◌≡◌, length, cond, nat_lt, ◌++◌, [], ◌∷◌}
-use Rattle.wh_host_model.specs.Frames.{Pool}
-use Rattle.wh_host_model.specs.Space.Offers.{MayBeListed}
-use Rattle.wh_host_model.specs.Space.Parts.{Space, sharers}
-use Rattle.wh_host_model.specs.Space.Sound.{IsSound}
+use Rattle.wh_space_model.specs.{Pool, MayBeListed, Space, sharers, IsSound}
 use Rattle.wh_space.specs.Listing.{zeros_left}
 use Rattle.wh_space.specs.Parts.{IsWell, space_of}
 use Rattle.wh_space.specs.declared.memory.Memory.TheInside.{Inside}

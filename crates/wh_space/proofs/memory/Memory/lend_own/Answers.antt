@@ -1,12 +1,10 @@
-use Rattle.std.proofs.Common.{refl, subst, sym, ap, ◌∙◌, ◌≡◌, Some, length, List, arith}
-use Rattle.wh_host_model.specs.declared.states.Page.{Page}
-use Rattle.wh_host_model.specs.declared.states.Page.TheVariants.{Private, Shared, Untouched}
-use Rattle.wh_host_model.specs.Space.Parts.{Space}
-use Rattle.wh_host_model.specs.Space.Sound.{IsSound}
-use Rattle.wh_host_model.specs.Space.States.{page_at, put}
-use Rattle.wh_host_model.proofs.Space.Evicted.{row_length}
-use Rattle.wh_host_model.proofs.Space.Forked.{lends_page}
-use Rattle.wh_host_model.proofs.Space.Putting.{is_page}
+use Rattle.std.proofs.Common.{refl, ap, ◌∙◌, ◌≡◌, Some, List, arith}
+use Rattle.wh_space_model.specs.declared.states.Page.{Page}
+use Rattle.wh_space_model.specs.declared.states.Page.TheVariants.{Private, Shared, Untouched}
+use Rattle.wh_space_model.specs.{Space, page_at, put}
+use Rattle.wh_space_model.proofs.Evicted.{row_length}
+use Rattle.wh_space_model.proofs.Forked.{lends_page}
+use Rattle.wh_space_model.proofs.Putting.{is_page}
 use Rattle.wh_space.specs.Parts.{space_of}
 use Rattle.wh_space.specs.declared.memory.Memory.TheInside.{Inside}
 use Rattle.wh_space.proofs.Framing.{known_under}

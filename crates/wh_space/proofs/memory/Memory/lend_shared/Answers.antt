@@ -1,15 +1,13 @@
-use Rattle.std.proofs.Common.{refl, subst, sym, ap, ◌∙◌, ◌≡◌, ◌+◌, ◌<◌, ◌^◌, Some, length, List, get_or, arith}
+use Rattle.std.proofs.Common.{refl, subst, sym, ◌∙◌, ◌≡◌, ◌+◌, ◌<◌, ◌^◌, Some, arith}
 use Rattle.wh_content.specs.Marks.{HasRoomForOne}
-use Rattle.wh_host_model.specs.declared.states.Mark.{Mark}
-use Rattle.wh_host_model.specs.declared.states.Mark.TheVariants.{Plain, Hint, Sharers, Unlisted}
-use Rattle.wh_host_model.specs.declared.states.Page.TheVariants.{Shared, Untouched}
-use Rattle.wh_host_model.specs.Space.Parts.{Space, sharers}
-use Rattle.wh_host_model.specs.Space.Sound.{IsSound, Names}
-use Rattle.wh_host_model.specs.Space.States.{page_at, put, shares}
-use Rattle.wh_host_model.proofs.Space.Broken.{entry_there}
-use Rattle.wh_host_model.proofs.Space.Forked.{lends_page}
-use Rattle.wh_host_model.proofs.Space.Putting.{get_or_is, get_pages, is_page, there_of}
-use Rattle.wh_host_model.proofs.Tally.{one_same}
+use Rattle.wh_space_model.specs.declared.states.Mark.{Mark}
+use Rattle.wh_space_model.specs.declared.states.Mark.TheVariants.{Plain, Hint, Sharers, Unlisted}
+use Rattle.wh_space_model.specs.declared.states.Page.TheVariants.{Shared, Untouched}
+use Rattle.wh_space_model.specs.{Space, sharers, Names, page_at, shares}
+use Rattle.wh_space_model.proofs.Broken.{entry_there}
+use Rattle.wh_space_model.proofs.Forked.{lends_page}
+use Rattle.wh_space_model.proofs.Putting.{get_or_is, get_pages, is_page, there_of}
+use Rattle.wh_space_model.proofs.Tally.{one_same}
 use Rattle.wh_space.specs.Parts.{space_of}
 use Rattle.wh_space.specs.declared.memory.Memory.TheInside.{Inside}
 use Rattle.wh_space.proofs.Framing.{known_under}

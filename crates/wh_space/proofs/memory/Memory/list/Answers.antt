@@ -1,9 +1,8 @@
 use Rattle.std.proofs.Common.{refl, subst, sym}
-use Rattle.wh_host_model.specs.declared.states.Mark.TheVariants.{Unlisted}
-use Rattle.wh_host_model.specs.Space.Parts.{Space}
-use Rattle.wh_host_model.specs.Space.Sound.{IsSound}
-use Rattle.wh_host_model.proofs.Space.Listed.{listed_sound}
-use Rattle.wh_host_model.proofs.Space.Putting.{there_of}
+use Rattle.wh_space_model.specs.declared.states.Mark.TheVariants.{Unlisted}
+use Rattle.wh_space_model.specs.{Space, IsSound}
+use Rattle.wh_space_model.proofs.Listed.{listed_sound}
+use Rattle.wh_space_model.proofs.Putting.{there_of}
 use Rattle.wh_space.specs.Parts.{space_of}
 use Rattle.wh_space.specs.declared.memory.Memory.TheInside.{Inside}
 use Rattle.wh_space.proofs.Unshared.{none_has}

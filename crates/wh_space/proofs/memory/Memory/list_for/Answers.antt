@@ -1,10 +1,9 @@
 use Rattle.std.proofs.Common.{refl, subst, sym, ap, ◌∙◌, length, length-set, slice_set, List, arith}
-use Rattle.wh_host_model.specs.Space.Sound.{IsSound}
-use Rattle.wh_host_model.specs.declared.states.Mark.{Mark}
-use Rattle.wh_host_model.specs.declared.states.Mark.TheVariants.{Hint, Plain, Sharers, Unlisted}
-use Rattle.wh_host_model.specs.Space.Offers.{FindsHint}
-use Rattle.wh_host_model.proofs.Space.Listed.{listed_for_sound}
-use Rattle.wh_host_model.proofs.Space.Putting.{there_of}
+use Rattle.wh_space_model.specs.{IsSound, FindsHint}
+use Rattle.wh_space_model.specs.declared.states.Mark.{Mark}
+use Rattle.wh_space_model.specs.declared.states.Mark.TheVariants.{Hint, Plain, Sharers, Unlisted}
+use Rattle.wh_space_model.proofs.Listed.{listed_for_sound}
+use Rattle.wh_space_model.proofs.Putting.{there_of}
 use Rattle.wh_space.specs.Parts.{space_of}
 use Rattle.wh_space.specs.declared.memory.Memory.TheInside.{Inside}
 use Rattle.wh_space.proofs.Merges.{none_stays, remade_is}

@@ -1,9 +1,7 @@
 use Rattle.std.proofs.Common.{◌∙◌, sym, refl, ap, subst, ◌≡◌, true, length}
-use Rattle.wh_host_model.specs.Space.Parts.{Space, backing}
-use Rattle.wh_host_model.specs.Space.Sound.{IsSound}
-use Rattle.wh_host_model.specs.Space.States.{put}
-use Rattle.wh_host_model.proofs.Space.Reading.{read_page, taken_under}
-use Rattle.wh_host_model.proofs.Space.Steady.{touched_soundly}
+use Rattle.wh_space_model.specs.{Space, backing, IsSound, put}
+use Rattle.wh_space_model.proofs.Reading.{read_page, taken_under}
+use Rattle.wh_space_model.proofs.Steady.{touched_soundly}
 use Rattle.wh_space.specs.declared.memory.Memory.TheInside.{Inside}
 use Rattle.wh_space.specs.UnchangedTables.{fixed_in}
 use Rattle.wh_space.specs.Parts.{space_of}

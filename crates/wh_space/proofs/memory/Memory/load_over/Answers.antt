@@ -1,9 +1,8 @@
 use Rattle.std.proofs.Common.{◌≡◌, ◌+◌, ◌*◌, ◌++◌, List, ℕ, [], ◌∷◌, ◌/◌, ◌%◌, length, ap, subst, sym, ◌∙◌, arith, rules}
 use Rattle.std.proofs.lemmas.List.{take-append-drop}
-use Rattle.wh_host_model.specs.Space.Sound.{IsSound}
-use Rattle.wh_host_model.specs.Space.Parts.{Space, view}
-use Rattle.wh_host_model.proofs.Space.Reading.{on_two_pages}
-use Rattle.wh_model.specs.Execution.Store.{bytes_at}
+use Rattle.wh_space_model.specs.{IsSound, Space, view}
+use Rattle.wh_space_model.proofs.Reading.{on_two_pages}
+use Rattle.wh_model.specs.Execution.{bytes_at}
 use Rattle.wh_space.proofs.Loading.{Hand, first_away, second_away, got_nothing, got_value, is_true, read_over, two_hands}
 use Rattle.wh_space.proofs.memory.Memory.load_over.Goals as goal
 

@@ -2,11 +2,10 @@ use Rattle.std.proofs.Common.{◌≡◌, ◌≤◌, ◌+◌, List, ℕ, [], ◌�
 use Rattle.std.proofs.lemmas.Grind.{common_steps}
 use Rattle.std.proofs.lemmas.List.Elements.{All-nil}
 use Rattle.wh_model.specs.declared.memory.Got.TheVariants.{NotReady}
-use Rattle.wh_model.specs.Execution.Memory.{Loads, reading}
-use Rattle.wh_host_model.specs.Space.Parts.{view}
-use Rattle.wh_host_model.specs.Space.Ready.{Ready}
-use Rattle.wh_host_model.specs.Space.Sound.{IsSound}
-use Rattle.wh_host_model.proofs.Space.Reading.{on_no_page, on_one_page, view_length}
+use Rattle.wh_model.specs.Execution.{Loads, reading}
+use Rattle.wh_space_model.specs.{view, IsSound}
+use Rattle.wh_space_model.specs.Ready.{Ready}
+use Rattle.wh_space_model.proofs.Reading.{on_no_page, on_one_page, view_length}
 use Rattle.wh_space.proofs.Loading.{Hand, first_away, got_nothing, got_value, read_none}
 use Rattle.wh_space.proofs.memory.Memory.load_slowly.Goals as goal
 

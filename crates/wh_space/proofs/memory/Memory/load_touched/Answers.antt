@@ -1,9 +1,8 @@
 use Rattle.std.proofs.Common.{◌∙◌, sym, ap, true, length}
-use Rattle.wh_model.specs.Execution.Store.{bytes_at}
-use Rattle.wh_host_model.specs.Space.Parts.{Space, backing}
-use Rattle.wh_host_model.specs.Space.States.{page_at}
-use Rattle.wh_host_model.proofs.Space.Reading.{read_page, taken_under}
-use Rattle.wh_host_model.proofs.Space.Transit.{on_frame}
+use Rattle.wh_model.specs.Execution.{bytes_at}
+use Rattle.wh_space_model.specs.{Space, backing, page_at}
+use Rattle.wh_space_model.proofs.Reading.{read_page, taken_under}
+use Rattle.wh_space_model.proofs.Transit.{on_frame}
 use Rattle.wh_space.specs.Parts.{space_of}
 use Rattle.wh_space.proofs.Marking.{frame_touched, on_frame_at_hand}
 use Rattle.wh_space.proofs.Owning.{put_found}

@@ -1,13 +1,9 @@
-use Rattle.std.proofs.Common.{refl, subst, sym, ap, ◌∙◌, ◌≡◌, ◌+◌, length, length-set, slice_set, List, cond, nat_lt, ◌++◌, [], ◌∷◌, slice_get, arith}
-use Rattle.wh_host_model.specs.Frames.{Pool}
-use Rattle.wh_host_model.specs.declared.states.Mark.{Mark}
-use Rattle.wh_host_model.specs.declared.states.Mark.TheVariants.{Plain, Sharers}
-use Rattle.wh_host_model.specs.Space.Moves.{one_fewer}
-use Rattle.wh_host_model.specs.Space.Offers.{FindsShared, MayBeListed, moved_to}
-use Rattle.wh_host_model.specs.Space.Parts.{Space, sharers}
-use Rattle.wh_host_model.specs.Space.Sound.{IsSound}
-use Rattle.wh_host_model.proofs.Space.Listed.{moved_sound}
-use Rattle.wh_host_model.proofs.Space.Putting.{there_of}
+use Rattle.std.proofs.Common.{refl, subst, sym, ap, ◌∙◌, ◌≡◌, ◌+◌, length, length-set, slice_set, List, cond, nat_lt, ◌++◌, [], ◌∷◌, arith}
+use Rattle.wh_space_model.specs.{Pool, FindsShared, MayBeListed, moved_to, Space, sharers, IsSound}
+use Rattle.wh_space_model.specs.declared.states.Mark.{Mark}
+use Rattle.wh_space_model.specs.declared.states.Mark.TheVariants.{Sharers}
+use Rattle.wh_space_model.proofs.Listed.{moved_sound}
+use Rattle.wh_space_model.proofs.Putting.{there_of}
 use Rattle.wh_space.specs.Parts.{IsWell, space_of}
 use Rattle.wh_space.specs.declared.memory.Memory.TheInside.{Inside}
 use Rattle.wh_space.proofs.Unshared.{as_many, few_elsewhere, left_marks, on_shared, only_left}

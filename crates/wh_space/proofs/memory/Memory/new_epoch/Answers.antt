@@ -1,6 +1,6 @@
 use Rattle.std.proofs.Common.{refl, ap}
-use Rattle.wh_host_model.specs.Space.Stores.{Epochs}
-use Rattle.wh_host_model.proofs.Space.Steady.{epochs_soundly}
+use Rattle.wh_space_model.specs.{Epochs}
+use Rattle.wh_space_model.proofs.Steady.{epochs_soundly}
 use Rattle.wh_space.specs.UnchangedTables.{fixed_in}
 use Rattle.wh_space.specs.Parts.{space_of}
 use Rattle.wh_space.proofs.Wellness.{well}

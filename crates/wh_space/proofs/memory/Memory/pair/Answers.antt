@@ -1,15 +1,11 @@
-use Rattle.wh_host_model.specs.Frames.{Pool}
+use Rattle.wh_space_model.specs.{Pool, FindsHint, Space, HasHash, IsSound, page_at, put}
 use Rattle.std.proofs.Common.{refl, subst, sym, ap, ◌∙◌, ◌≡◌, Some, length, length-set, slice_get, slice_set, List, arith}
-use Rattle.wh_host_model.specs.declared.states.Mark.{Mark}
-use Rattle.wh_host_model.specs.declared.states.Mark.TheVariants.{Hint, Plain, Sharers}
-use Rattle.wh_host_model.specs.declared.states.Page.{Page}
-use Rattle.wh_host_model.specs.declared.states.Page.TheVariants.{Private, Shared}
-use Rattle.wh_host_model.specs.Space.Offers.{FindsHint}
-use Rattle.wh_host_model.specs.Space.Parts.{Space}
-use Rattle.wh_host_model.specs.Space.Sound.{HasHash, IsSound}
-use Rattle.wh_host_model.specs.Space.States.{page_at, put}
-use Rattle.wh_host_model.proofs.Space.Evicted.{row_length}
-use Rattle.wh_host_model.proofs.Space.Putting.{is_page, there_of}
+use Rattle.wh_space_model.specs.declared.states.Mark.{Mark}
+use Rattle.wh_space_model.specs.declared.states.Mark.TheVariants.{Hint, Plain, Sharers}
+use Rattle.wh_space_model.specs.declared.states.Page.{Page}
+use Rattle.wh_space_model.specs.declared.states.Page.TheVariants.{Private, Shared}
+use Rattle.wh_space_model.proofs.Evicted.{row_length}
+use Rattle.wh_space_model.proofs.Putting.{is_page, there_of}
 use Rattle.wh_space.specs.Parts.{space_of}
 use Rattle.wh_space.specs.declared.memory.Memory.TheInside.{Inside}
 use Rattle.wh_space.proofs.Merges.{is_alone, none_but, paired_sound, remade_is}

@@ -1,6 +1,6 @@
 use Rattle.std.proofs.Common.{◌∙◌, sym, refl, length}
-use Rattle.wh_host_model.specs.Space.Parts.{Space, backing}
-use Rattle.wh_host_model.proofs.Space.Reading.{read_page, taken_under}
+use Rattle.wh_space_model.specs.{Space, backing}
+use Rattle.wh_space_model.proofs.Reading.{read_page, taken_under}
 use Rattle.wh_space.specs.Parts.{space_of}
 use Rattle.wh_space.proofs.memory.Memory.peek.Goals as goal
 

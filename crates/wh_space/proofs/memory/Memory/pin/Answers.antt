@@ -1,10 +1,6 @@
-use Rattle.wh_host_model.specs.Frames.{Pool}
+use Rattle.wh_space_model.specs.{Pool, residents, pages_of_need, IsSound, WaitsForBytes}
 use Rattle.std.proofs.Common.{length, ap, ◌≡◌, Some, refl, sym, subst}
-use Rattle.wh_host_model.specs.Space.Moves.{residents}
-use Rattle.wh_host_model.specs.Space.Ready.{pages_of_need}
-use Rattle.wh_host_model.specs.Space.Sound.{IsSound}
-use Rattle.wh_host_model.specs.Space.Tickets.{WaitsForBytes}
-use Rattle.wh_host_model.proofs.Space.Reserved.{is_sound_pinned}
+use Rattle.wh_space_model.proofs.Reserved.{is_sound_pinned}
 use Rattle.wh_space.specs.declared.memory.Memory.TheInside.{Inside}
 use Rattle.wh_space.specs.Parts.{space_of}
 use Rattle.wh_space.specs.Pinning.{numbers_in}

@@ -1,11 +1,11 @@
 use Rattle.std.proofs.Common.{◌≡◌, ◌∙◌, ℕ, ◌+◌, ◌-◌, ◌*◌, List, sym, ap, length, get_or, Some, [], arith}
 use Rattle.std.proofs.lemmas.List.{take_rest}
 use Rattle.std.proofs.lemmas.Option.{get_or_from_slice_get}
-use Rattle.wh_model.specs.Execution.Store.{bytes_at}
-use Rattle.wh_host_model.specs.declared.states.Page.TheVariants.{Private}
-use Rattle.wh_host_model.specs.Space.Parts.{Space}
-use Rattle.wh_host_model.proofs.Space.Filling.{fillable}
-use Rattle.wh_host_model.proofs.Space.Reading.{read_page}
+use Rattle.wh_model.specs.Execution.{bytes_at}
+use Rattle.wh_space_model.specs.declared.states.Page.TheVariants.{Private}
+use Rattle.wh_space_model.specs.{Space}
+use Rattle.wh_space_model.proofs.Filling.{fillable}
+use Rattle.wh_space_model.proofs.Reading.{read_page}
 use Rattle.wh_space.specs.Parts.{space_of}
 use Rattle.wh_space.proofs.Merges.{is_alone}
 use Rattle.wh_space.proofs.memory.Memory.private_page.Goals as goal

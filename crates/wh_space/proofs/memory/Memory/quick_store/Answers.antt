@@ -1,9 +1,8 @@
 use Rattle.std.proofs.Common.{◌≡◌, ◌≤◌, ◌+◌, ◌*◌, List, ℕ, [], ◌∷◌, ◌/◌, ◌%◌, length, get_or, subst, arith}
 use Rattle.std.proofs.lemmas.Grind.{common_steps}
-use Rattle.wh_host_model.specs.Space.Sound.{IsSound}
-use Rattle.wh_host_model.specs.Space.Stores.{Fills, Overwrites}
-use Rattle.wh_host_model.proofs.Space.Filling.{each_one}
-use Rattle.wh_host_model.proofs.Space.Reading.{on_one_page}
+use Rattle.wh_space_model.specs.{IsSound, Fills, Overwrites}
+use Rattle.wh_space_model.proofs.Filling.{each_one}
+use Rattle.wh_space_model.proofs.Reading.{on_one_page}
 use Rattle.wh_space.proofs.Storing.{can_step_one, overwrites, stored}
 use Rattle.wh_space.proofs.memory.Memory.quick_store.Goals as goal
 

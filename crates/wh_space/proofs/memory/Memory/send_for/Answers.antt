@@ -1,15 +1,13 @@
 use Rattle.std.proofs.Common.{◌≡◌, Some, refl, arith}
-use Rattle.wh_host_model.specs.declared.states.Page.TheVariants.{Swapped}
-use Rattle.wh_host_model.specs.declared.states.Slot.TheVariants.{Taken}
-use Rattle.wh_host_model.specs.Space.Parts.{Space}
-use Rattle.wh_host_model.specs.Space.States.{page_at}
-use Rattle.wh_host_model.specs.Space.Tickets.{sent_for}
-use Rattle.wh_host_model.proofs.Space.Putting.{is_page, there_of}
+use Rattle.wh_space_model.specs.declared.states.Page.TheVariants.{Swapped}
+use Rattle.wh_space_model.specs.declared.states.Slot.TheVariants.{Taken}
+use Rattle.wh_space_model.specs.{Space, page_at, sent_for}
+use Rattle.wh_space_model.proofs.Putting.{is_page, there_of}
 use Rattle.wh_space.specs.declared.memory.Memory.TheInside.{Inside}
 use Rattle.wh_space.specs.Parts.{IsWell, space_of}
 use Rattle.wh_space.proofs.Transiting.{table_within, tickets_few}
-use Rattle.wh_host_model.proofs.Space.Awaited.{is_sound_sent_for}
-use Rattle.wh_host_model.proofs.Space.Slotting.{slot_taken}
+use Rattle.wh_space_model.proofs.Awaited.{is_sound_sent_for}
+use Rattle.wh_space_model.proofs.Slotting.{slot_taken}
 use Rattle.wh_space.proofs.Moving.{sent}
 use Rattle.wh_space.proofs.memory.Memory.send_for.Goals as goal
 

@@ -1,6 +1,6 @@
 use Rattle.std.proofs.Common.{◌≡◌, ◌+◌, ◌∙◌, sym, Some, ap, rules, arith}
 use Rattle.std.proofs.lemmas.Bool.Decides.{nat_tests}
-use Rattle.wh_host_model.specs.Space.Parts.{Space, sharers}
+use Rattle.wh_space_model.specs.{Space, sharers}
 use Rattle.wh_space.specs.Parts.{space_of}
 use Rattle.wh_space.specs.Steps.{SharesAlone, frame_shared}
 use Rattle.wh_space.proofs.Wants.{same_page, shared_taken_by}

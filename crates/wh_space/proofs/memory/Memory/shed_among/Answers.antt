@@ -1,5 +1,5 @@
 use Rattle.std.proofs.Common.{◌/◌, ◌+◌, inl, inr, subst, sym}
-use Rattle.wh_host_model.specs.Space.Parts.{Space}
+use Rattle.wh_space_model.specs.{Space}
 use Rattle.wh_space.specs.Shedding.{ShedsNone}
 use Rattle.wh_space.proofs.Besides.{page_of_step, shed_of}
 use Rattle.wh_space.proofs.memory.Memory.shed_among.Goals as goal

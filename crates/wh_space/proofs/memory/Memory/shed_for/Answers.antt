@@ -1,6 +1,5 @@
 use Rattle.std.proofs.Common.{◌≡◌, ◌<◌, Some, length, sym, ap, ◌∙◌, subst, arith}
-use Rattle.wh_host_model.specs.Space.Parts.{Space}
-use Rattle.wh_host_model.specs.Space.States.{page_at}
+use Rattle.wh_space_model.specs.{Space, page_at}
 use Rattle.wh_space.specs.Steps.{frame_shared}
 use Rattle.wh_space.proofs.Besides.{sheds_few, within_pool}
 use Rattle.wh_space.proofs.memory.Memory.shed_for.Goals as goal

@@ -1,7 +1,6 @@
 use Rattle.std.proofs.Common.{◌≡◌, length, get_or, [], ap, sym, ◌∙◌, subst, arith}
-use Rattle.wh_host_model.specs.Space.Parts.{Space}
-use Rattle.wh_host_model.specs.Space.Sound.{IsSound}
-use Rattle.wh_host_model.proofs.Space.Reading.{view_length}
+use Rattle.wh_space_model.specs.{Space, IsSound}
+use Rattle.wh_space_model.proofs.Reading.{view_length}
 use Rattle.wh_space.proofs.Growing.{sixteens}
 use Rattle.wh_space.proofs.memory.Memory.size.Goals as goal
 

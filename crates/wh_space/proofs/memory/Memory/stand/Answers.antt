@@ -1,7 +1,6 @@
 use Rattle.std.proofs.Common.{◌≡◌, ◌+◌, ◌*◌, ◌≤◌, [], Some, true, get_or, length, slice_get, refl, ap, ◌∙◌}
 use Rattle.wh_model.specs.declared.memory.Need.{Need}
-use Rattle.wh_host_model.specs.Space.Parts.{Space, occupant_at}
-use Rattle.wh_host_model.specs.Space.Stores.{stood}
+use Rattle.wh_space_model.specs.{Space, occupant_at, stood}
 use Rattle.wh_space.specs.Parts.{space_of}
 use Rattle.wh_space.proofs.Stood.{stood_well}
 use Rattle.wh_space.proofs.memory.Memory.stand.Goals as goal

@@ -1,10 +1,8 @@
 use Rattle.std.proofs.Common.{◌≡◌, Some, slice_get, refl, sym, subst, ap, ◌∙◌}
-use Rattle.wh_host_model.specs.declared.states.Page.{Page}
-use Rattle.wh_host_model.specs.declared.states.Slot.TheVariants.{Evicting}
-use Rattle.wh_host_model.specs.Space.Parts.{Space}
-use Rattle.wh_host_model.specs.Space.States.{page_at}
-use Rattle.wh_host_model.specs.Space.Tickets.{as_before, not_sent}
-use Rattle.wh_host_model.proofs.Space.Returned.{is_sound_returned}
+use Rattle.wh_space_model.specs.declared.states.Page.{Page}
+use Rattle.wh_space_model.specs.declared.states.Slot.TheVariants.{Evicting}
+use Rattle.wh_space_model.specs.{Space, page_at, as_before, not_sent}
+use Rattle.wh_space_model.proofs.Returned.{is_sound_returned}
 use Rattle.wh_space.specs.declared.memory.Memory.TheInside.{Inside}
 use Rattle.wh_space.specs.Parts.{IsWell, space_of}
 use Rattle.wh_space.specs.Transits.{back_again}
@@ -24,7 +22,6 @@ ended c =
     let out = is_out s c.args.slot c.args.place c.args.page c.self.invariant.sound is in
     let was = one_page s.tables c.args.place c.args.page out.page c.page-was.result out.at_it c.page-was.ensures in
     let back : as_before c.page-was.result (back_again c.page-was.result) = subst (λ (x : Page). as_before x (back_again x)) was (before_leaving out.page out.leaves) in
-    let pages = subst (λ (x : Page). x ≡ back_again c.page-was.result) (sym c.as_it_was.ensures) refl in
     stayed a (record a { occupant_entries = c.end_leaving.new.occupant_entries; slots = c.give.new.self; tables = c.put_page.new.tables }) c.args.slot c.args.place c.args.page (back_again c.page-was.result) c.self.invariant
     (is_sound_returned s c.args.place c.args.page c.args.slot c.page-was.result (back_again c.page-was.result) c.self.invariant.sound is c.page-was.ensures back) is c.end_leaving.ensures
     (given a.slots c.give.new.self c.args.slot c.give.ensures.uses c.give.ensures.vacant c.give.ensures.held)

@@ -1,13 +1,13 @@
 use Rattle.std.proofs.Common.{◌≡◌, Some, slice_get, refl}
-use Rattle.wh_host_model.specs.declared.states.Page.TheVariants.{Coming}
-use Rattle.wh_host_model.specs.declared.states.Slot.TheVariants.{Fetching}
-use Rattle.wh_host_model.specs.Space.Tickets.{not_come}
-use Rattle.wh_host_model.proofs.Tally.{one_same}
-use Rattle.wh_host_model.proofs.Space.Putting.{is_page}
+use Rattle.wh_space_model.specs.declared.states.Page.TheVariants.{Coming}
+use Rattle.wh_space_model.specs.declared.states.Slot.TheVariants.{Fetching}
+use Rattle.wh_space_model.specs.{not_come}
+use Rattle.wh_space_model.proofs.Tally.{one_same}
+use Rattle.wh_space_model.proofs.Putting.{is_page}
 use Rattle.wh_space.specs.declared.memory.Memory.TheInside.{Inside}
 use Rattle.wh_space.specs.Parts.{IsWell, space_of}
 use Rattle.wh_space.proofs.Transiting.{table_within}
-use Rattle.wh_host_model.proofs.Space.Come.{is_sound_not_come}
+use Rattle.wh_space_model.proofs.Come.{is_sound_not_come}
 use Rattle.wh_space.proofs.Moving.{fetched_into, is_awaited, stayed_away}
 use Rattle.wh_space.proofs.memory.Memory.stay_away.Goals as goal
 

@@ -1,7 +1,7 @@
 use Rattle.std.proofs.Common.{subst}
-use Rattle.wh_model.specs.Execution.Memory.{Stores}
-use Rattle.wh_host_model.specs.Space.Parts.{Space, view}
-use Rattle.wh_host_model.specs.Space.Ready.{Ready}
+use Rattle.wh_model.specs.Execution.{Stores}
+use Rattle.wh_space_model.specs.{Space, view}
+use Rattle.wh_space_model.specs.Ready.{Ready}
 use Rattle.wh_space.proofs.memory.Memory.store.Goals as goal
 
 pub returns-then-quick_store-clause-leaves : goal.returns-then-quick_store-clause-leaves

@@ -1,13 +1,12 @@
 use Rattle.std.proofs.Common.{◌≡◌, ◌+◌, ◌*◌, ◌++◌, List, ℕ, [], ◌∷◌, ◌/◌, ◌%◌, true, length, ap, subst, sym, ◌∙◌, arith, rules}
 use Rattle.std.proofs.lemmas.List.{take-append-drop}
 use Rattle.wh_model.specs.Execution.Memory.{writing}
-use Rattle.wh_host_model.specs.Space.Sound.{IsSound}
-use Rattle.wh_host_model.specs.Space.Ready.{Ready}
-use Rattle.wh_host_model.specs.Space.Stores.{Fills, Overwrites}
-use Rattle.wh_host_model.proofs.Space.Filled.{breaks_soundly}
-use Rattle.wh_host_model.proofs.Space.Filling.{each_two}
-use Rattle.wh_host_model.proofs.Space.Reading.{on_one_page, on_two_pages, view_length}
-use Rattle.wh_host_model.proofs.Space.Writing.{fills_both}
+use Rattle.wh_space_model.specs.{IsSound, Fills, Overwrites}
+use Rattle.wh_space_model.specs.Ready.{Ready}
+use Rattle.wh_space_model.proofs.Filled.{breaks_soundly}
+use Rattle.wh_space_model.proofs.Filling.{each_two}
+use Rattle.wh_space_model.proofs.Reading.{on_one_page, on_two_pages, view_length}
+use Rattle.wh_space_model.proofs.Writing.{fills_both}
 use Rattle.wh_space.specs.Steps.{CanStep}
 use Rattle.wh_space.proofs.Storing.{can_first, can_second, not_stored, other_page, overwrites, same_table, stored}
 use Rattle.wh_space.proofs.memory.Memory.store_over.Goals as goal
@@ -47,9 +46,8 @@ unreachable-requires-in_default-own c =
 
 pub write_own-requires-clause-own : goal.write_own-requires-clause-own
 write_own-requires-clause-own c =
-    let s = c.args.self.now in
     let p : ℕ = c.args.at / 4096 in
-    let mid = (breaks_soundly s c.args.place p c.own.new.self (subst IsSound c.self.view_is c.self.invariant.sound) c.in-Some.ensures.1).0 in
+    let mid = (breaks_soundly c.args.self.now c.args.place p c.own.new.self (subst IsSound c.self.view_is c.self.invariant.sound) c.in-Some.ensures.1).0 in
     other_page c.own.new.self c.args.place (p + 1) p c.own-2.new.self mid c.in-Some-own.ensures.1 (λ e. omega arith) ∙ c.in-Some.ensures.2
 
 over : (c : goal.After-write_own-2) → Overwrites c.args.self.now c.args.place c.args.at c.args.given.now c.write_own-2.new.self

@@ -1,13 +1,12 @@
 use Rattle.std.proofs.Common.{◌≡◌, ◌≤◌, ◌+◌, ◌*◌, List, ℕ, [], ◌∷◌, ◌/◌, ◌%◌, true, length, refl, subst, sym, arith}
 use Rattle.std.proofs.lemmas.Grind.{common_steps}
 use Rattle.wh_model.specs.declared.memory.Got.TheVariants.{NotReady}
-use Rattle.wh_model.specs.Execution.Memory.{Stores, writing}
-use Rattle.wh_host_model.specs.Space.Ready.{Ready}
-use Rattle.wh_host_model.specs.Space.Sound.{IsSound}
-use Rattle.wh_host_model.specs.Space.Parts.{Space, view}
-use Rattle.wh_host_model.specs.Space.Stores.{Fills, Overwrites}
-use Rattle.wh_host_model.proofs.Space.Filling.{each_one}
-use Rattle.wh_host_model.proofs.Space.Reading.{on_no_page, on_one_page, view_length}
+use Rattle.wh_model.specs.Execution.Memory.{writing}
+use Rattle.wh_model.specs.Execution.{Stores}
+use Rattle.wh_space_model.specs.Ready.{Ready}
+use Rattle.wh_space_model.specs.{IsSound, Space, view, Fills, Overwrites}
+use Rattle.wh_space_model.proofs.Filling.{each_one}
+use Rattle.wh_space_model.proofs.Reading.{on_no_page, on_one_page, view_length}
 use Rattle.wh_space.specs.Steps.{CanStep}
 use Rattle.wh_space.proofs.Storing.{can_step_one, cannot_step_one, no_step, not_stored, over_none, overwrites, stored}
 use Rattle.wh_space.proofs.memory.Memory.store_slowly.Goals as goal

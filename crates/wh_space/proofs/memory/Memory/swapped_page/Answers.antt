@@ -1,5 +1,5 @@
 use Rattle.std.proofs.Common.{subst}
-use Rattle.wh_host_model.specs.Space.Sound.{IsSound}
+use Rattle.wh_space_model.specs.{IsSound}
 use Rattle.wh_space.proofs.Transiting.{stands_within}
 use Rattle.wh_space.proofs.memory.Memory.swapped_page.Goals as goal
 

@@ -1,5 +1,5 @@
 use Rattle.std.proofs.Common.{arith, length, refl, ◌≡◌, ◌≤◌, ◌∙◌, ap, ℕ, Option, None, get_or}
-use Rattle.wh_host_model.specs.Space.Parts.{Space, sharers}
+use Rattle.wh_space_model.specs.{Space, sharers}
 use Rattle.wh_space.specs.Parts.{space_of}
 use Rattle.wh_space.specs.Pinning.{pins_of}
 use Rattle.wh_space.specs.Slotting.{leaver_of, voids_leaver}

@@ -1,9 +1,7 @@
 use Rattle.std.proofs.Common.{arith, length, ap, refl, ◌≡◌, Some}
-use Rattle.wh_host_model.specs.declared.states.Page.TheVariants.{Untouched}
-use Rattle.wh_host_model.specs.Pages.{zero_page}
-use Rattle.wh_host_model.specs.Space.Parts.{Space}
-use Rattle.wh_host_model.specs.Space.States.{page_at}
-use Rattle.wh_host_model.proofs.Space.Putting.{is_page}
+use Rattle.wh_space_model.specs.declared.states.Page.TheVariants.{Untouched}
+use Rattle.wh_space_model.specs.{zero_page, Space, page_at}
+use Rattle.wh_space_model.proofs.Putting.{is_page}
 use Rattle.wh_space.specs.Parts.{space_of}
 use Rattle.wh_space.specs.Pinning.{pins_of}
 use Rattle.wh_space.proofs.Earmarked.{goes_frames, goes_some, goes_taken, takes_frame}

@@ -1,8 +1,6 @@
-use Rattle.wh_host_model.specs.Frames.{Pool}
+use Rattle.wh_space_model.specs.{Pool, IsSound, unpinned}
 use Rattle.std.proofs.Common.{length, ap, ◌≡◌, refl, sym, subst}
-use Rattle.wh_host_model.specs.Space.Sound.{IsSound}
-use Rattle.wh_host_model.specs.Space.Moves.{unpinned}
-use Rattle.wh_host_model.proofs.Space.Reserved.{is_sound_unpinned}
+use Rattle.wh_space_model.proofs.Reserved.{is_sound_unpinned}
 use Rattle.wh_space.specs.declared.memory.Memory.TheInside.{Inside}
 use Rattle.wh_space.specs.Parts.{space_of}
 use Rattle.wh_space.proofs.Earmarked.{may_end_all}

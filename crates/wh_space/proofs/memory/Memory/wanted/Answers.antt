@@ -1,5 +1,5 @@
 use Rattle.std.proofs.Common.{◌≡◌, ◌∙◌, sym, ap, None, arith}
-use Rattle.wh_host_model.specs.Space.Parts.{Space, sharers}
+use Rattle.wh_space_model.specs.{Space, sharers}
 use Rattle.wh_space.specs.Parts.{space_of}
 use Rattle.wh_space.specs.Steps.{frame_shared}
 use Rattle.wh_space.proofs.Wants.{shared_taken_by, wants_copy, wants_none, wants_none_of, wants_zeros}

@@ -1,7 +1,7 @@
 use Rattle.std.proofs.Common.{◌+◌, List, [], get_or, subst, rules, arith}
-use Rattle.wh_host_model.specs.Space.Sound.{IsSound}
-use Rattle.wh_host_model.specs.declared.states.Page.{Page}
-use Rattle.wh_host_model.proofs.Space.Rooms.{get_there}
+use Rattle.wh_space_model.specs.{IsSound}
+use Rattle.wh_space_model.specs.declared.states.Page.{Page}
+use Rattle.wh_space_model.proofs.Rooms.{get_there}
 use Rattle.wh_space.specs.Steps.{SharesAlone}
 use Rattle.wh_space.proofs.Wants.{both_alone, both_apart}
 use Rattle.wh_space.proofs.memory.Memory.wanted_by_both.Goals as goal

@@ -1,6 +1,6 @@
 use Rattle.std.proofs.Common.{◌≤◌, [], None, arith}
-use Rattle.wh_host_model.specs.Space.Ready.{frames_to_write}
-use Rattle.wh_host_model.proofs.Space.Deciding.{no_bytes_are_ready}
+use Rattle.wh_space_model.specs.{frames_to_write}
+use Rattle.wh_space_model.proofs.Deciding.{no_bytes_are_ready}
 use Rattle.wh_space.proofs.memory.Memory.wanted_for.Goals as goal
 
 pub returns-then-need-eq0 : goal.returns-then-need-eq0

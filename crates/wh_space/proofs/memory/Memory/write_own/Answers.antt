@@ -1,10 +1,9 @@
-use Rattle.wh_host_model.specs.Frames.{Pool}
+use Rattle.wh_space_model.specs.{Pool, Fills}
 use Rattle.std.proofs.Common.{◌∙◌, length-set, length, ap, refl, ◌*◌, ◌+◌}
-use Rattle.wh_host_model.specs.declared.states.Page.TheVariants.{Private}
-use Rattle.wh_host_model.specs.Space.Stores.{Fills}
-use Rattle.wh_host_model.proofs.Space.Filled.{filled_sound}
-use Rattle.wh_host_model.proofs.Space.Reading.{taken_under}
-use Rattle.wh_host_model.proofs.Space.Writing.{fills_page}
+use Rattle.wh_space_model.specs.declared.states.Page.TheVariants.{Private}
+use Rattle.wh_space_model.proofs.Filled.{filled_sound}
+use Rattle.wh_space_model.proofs.Reading.{taken_under}
+use Rattle.wh_space_model.proofs.Writing.{fills_page}
 use Rattle.wh_space.specs.declared.memory.Memory.TheInside.{Inside}
 use Rattle.wh_space.specs.Parts.{space_of}
 use Rattle.wh_space.proofs.Wellness.{well}

@@ -1,7 +1,6 @@
 use Rattle.std.proofs.Common.{◌≡◌, [], cond, refl}
-use Rattle.wh_host_model.specs.Space.Tickets.{IsEvicting, with_held}
-use Rattle.wh_host_model.specs.Space.Parts.{Space}
-use Rattle.wh_host_model.proofs.Space.Steady.{writes_soundly}
+use Rattle.wh_space_model.specs.{IsEvicting, with_held, Space}
+use Rattle.wh_space_model.proofs.Steady.{writes_soundly}
 use Rattle.wh_space.specs.declared.memory.Memory.TheInside.{Inside}
 use Rattle.wh_space.specs.Parts.{space_of}
 use Rattle.wh_space.proofs.Wellness.{well_with}

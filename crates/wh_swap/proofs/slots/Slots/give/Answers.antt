@@ -1,5 +1,5 @@
 use Rattle.std.proofs.Common.{length, length-set, arith}
-use Rattle.wh_host_model.specs.declared.states.Slot.TheVariants.{Vacant}
+use Rattle.wh_space_model.specs.declared.states.Slot.TheVariants.{Vacant}
 use Rattle.wh_swap.proofs.Once.{once_given, once_room}
 use Rattle.wh_swap.proofs.slots.Slots.give.Goals as goal
 

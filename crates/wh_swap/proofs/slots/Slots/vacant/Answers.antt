@@ -1,5 +1,5 @@
 use Rattle.std.proofs.Common.{length, arith}
-use Rattle.wh_host_model.proofs.Tally.{length-le_from_once}
+use Rattle.wh_space_model.proofs.Tally.{length-le_from_once}
 use Rattle.wh_swap.proofs.slots.Slots.vacant.Goals as goal
 
 pub overflow_cast-result : goal.overflow_cast-result

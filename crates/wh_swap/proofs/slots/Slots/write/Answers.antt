@@ -1,7 +1,7 @@
 use Rattle.std.proofs.Common.{List, ℕ, slice_set, ap, ◌∙◌}
 use Rattle.std.proofs.lemmas.List.{map-set}
 use Rattle.boxcar.specs.declared.tag.Tag.{Tag}
-use Rattle.wh_host_model.specs.Space.Parts.{Slots}
+use Rattle.wh_space_model.specs.{Slots}
 use Rattle.wh_swap.specs.SlotParts.{all_held, slots_of}
 use Rattle.wh_swap.proofs.slots.Slots.write.Goals as goal
 

@@ -24,11 +24,10 @@ returns-clause-written g c =
 
 pub returns-clause-keeps : goal.returns-clause-keeps
 returns-clause-keeps g c keeps =
-    let items = c.args.self.now.slots.items in
     let slot = c.args.slot in
     let page = g.P.Pages.page c.args.self.now.pages in
     let page2 = g.P.Pages.page c.put.new.self in
     let is = returns-clause-written g c in
     let wrote : page2 slot ≡ c.args.from.now = search rules in
-    let kept = kept_write page page2 (all_written items) slot c.args.from.now c.requires.there keeps.1 (c.put.ensures.kept keeps.0) (λ some. wrote) in
+    let kept = kept_write page page2 (all_written c.args.self.now.slots.items) slot c.args.from.now c.requires.there keeps.1 (c.put.ensures.kept keeps.0) (λ some. wrote) in
     (c.put.ensures.tells keeps.0, subst (AreKept page2) (sym is) kept)

@@ -1,5 +1,5 @@
 use Rattle.std.proofs.Common.{refl, sym, ap, ◌∙◌, subst}
-use Rattle.wh_host_model.specs.declared.states.Page.TheVariants.{Untouched}
+use Rattle.wh_space_model.specs.declared.states.Page.TheVariants.{Untouched}
 use Rattle.wh_tables.specs.Index.{Counted, IsIndexBut, counted_of, with_page}
 use Rattle.wh_tables.proofs.Settling.{counts_touched, left_frame}
 use Rattle.wh_tables.proofs.index.Index.leave.Goals as goal

@@ -1,5 +1,5 @@
 use Rattle.std.proofs.Common.{List, Some}
-use Rattle.wh_host_model.specs.declared.states.Page.{Page}
+use Rattle.wh_space_model.specs.declared.states.Page.{Page}
 use Rattle.wh_tables.specs.declared.page_id.PageId.{PageId}
 use Rattle.wh_tables.specs.PageLinks.{IsEarlierStop, IsStop}
 use Rattle.wh_tables.specs.Order.{ComesBefore, IsInOrder, StandsOn}

@@ -1,6 +1,6 @@
 use Rattle.std.proofs.Common.{List, map, refl, ap, ◌∙◌}
 use Rattle.std.specs.Global.{Vec as Items}
-use Rattle.wh_host_model.specs.Space.Places.{with_row}
+use Rattle.wh_space_model.specs.{with_row}
 use Rattle.wh_tables.specs.declared.order.Link.{Link}
 use Rattle.wh_tables.specs.Order.{Chains, chains_of}
 use Rattle.wh_tables.proofs.Rows.{map_row}

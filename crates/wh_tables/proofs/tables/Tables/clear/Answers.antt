@@ -1,8 +1,8 @@
 use Rattle.std.proofs.Common.{[], length, get_or, slice_set, ap, ◌∙◌, arith, length-set}
 use Rattle.wh_tables.specs.Tables.{TablesState}
 use Rattle.wh_tables.proofs.Newcomers.{is_untouched, one_done, set_over}
-use Rattle.wh_host_model.proofs.Space.Putting.{is_page}
-use Rattle.wh_host_model.specs.declared.states.Page.TheVariants.{Untouched}
+use Rattle.wh_space_model.proofs.Putting.{is_page}
+use Rattle.wh_space_model.specs.declared.states.Page.TheVariants.{Untouched}
 use Rattle.wh_tables.proofs.Relinking.{put_lengths}
 use Rattle.wh_tables.proofs.tables.Tables.clear.Goals as goal
 
@@ -11,9 +11,6 @@ loop-number-preserved c =
     let at = c.loop-number.self in
     let was = c.loop-number.invariant in
     let pages = ap (λ (s : TablesState). s.pages) c.lift.ensures in
-    let within = c.loop-number-test.true in
-    let end = c.len_at-number-end.ensures in
-    let long = was.long in
     record {
       pages = ap (λ xs. slice_set xs c.args.place []) pages ∙ set_over at.pages c.args.place _ [] ∙ was.pages;
       long = ap (λ xs. length (get_or xs c.args.place [])) pages ∙ put_lengths at.pages c.args.place c.loop-number.number Untouched c.args.place ∙ was.long;

@@ -1,6 +1,6 @@
 use Rattle.std.proofs.Common.{◌≡◌, ℕ, ◌<◌, [], Some, length, get_or, slice_set}
-use Rattle.wh_host_model.specs.declared.states.Page.TheVariants.{Untouched}
-use Rattle.wh_host_model.specs.Space.States.{page_at}
+use Rattle.wh_space_model.specs.declared.states.Page.TheVariants.{Untouched}
+use Rattle.wh_space_model.specs.{page_at}
 use Rattle.wh_tables.proofs.tables.Tables.clear.Given as goal
 
 -- the first pages are untouched, and all else is as it was

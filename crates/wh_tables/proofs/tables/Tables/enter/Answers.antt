@@ -1,5 +1,5 @@
 use Rattle.std.proofs.Common.{◌≡◌, ◌≢◌, ℕ, ◌≤◌, List, [], length, get_or, sym, ap, ◌∙◌, subst, arith}
-use Rattle.wh_host_model.specs.Space.Places.{with_row}
+use Rattle.wh_space_model.specs.{with_row}
 use Rattle.wh_pages.specs.Table.{PageTableState}
 use Rattle.wh_tables.specs.Index.{Counted}
 use Rattle.wh_tables.specs.Tables.{AreIndexed, TablesState}

@@ -2,8 +2,8 @@ use Rattle.std.proofs.Common.{List, sym, subst}
 use Rattle.wh_pages.specs.Table.{PageTableState}
 use Rattle.wh_tables.specs.Index.{Counted, HoldsOn}
 use Rattle.wh_tables.specs.Tables.{AreIndexed, TablesState, marked_of, pages_by_place}
-use Rattle.wh_host_model.specs.declared.states.Page.TheVariants.{Untouched}
-use Rattle.wh_host_model.specs.Space.Charges.{IsOnFrame}
+use Rattle.wh_space_model.specs.declared.states.Page.TheVariants.{Untouched}
+use Rattle.wh_space_model.specs.{IsOnFrame}
 use Rattle.wh_tables.proofs.Keeping.{kept_page, mark_there, page_there, place_small, place_within, row_within, tables_page}
 use Rattle.wh_tables.proofs.Standing.{page_of_standing}
 use Rattle.wh_tables.proofs.tables.Tables.leave.Goals as goal

@@ -1,5 +1,5 @@
 use Rattle.std.proofs.Common.{◌≡◌, List, true, Some, sym, subst}
-use Rattle.wh_host_model.specs.Space.States.{page_at}
+use Rattle.wh_space_model.specs.{page_at}
 use Rattle.wh_pages.specs.Table.{PageTableState}
 use Rattle.wh_tables.specs.Index.{Counted}
 use Rattle.wh_tables.specs.Tables.{AreIndexed, TablesState}

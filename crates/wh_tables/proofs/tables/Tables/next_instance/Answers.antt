@@ -1,5 +1,5 @@
 use Rattle.std.proofs.Common.{◌≡◌, List, length, subst, arith}
-use Rattle.wh_host_model.specs.declared.plain.InstId.{InstId}
+use Rattle.wh_space_model.specs.declared.plain.InstId.{InstId}
 use Rattle.wh_tables.specs.declared.tables.Tables.TheInside.{Inside}
 use Rattle.wh_tables.specs.Line.{IsLineOf}
 use Rattle.wh_tables.specs.Tables.{IsTables, TablesState, tables_of}

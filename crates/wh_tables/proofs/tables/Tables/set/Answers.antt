@@ -1,6 +1,6 @@
 use Rattle.std.proofs.Common.{refl}
-use Rattle.wh_host_model.specs.declared.states.Page.TheVariants.{Untouched}
-use Rattle.wh_host_model.proofs.Space.Putting.{put_this}
+use Rattle.wh_space_model.specs.declared.states.Page.TheVariants.{Untouched}
+use Rattle.wh_space_model.proofs.Putting.{put_this}
 use Rattle.wh_tables.proofs.Keeping.{put_put}
 use Rattle.wh_tables.proofs.tables.Tables.set.Goals as goal
 

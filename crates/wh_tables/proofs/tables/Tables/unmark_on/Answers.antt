@@ -1,7 +1,6 @@
 use Rattle.std.proofs.Common.{◌≡◌, List, true, false, Some, sym, subst}
-use Rattle.wh_host_model.specs.Space.States.{page_at}
+use Rattle.wh_space_model.specs.{page_at, IsOnFrame}
 use Rattle.wh_pages.specs.Table.{PageTableState}
-use Rattle.wh_host_model.specs.Space.Charges.{IsOnFrame}
 use Rattle.wh_tables.specs.Index.{Counted, HoldsOn}
 use Rattle.wh_tables.specs.Tables.{AreIndexed, TablesState, marked_of, pages_by_place}
 use Rattle.wh_tables.proofs.Keeping.{kept_mark, page_there, place_small, row_within, tables_mark}
