@@ -1,6 +1,6 @@
 #!/usr/bin/env python3
-"""Says which relative links and anchors of the pages lead nowhere, where they miscount the edits that the prover refuses, and whether
-they have more words than they may."""
+"""Says which relative links and anchors of the pages lead nowhere, where they miscount the edits that the prover refuses, which
+sentences of the guide on faults the library doesn't say so, and whether the pages have more words than they may."""
 import collections
 import pathlib
 import re
@@ -88,6 +88,17 @@ def miscounts(files):
     yield from (f"docs/proved.md: {-left:+} edits of {crate}" for crate, left in of.items() if left)
 
 
+def other_sentences():
+    """The faults that the guide explains in other words than the library does. Of L3 the library says what it says of D13."""
+    said = set(re.findall(r'^    "(.*)",$', (root / "crates/wolqedir/src/texts.rt").read_text(), re.M))
+    for line in prose(pathlib.PurePosixPath("docs/guide/script.md")):
+        cells = [cell.strip() for cell in line.strip().strip("|").split("|")]
+        for name, text in zip(cells, cells[1:]):
+            plain = re.sub(r"\[([^\]]*)\]\([^)]*\)", r"\1", text).replace("`", "")
+            if name != "L3" and re.fullmatch(r"[DVLATHS]\d+", name) and plain not in said:
+                yield f"docs/guide/script.md: {name}: the library has no sentence {plain!r}"
+
+
 def is_counted(page):
     """Whether the page is one of docs, or that of a crate."""
     return page.parts[0] == "docs" or page.match("crates/*/README.md") and len(page.parts) == 3
@@ -96,7 +107,7 @@ def is_counted(page):
 def main():
     files, known = tracked()
     pages = sorted(file for file in files if file.suffix == ".md")
-    faults = [fault for page in pages for fault in faults_of(page, known)] + list(miscounts(files))
+    faults = [fault for page in pages for fault in faults_of(page, known)] + list(miscounts(files)) + list(other_sentences())
     words = sum(len((root / page).read_text().split()) for page in pages if is_counted(page))
     if words > MOST_WORDS:
         faults.append(f"the pages have {words} words, more than {MOST_WORDS}")

@@ -42,9 +42,9 @@ def codes():
 def texts():
     """Whether each code has its sentence, the guide's where that has one, and no other number has one. How many there are."""
     guide, _ = sentences()
-    for code in codes():
-        text, name = wolqedir.code_text(code), named(code)
-        assert text and (name not in guide or text == guide[name]), (name, text, guide.get(name))
+    told = {named(code): wolqedir.code_text(code) for code in codes()}
+    other = [(name, text, guide.get(name)) for name, text in told.items() if not text or text != guide.get(name, text)]
+    assert not other, other
     assert len(guide) == 56, len(guide)
     known = set(codes())
     others = [code for code in range(4096) if (wolqedir.code_text(code) is not None) != (code in known)]

@@ -79,7 +79,7 @@ const ASK: [&str; 8] = [
     "its start has trapped or was cancelled",
     "it has had 65536 calls, its start among them",
     "memory was refused",
-    "no call of it is open; for retry, none that stands for a failed device",
+    "no call of it is open; for retry, none that is blocked on a failed device",
 ];
 
 // Why a call has trapped: T1 to T10.
