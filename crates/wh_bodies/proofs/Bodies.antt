@@ -1,5 +1,5 @@
 -- What the run of a whole body shows.
-use Rattle.std.proofs.Common.{◌≡◌, ℕ, ◌+◌, ◌≤◌, max, List, [], ◌∷◌, ◌++◌, length, map, Option, None, Ok, refl, sym, ap, subst, ◌∙◌, arith, append-nil, length-append}
+use Rattle.std.proofs.Common.{◌≡◌, ℕ, ◌+◌, ◌≤◌, max, List, [], ◌∷◌, ◌++◌, length, map, Option, None, Ok, refl, sym, ap, subst, ◌∙◌, arith, append-nil, length-append, rules}
 use Rattle.std.specs.Prelude.{slice_get}
 use Rattle.wh_model.specs.declared.ValType.{ValType}
 use Rattle.wh_model.specs.declared.Open.TheVariants.{Other}
@@ -124,12 +124,8 @@ shown c f b count ms last few size marks e =
     let part = part_ends d b.code [] [] nothing_known Other of of n 0 0 0 r.number [] s r.next last refl (omega arith) refl refl here r.ran r.marks r.runs in
     let same : part.next ≡ last = ok_is {E = BodyFault} part.next last part.runs in
     let ts : List Target = targets_of (l ∷ []) in
-    let inner = laid d ts 0 0 0 b.code in
-    let is : inner ≡ laid c ts 0 0 0 b.code = laid_same c (f.params ++ b.locals) of ts 0 0 0 b.code in
-    let made : (let t : Table = record { entries = part.next.entries; pool = part.next.pool } in t) ≡ table_of c f b =
-    ap (λ (es : List BranchEntry). let t : Table = record { entries = es; pool = part.next.pool } in t) part.entries
-    ∙ ap (λ (es : List BranchEntry). let t : Table = record { entries = inner.entries ++ nowhere ∷ []; pool = es } in t) (part.pool ∙ sym (append-nil inner.pool))
-    ∙ ap (λ (t : Table). beside t (one nowhere [])) is in
+    let is : (laid d ts 0 0 0 b.code) ≡ laid c ts 0 0 0 b.code = laid_same c (f.params ++ b.locals) of ts 0 0 0 b.code in
+    let made : (let t : Table = record { entries = part.next.entries; pool = part.next.pool } in t) ≡ table_of c f b = search (rules, append-nil) in
     record {
       valid = (of, result_is f.results few, part.typed);
       height = (let h : greatest (record d { labels = of ∷ [] }) 0 0 b.code ≤ 256 = part.height (omega arith) in omega (arith, h, greatest_same c (f.params ++ b.locals) of (of ∷ []) 0 0 b.code));
@@ -137,11 +133,7 @@ shown c f b count ms last few size marks e =
     }
 
 pub around_is : (c : Context) (f : FuncType) (b : Body) (params locals : List ValType) (r : Option ValType) → params ≡ f.params → locals ≡ b.locals → r ≡ slice_get f.results 0 → (let d : Context = record c { locals = params ++ locals; result = r } in d) ≡ place_of c f b
-around_is c f b params locals r p l e =
-    ap (λ (v : List ValType). let d : Context = record c { locals = v ++ locals; result = r } in d) p
-    ∙ ap (λ (v : List ValType). let d : Context = record c { locals = f.params ++ v; result = r } in d) l
-    ∙ ap (λ (v : Option ValType). let d : Context = record c { locals = f.params ++ b.locals; result = v } in d) e
+around_is c f b params locals r p l e = search rules
 
 pub body_shown : (c : Context) (f : FuncType) (b : Body) (d : Context) (is : List Instr) (last : State) → length f.results ≤ 1 → d ≡ place_of c f b → is ≡ expression b.code → whole_run d is ≡ Ok last → Shown c f b last
-body_shown c f b d is last few place code e =
-    shown c f b (length (expression b.code)) (all_marks 0 (expression b.code)).done last few refl refl (ap (λ (v : List Instr). whole_run (place_of c f b) v) (sym code) ∙ ap (λ (v : Context). whole_run v is) (sym place) ∙ e)
+body_shown c f b d is last few place code e = search (rules, shown)

@@ -1,12 +1,10 @@
 -- The kinds of fault that instructions have.
-use Rattle.std.proofs.Common.{◌≡◌, ℕ, ◌+◌, List, [], ◌∷◌, ◌++◌, length, reverse, Option, Some, None, Result, Ok, Err, Bool, true, false, cond, subst}
-use Rattle.std.specs.Prelude.{slice_get, nat_lt, nat_le, nat_eq}
+use Rattle.std.proofs.Common.{◌≡◌, ℕ, ◌+◌, List, [], ◌∷◌, ◌++◌, length, reverse, Option, Some, None, Result, Ok, Err, Bool, true, false, cond, rules}
+use Rattle.std.specs.Prelude.{slice_get, nat_lt, nat_le}
 use Rattle.wh_model.specs.declared.ValType.{ValType}
 use Rattle.wh_model.specs.declared.ValType.TheVariants.{I32}
 use Rattle.wh_model.specs.declared.Mutability.{Mutability}
 use Rattle.wh_model.specs.declared.Mutability.TheVariants.{Const, Var}
-use Rattle.wh_model.specs.declared.Open.{Open}
-use Rattle.wh_model.specs.declared.Open.TheVariants.{Then, Other}
 use Rattle.wh_model.specs.Format.{Op, unreachable, nop, br, br_if, br_table, return, call, call_indirect, drop_operand, select, local_get, local_set, local_tee, global_get, global_set, load, store, memory_size, memory_grow, i32_const, i64_const, test, comparison, unary, binary, conversion, Instr, single, block_start, loop_start, if_start, else_mark, end_mark}
 use Rattle.wh_model.specs.Validity.{Context, operand, load_type, store_type}
 use Rattle.wh_model.specs.declared.faults.ValidKind.{ValidKind}
@@ -14,14 +12,13 @@ use Rattle.wh_model.specs.declared.faults.ValidKind.TheVariants.{BadType, Align,
 use Rattle.wh_bodies.specs.declared.fault.BodyFault.{BodyFault}
 use Rattle.wh_bodies.specs.declared.table.BranchEntry.{BranchEntry}
 use Rattle.wh_bodies.specs.declared.labels.Label.{Label}
-use Rattle.wh_bodies.specs.declared.marks.ConstructEnd.{ConstructEnd}
 use Rattle.wh_bodies.specs.BodyFaults.{follow, IsOfBody}
-use Rattle.wh_bodies.specs.SideTables.{leads_to, nowhere}
-use Rattle.wh_bodies.specs.Known.{Known, topmost, take_any, is_wanted, take_one, give_one, fall, take_all, give_all, pass, agreed, selected, same_type}
-use Rattle.wh_bodies.specs.CheckSteps.{State, found, typed, aligned, type_to_write, load_exponent, store_exponent, fixed, straight, entry_to, branch, branch_if, same_operand, add_run, branch_table, plain_step, next_mark, known_inside, label_over, opened, finished, turned_at, turned, may_end, closed_construct, with_label, act, noted, step, at_instr, run}
+use Rattle.wh_bodies.specs.SideTables.{nowhere}
+use Rattle.wh_bodies.specs.Known.{Known, topmost, take_any, is_wanted, take_one, give_one, fall, take_all, give_all, pass, selected, same_type}
+use Rattle.wh_bodies.specs.CheckSteps.{State, found, typed, aligned, type_to_write, load_exponent, store_exponent, fixed, straight, entry_to, branch, branch_if, same_operand, add_run, branch_table, plain_step, closed_construct, with_label, act, noted, step, at_instr, run}
 use Rattle.wh_bodies.specs.ConstructEnds.{all_marks}
 use Rattle.wh_bodies.specs.CheckEnds.{started, whole_run}
-use Rattle.wh_bodies.proofs.Constructs.{Act, Marked, Two}
+use Rattle.wh_bodies.proofs.Constructs.{Act, Two}
 
 -- what goes wrong is of these kinds
 abbrev Listed : {A : Type 0} → Result A ValidKind → Type 0
@@ -73,16 +70,8 @@ in_give_all k (t ∷ ts) = in_follow (give_one k (Some t)) (λ more. give_all mo
 in_pass : (k : Known) (params results : List ValType) → Listed (pass k params results)
 in_pass k params results = in_follow (take_all k (reverse params)) (λ left. give_all left results) (in_take_all k (reverse params)) (λ left. in_give_all left results)
 
-in_agreed : (o p : Option ValType) → Listed (agreed o p)
-in_agreed None p = tt
-in_agreed (Some u) None = tt
-in_agreed (Some u) (Some v) = in_cond {A = Option ValType} (same_type u v) (Ok (Some u)) (Err BadType) tt tt
-
 in_selected : (k : Known) → Listed (selected k)
-in_selected k = in_follow (take_one k I32) (λ a. follow (take_any a) (λ b. follow (take_any b.1) (λ d. follow (agreed b.0 d.0) (λ of. give_one d.1 of)))) (in_take_one k I32)
-    (λ a. in_follow (take_any a) (λ b. follow (take_any b.1) (λ d. follow (agreed b.0 d.0) (λ of. give_one d.1 of))) (in_take_any a)
-    (λ b. in_follow (take_any b.1) (λ d. follow (agreed b.0 d.0) (λ of. give_one d.1 of)) (in_take_any b.1)
-    (λ d. in_follow (agreed b.0 d.0) (λ of. give_one d.1 of) (in_agreed b.0 d.0) (λ of. in_give d.1 of))))
+in_selected k = search rules
 
 -- ---- instructions without a body
 
@@ -111,8 +100,7 @@ in_straight c unreachable k = tt
 in_straight c return k = in_follow (take_all k (operand c.result)) (λ left. Ok (fall left)) (in_take_all k (operand c.result)) (λ left. tt)
 in_straight c drop_operand k = in_follow (take_any k) (λ r. Ok r.1) (in_take_any k) (λ r. tt)
 in_straight c select k = in_selected k
-in_straight c (call_indirect y) k = in_found (slice_get c.tables 0) (λ l. found (slice_get c.types y) (λ f. follow (take_one k I32) (λ left. pass left f.params f.results)))
-    (λ l. in_found (slice_get c.types y) (λ f. follow (take_one k I32) (λ left. pass left f.params f.results)) (λ f. in_follow (take_one k I32) (λ left. pass left f.params f.results) (in_take_one k I32) (λ left. in_pass left f.params f.results)))
+in_straight c (call_indirect y) k = search (rules, in_found, in_follow, in_take_one, in_pass)
 in_straight c (br l) k = in_passed c (br l) k
 in_straight c (br_if l) k = in_passed c (br_if l) k
 in_straight c (br_table ls l) k = in_passed c (br_table ls l) k
@@ -142,10 +130,7 @@ in_branch : (labels : List Label) (l : ℕ) (k : Known) → Listed (branch label
 in_branch labels l k = in_found {B = BranchEntry × Known} (slice_get labels l) (λ to. follow (take_all k (operand to.carries)) (λ left. Ok (entry_to to, fall left))) (λ to. in_follow {B = BranchEntry × Known} (take_all k (operand to.carries)) (λ left. Ok (entry_to to, fall left)) (in_take_all k (operand to.carries)) (λ left. tt))
 
 in_branch_if : (labels : List Label) (l : ℕ) (k : Known) → Listed (branch_if labels l k)
-in_branch_if labels l k = in_found {B = BranchEntry × Known} (slice_get labels l) (λ to. follow (take_one k I32) (λ a. follow (take_all a (operand to.carries)) (λ b. follow (give_all b (operand to.carries)) (λ new. Ok (entry_to to, new)))))
-    (λ to. in_follow {B = BranchEntry × Known} (take_one k I32) (λ a. follow (take_all a (operand to.carries)) (λ b. follow (give_all b (operand to.carries)) (λ new. Ok (entry_to to, new)))) (in_take_one k I32)
-    (λ a. in_follow {B = BranchEntry × Known} (take_all a (operand to.carries)) (λ b. follow (give_all b (operand to.carries)) (λ new. Ok (entry_to to, new))) (in_take_all a (operand to.carries))
-    (λ b. in_follow {B = BranchEntry × Known} (give_all b (operand to.carries)) (λ new. Ok (entry_to to, new)) (in_give_all b (operand to.carries)) (λ new. tt))))
+in_branch_if labels l k = search rules
 
 in_run : (labels : List Label) (carries : Option ValType) (ls : List ℕ) (pool : List BranchEntry) → Listed (add_run labels carries ls pool)
 in_run labels carries [] pool = tt
@@ -153,10 +138,7 @@ in_run labels carries (l ∷ ls) pool = in_found (slice_get labels l) (λ to. co
     (λ to. in_cond (same_operand to.carries carries) (add_run labels carries ls (pool ++ entry_to to ∷ [])) (Err BadType) (in_run labels carries ls (pool ++ entry_to to ∷ [])) tt)
 
 in_table : (labels : List Label) (ls : List ℕ) (last : ℕ) (k : Known) (pool : List BranchEntry) → Listed (branch_table labels ls last k pool)
-in_table labels ls last k pool = in_found {B = Step} (slice_get labels last) (λ to. follow (add_run labels to.carries ls pool) (λ more. follow (take_one k I32) (λ a. follow (take_all a (operand to.carries)) (λ b. Ok (leads_to (length pool), fall b, more ++ entry_to to ∷ [])))))
-    (λ to. in_follow {B = Step} (add_run labels to.carries ls pool) (λ more. follow (take_one k I32) (λ a. follow (take_all a (operand to.carries)) (λ b. Ok (leads_to (length pool), fall b, more ++ entry_to to ∷ [])))) (in_run labels to.carries ls pool)
-    (λ more. in_follow {B = Step} (take_one k I32) (λ a. follow (take_all a (operand to.carries)) (λ b. Ok (leads_to (length pool), fall b, more ++ entry_to to ∷ []))) (in_take_one k I32)
-    (λ a. in_follow {B = Step} (take_all a (operand to.carries)) (λ b. Ok (leads_to (length pool), fall b, more ++ entry_to to ∷ [])) (in_take_all a (operand to.carries)) (λ b. tt))))
+in_table labels ls last k pool = search (rules, in_found, in_follow, in_run, in_take_one, in_take_all)
 
 in_noted : (c : Context) (op : Op) (k : Known) (pool : List BranchEntry) → Listed (straight c op k) → Listed (follow {B = Step} (straight c op k) (λ new. Ok (nowhere, new, pool)))
 in_noted c op k pool p = in_follow {B = Step} (straight c op k) (λ new. Ok (nowhere, new, pool)) p (λ new. tt)
@@ -191,41 +173,16 @@ in_plain c labels (conversion op) k pool = in_noted c (conversion op) k pool (in
 
 -- ---- constructs
 
-in_mark : (ms : List ConstructEnd) → Listed (next_mark ms)
-in_mark [] = tt
-in_mark (m ∷ ms) = tt
-
-in_opened : (kind : Open) (t carries : Option ValType) (place : ℕ) (k : Known) (ls : List Label) → Listed (opened kind t carries place k ls)
-in_opened kind t carries place k ls = in_cond {A = Two} (nat_le (length k.types) 256) (Ok (known_inside k, label_over k kind t carries place ∷ ls)) (Err Height) tt tt
-
-in_finished : (k : Known) (t : Option ValType) → Listed (finished k t)
-in_finished k t = in_follow (take_all k (operand t)) (λ left. cond (nat_eq (length left.types) left.floor) (Ok left) (Err Arity)) (in_take_all k (operand t)) (λ left. in_cond (nat_eq (length left.types) left.floor) (Ok left) (Err Arity) tt tt)
-
-in_turned_at : (kind : Open) (k : Known) (l : Label) (ls : List Label) → Listed (turned_at kind k l ls)
-in_turned_at Then k l ls = in_follow {B = Two} (finished k l.result) (λ left. Ok (record left { dead = false }, record l { kind = Other } ∷ ls)) (in_finished k l.result) (λ left. tt)
-in_turned_at Other k l ls = tt
-
-in_turned : (k : Known) (ls : List Label) → Listed (turned k ls)
-in_turned k [] = tt
-in_turned k (l ∷ ls) = in_turned_at l.kind k l ls
-
 in_closed : (k : Known) (ls : List Label) → Listed (closed_construct k ls)
 in_closed k [] = tt
-in_closed k (l ∷ ls) = in_follow {B = Two} (finished k l.result) (λ left. cond (may_end l.kind l.result) (follow (give_all (record left { floor = l.outer_floor; dead = l.outer_dead }) (operand l.result)) (λ new. Ok (new, ls))) (Err Arity)) (in_finished k l.result)
-    (λ left. in_cond {A = Two} (may_end l.kind l.result) (follow (give_all (record left { floor = l.outer_floor; dead = l.outer_dead }) (operand l.result)) (λ new. Ok (new, ls))) (Err Arity)
-    (in_follow {B = Two} (give_all (record left { floor = l.outer_floor; dead = l.outer_dead }) (operand l.result)) (λ new. Ok (new, ls)) (in_give_all (record left { floor = l.outer_floor; dead = l.outer_dead }) (operand l.result)) (λ new. tt)) tt)
+in_closed k (l ∷ ls) = search rules
 
 in_act : (c : Context) (i : Instr) (s : State) → Listed (act c i s)
 in_act c (single op) s = in_follow {A = Step} {B = Act} (plain_step c s.labels op s.known s.pool) (λ r. Ok (r.0, record s { known = r.1; pool = r.2 })) (in_plain c s.labels op s.known s.pool) (λ r. tt)
-in_act c (block_start t) s = in_follow {A = Marked} {B = Act} (next_mark s.marks) (λ m. follow (opened Other t t (m.0.end + 1) s.known s.labels) (λ r. Ok (with_label s m.1 r (leads_to m.0.end)))) (in_mark s.marks)
-    (λ m. in_follow {A = Two} {B = Act} (opened Other t t (m.0.end + 1) s.known s.labels) (λ r. Ok (with_label s m.1 r (leads_to m.0.end))) (in_opened Other t t (m.0.end + 1) s.known s.labels) (λ r. tt))
-in_act c (loop_start t) s = in_follow {A = Marked} {B = Act} (next_mark s.marks) (λ m. follow (opened Other t None (length s.entries) s.known s.labels) (λ r. Ok (with_label s m.1 r (leads_to m.0.end)))) (in_mark s.marks)
-    (λ m. in_follow {A = Two} {B = Act} (opened Other t None (length s.entries) s.known s.labels) (λ r. Ok (with_label s m.1 r (leads_to m.0.end))) (in_opened Other t None (length s.entries) s.known s.labels) (λ r. tt))
-in_act c (if_start t) s = in_follow {B = Act} (take_one s.known I32) (λ k. follow (next_mark s.marks) (λ m. follow (opened Then t t (m.0.end + 1) k s.labels) (λ r. Ok (with_label s m.1 r (leads_to m.0.other))))) (in_take_one s.known I32)
-    (λ k. in_follow {A = Marked} {B = Act} (next_mark s.marks) (λ m. follow (opened Then t t (m.0.end + 1) k s.labels) (λ r. Ok (with_label s m.1 r (leads_to m.0.other)))) (in_mark s.marks)
-    (λ m. in_follow {A = Two} {B = Act} (opened Then t t (m.0.end + 1) k s.labels) (λ r. Ok (with_label s m.1 r (leads_to m.0.other))) (in_opened Then t t (m.0.end + 1) k s.labels) (λ r. tt)))
-in_act c else_mark s = in_follow {A = Marked} {B = Act} (next_mark s.marks) (λ m. follow (turned s.known s.labels) (λ r. Ok (with_label s m.1 r (leads_to m.0.end)))) (in_mark s.marks)
-    (λ m. in_follow {A = Two} {B = Act} (turned s.known s.labels) (λ r. Ok (with_label s m.1 r (leads_to m.0.end))) (in_turned s.known s.labels) (λ r. tt))
+in_act c (block_start t) s = search rules
+in_act c (loop_start t) s = search rules
+in_act c (if_start t) s = search rules
+in_act c else_mark s = search rules
 in_act c end_mark s = in_follow {A = Two} {B = Act} (closed_construct s.known s.labels) (λ r. Ok (with_label s s.marks r nowhere)) (in_closed s.known s.labels) (λ r. tt)
 
 in_step : (c : Context) (i : Instr) (s : State) → Listed (step c i s)
@@ -235,10 +192,7 @@ in_step c i s = in_follow {A = Act} {B = State} (act c i s) (λ r. Ok (noted r))
 
 fault_of : (n : ℕ) (x : Result State ValidKind) (is : List Instr) (c : Context) (e : BodyFault) → Listed x → ((next : State) → run c (n + 1) is next ≡ Err e → IsOfBody e.kind) → follow {B = State} (at_instr n x) (λ next. run c (n + 1) is next) ≡ Err e → IsOfBody e.kind
 fault_of n (Ok s) is c e p q h = q s h
-fault_of n (Err kind) is c e p q h = subst (λ (f : BodyFault). IsOfBody f.kind) (err_is {A = State} (record { instr = n; kind = kind }) e h) p
-  where
-    err_is : {A : Type 0} (f g : BodyFault) → ◌≡◌ {A = Result A BodyFault} (Err f) (Err g) → f ≡ g
-    err_is f g e = cc
+fault_of n (Err kind) is c e p q h = search rules
 
 -- the fault of a run is of these kinds
 pub run_fault : (c : Context) (n : ℕ) (is : List Instr) (s : State) (e : BodyFault) → run c n is s ≡ Err e → IsOfBody e.kind

@@ -1,24 +1,21 @@
 -- A sequence that is typed, and not too high, is not refused.
-use Rattle.std.proofs.Common.{◌≡◌, ℕ, ◌+◌, ◌≤◌, max, List, [], ◌∷◌, ◌++◌, length, Option, Some, None, Result, Ok, true, refl, sym, ap, subst, ◌∙◌, arith, append_assoc}
+use Rattle.std.proofs.Common.{◌≡◌, ℕ, ◌+◌, ◌≤◌, max, List, [], ◌∷◌, ◌++◌, length, Option, Some, None, Ok, true, refl, sym, ap, subst, ◌∙◌, arith, append_assoc, rules}
 use Rattle.wh_model.specs.declared.ValType.{ValType}
 use Rattle.wh_model.specs.declared.Open.TheVariants.{Then, Other}
 use Rattle.wh_model.specs.Format.{Op, Code, nothing, plain, block, loop, if_then, if_else, Instr, single, block_start, loop_start, if_start, else_mark, end_mark, flatten}
 use Rattle.wh_model.specs.Validity.{Context, OpType, operand, under, HasType, no_more, then_op, then_block, then_loop, then_if, then_if_else, operands, height_behind, lowered, greatest}
 use Rattle.wh_model.proofs.Heights.{begins_within}
-use Rattle.wh_model.specs.declared.faults.ValidKind.{ValidKind}
 use Rattle.wh_bodies.specs.declared.fault.BodyFault.{BodyFault}
 use Rattle.wh_bodies.specs.declared.table.BranchEntry.{BranchEntry}
 use Rattle.wh_bodies.specs.declared.labels.Label.{Label}
 use Rattle.wh_bodies.specs.declared.marks.ConstructEnd.{ConstructEnd}
-use Rattle.wh_bodies.specs.BodyFaults.{follow}
 use Rattle.wh_bodies.specs.Known.{Known, Fit}
 use Rattle.wh_bodies.specs.SideTables.{base, laid, run_of}
 use Rattle.wh_bodies.specs.Opened.{targets_of, around}
-use Rattle.wh_bodies.specs.CheckSteps.{State, may_end, noted, step, run, plain_step}
+use Rattle.wh_bodies.specs.CheckSteps.{State, may_end, noted, step, run}
 use Rattle.wh_bodies.proofs.Follow.{ok_is}
 use Rattle.wh_bodies.proofs.OpsForward.{can_step}
 use Rattle.wh_bodies.proofs.Places.{mark, own_marks}
-use Rattle.wh_bodies.proofs.Constructs.{Act}
 use Rattle.wh_bodies.proofs.Running.{At, Ran, plain_at, plain_on, label_at}
 use Rattle.wh_bodies.proofs.Sound.{sound}
 use Rattle.wh_bodies.proofs.ConstructsForward.{run_on, can_block, can_loop, can_if, can_end, can_turn}
@@ -59,9 +56,7 @@ can_plain c op ls p q h ms s a b below here marks small room t fit =
     let more : List BranchEntry = g.2 in
     let m : State = record s { known = k; pool = more } in
     let n : State = noted (e, m) in
-    let by : step c (single op) s ≡ Ok n =
-    ap (λ (xs : List Label). follow {A = Act} {B = State} (follow {A = Step} {B = Act} (plain_step c xs op s.known s.pool) (λ r. Ok (r.0, record s { known = r.1; pool = r.2 }))) (λ r. Ok (noted r))) here.labels
-    ∙ ap (λ (x : Result Step ValidKind). follow {A = Act} {B = State} (follow {A = Step} {B = Act} x (λ r. Ok (r.0, record s { known = r.1; pool = r.2 }))) (λ r. Ok (noted r))) g.3 in
+    let by : step c (single op) s ≡ Ok n = search rules in
     let y = plain_at c op s n ls here.labels here.within by in
     record { next = n; by = by; at = plain_on c op s n ls p q h y.0 here y.1; marks = y.1.marks ∙ marks; fit = g.4 }
 
@@ -164,9 +159,8 @@ can c (if_then t body code) ls p q h ms s before after here marks low fit (then_
     let m = p + 1 + length (flatten body) in
     let ob = own_marks (p + 1) body in
     let oc = own_marks (m + 1) code in
-    let most = greatest (under t (around ls c)) h1 h1 body in
     let rest = greatest (around ls c) f (h1 + operands t) code in
-    let all = max_three h most rest 256 low in
+    let all = max_three h (greatest (under t (around ls c)) h1 h1 body) rest 256 low in
     let room = below (h1 + operands t) rest 256 (begins_within (around ls c) f (h1 + operands t) code) all.2 in
     let z = can_if c ls p q h (mark m m) ((ob ++ oc) ++ ms) t s under_it here marks all.0 fit in
     let k = z.known in
@@ -186,10 +180,9 @@ can c (if_else t first second code) ls p q h ms s before after here marks low fi
     let o1 = own_marks (p + 1) first in
     let o2 = own_marks (x + 1) second in
     let o3 = own_marks (m + 1) code in
-    let most = greatest (under t (around ls c)) h1 h1 first in
     let more = greatest (under t (around ls c)) h1 h1 second in
     let rest = greatest (around ls c) f (h1 + operands t) code in
-    let all = max_four h most more rest 256 low in
+    let all = max_four h (greatest (under t (around ls c)) h1 h1 first) more rest 256 low in
     let room = below (h1 + operands t) rest 256 (begins_within (around ls c) f (h1 + operands t) code) all.3 in
     let z = can_if c ls p q h (mark m (x + 1)) ((o1 ++ mark m m ∷ (o2 ++ o3)) ++ ms) t s under_it here marks all.0 fit in
     let k = z.known in

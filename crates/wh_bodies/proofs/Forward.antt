@@ -1,5 +1,5 @@
 -- The other direction: what fits can be taken, and what is given fits.
-use Rattle.std.proofs.Common.{◌≡◌, ℕ, ◌+◌, ◌-◌, ◌<◌, ◌≤◌, max, List, [], ◌∷◌, ◌++◌, length, reverse, Option, Some, None, Result, Ok, Err, Bool, true, false, cond, refl, sym, ap, subst, ◌∙◌, arith, append_assoc, append-nil}
+use Rattle.std.proofs.Common.{◌≡◌, ℕ, ◌+◌, ◌-◌, ◌<◌, ◌≤◌, max, List, [], ◌∷◌, ◌++◌, length, reverse, Option, Some, None, Result, Ok, Err, Bool, true, false, cond, refl, sym, ap, subst, ◌∙◌, arith, append_assoc, append-nil, rules}
 use Rattle.std.specs.Prelude.{nat_lt, nat_eq}
 use Rattle.std.proofs.lemmas.Bool.{ltb-true, lt-ltb, eq-eqb}
 use Rattle.std.proofs.lemmas.Bool.Decides.{nat_tests}
@@ -60,9 +60,7 @@ abbrev pub Goes : Result Known ValidKind → List ValType → Type 0
 Goes r after = (n : Known) × (r ≡ Ok n) × Fit n after
 
 pub can_take_one : (k : Known) (t : ValType) (after : List ValType) → Fit k (t ∷ after) → Goes (take_one k t) after
-can_take_one k t after fit =
-    let p = can_take k t after fit in
-    (p.left, ap (λ (r : Result (Option ValType × Known) ValidKind). follow r (λ r. is_wanted t r.0 r.1)) p.is ∙ wanted_ok p.was t p.left p.admits, p.fit)
+can_take_one k t after fit = search (rules, can_take, wanted_ok)
 
 pub can_take_all : (k : Known) (ts after : List ValType) → Fit k (ts ++ after) → Goes (take_all k ts) after
 can_take_all k [] after fit = (k, refl, fit)
@@ -135,9 +133,8 @@ agree_nothing (o ∷ os) dead f = absurd f
 pub can_finish : (k : Known) (t : Option ValType) → k.floor ≤ length k.types → Fit k (operand t) → (left : Known) × (finished k t ≡ Ok left)
 can_finish k t w fit =
     let p = can_take_all k (operand t) [] (subst (λ xs. Fit k xs) (sym (append-nil (operand t))) fit) in
-    let q = takes_all k p.0 (operand t) w p.1 in
     let none = agree_nothing (above p.0.floor p.0.types) p.0.dead p.2 in
     let l = length-take (length p.0.types - p.0.floor) p.0.types in
-    let v = q.stays.within in
+    let v = (takes_all k p.0 (operand t) w p.1).stays.within in
     let level : length p.0.types ≡ p.0.floor = omega arith in
     (p.0, ap (λ (r : Result Known ValidKind). follow r (λ left. cond (nat_eq (length left.types) left.floor) (Ok left) (Err Arity))) p.1 ∙ rw (eq-eqb (length p.0.types) p.0.floor level) refl)

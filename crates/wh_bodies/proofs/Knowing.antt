@@ -1,5 +1,5 @@
 -- What is known of operands before and after they are taken and given.
-use Rattle.std.proofs.Common.{◌≡◌, ℕ, suc, ◌+◌, ◌-◌, ◌<◌, ◌≤◌, max, List, [], ◌∷◌, ◌++◌, length, take, drop, reverse, Option, Some, None, Result, Ok, Err, Bool, true, false, cond, refl, sym, ap, subst, ◌∙◌, arith, append_assoc, length-drop, length-append}
+use Rattle.std.proofs.Common.{◌≡◌, ℕ, suc, ◌+◌, ◌-◌, ◌<◌, ◌≤◌, max, List, [], ◌∷◌, ◌++◌, length, take, drop, reverse, Option, Some, None, Result, Ok, Err, Bool, true, false, cond, refl, sym, ap, subst, ◌∙◌, arith, append_assoc, length-drop, length-append, rules}
 use Rattle.std.specs.Prelude.{nat_lt}
 use Rattle.std.proofs.lemmas.List.{reverse-append}
 use Rattle.std.proofs.lemmas.Bool.{ltb-true}
@@ -7,7 +7,7 @@ use Rattle.std.proofs.lemmas.Bool.Decides.{nat_tests}
 use Rattle.wh_model.specs.declared.ValType.{ValType}
 use Rattle.wh_model.specs.declared.ValType.TheVariants.{I32, I64}
 use Rattle.wh_model.specs.declared.faults.ValidKind.{ValidKind}
-use Rattle.wh_model.specs.declared.faults.ValidKind.TheVariants.{BadType, Arity, Height}
+use Rattle.wh_model.specs.declared.faults.ValidKind.TheVariants.{BadType, Arity}
 use Rattle.wh_bodies.specs.Known.{Known, above, known_beneath, Admits, AgreeWithKnown, Fit, same_type, topmost, take_any, is_wanted, take_one, give_one, fall, take_all, give_all}
 use Rattle.wh_bodies.proofs.Follow.{ok_is, follow_ok, cond_ok, by_test}
 
@@ -60,18 +60,7 @@ pub record Popped (k : Known) (o : Option ValType) (n : Known) : Type 0 where
   pub back : (after : List ValType) → Fit n after → (t : ValType) → Admits o t → Fit k (t ∷ after)
 
 pop_known : (o : Option ValType) (os : List (Option ValType)) (floor : ℕ) (dead : Bool) → floor ≤ length os → Popped (record { types = o ∷ os; floor = floor; dead = dead }) o (record { types = os; floor = floor; dead = dead })
-pop_known o os floor dead w = record {
-  stays = record { floor = refl; within = w; beneath = sym (beneath-front floor o os w); small = λ h. omega arith };
-  height = omega arith;
-  back = λ after fit t admits. subst (λ xs. AgreeWithKnown xs dead (t ∷ after)) (sym (above-front floor o os w)) (admits, fit);
-}
-
-pop_dead : (k : Known) → k.floor ≤ length k.types → length k.types ≤ k.floor → k.dead ≡ true → Popped k None k
-pop_dead k w h dead = record {
-  stays = stay k w;
-  height = omega arith;
-  back = λ after fit t admits. subst (λ d. AgreeWithKnown (above k.floor k.types) d (t ∷ after)) (sym dead) (subst (λ xs. AgreeWithKnown xs true (t ∷ after)) (sym (above_none k.floor k.types h)) tt);
-}
+pop_known o os floor dead w = search (rules, beneath-front, above-front)
 
 pop_top : (types : List (Option ValType)) (floor : ℕ) (dead : Bool) (o : Option ValType) (n : Known) → floor < length types → topmost (record { types = types; floor = floor; dead = dead }) types ≡ Ok (o, n) → Popped (record { types = types; floor = floor; dead = dead }) o n
 pop_top [] floor dead o n w e = cc
@@ -84,12 +73,7 @@ pop_top (x ∷ os) floor dead o n w e =
     subst (λ u. Popped k o u) second (subst (λ u. Popped k u m) first (pop_known x os floor dead (omega arith)))
 
 pop_floor : (k : Known) (o : Option ValType) (n : Known) → k.floor ≤ length k.types → length k.types ≤ k.floor → cond {A = Result (Option ValType × Known) ValidKind} k.dead (Ok (None, k)) (Err Arity) ≡ Ok (o, n) → Popped k o n
-pop_floor k o n w h e =
-    let passed = cond_ok k.dead (Ok (None, k)) Arity (o, n) e in
-    let same = ok_is {E = ValidKind} (None, k) (o, n) passed.1 in
-    let first : None ≡ o = ap (λ (r : Option ValType × Known). r.0) same in
-    let second : k ≡ n = ap (λ (r : Option ValType × Known). r.1) same in
-    subst (λ u. Popped k o u) second (subst (λ u. Popped k u k) first (pop_dead k w h passed.0))
+pop_floor k o n w h e = search rules
 
 pub popped : (k : Known) (o : Option ValType) (n : Known) → k.floor ≤ length k.types → take_any k ≡ Ok (o, n) → Popped k o n
 popped k o n w e = by_test (nat_lt k.floor (length k.types))
@@ -115,17 +99,7 @@ admits_wanted None t n m e = (tt, ok_is {E = ValidKind} n m e)
 admits_wanted (Some u) t n m e = let p = cond_ok (same_type u t) (Ok n) BadType m e in (same_types u t p.0, ok_is {E = ValidKind} n m p.1)
 
 pub takes_one : (k n : Known) (t : ValType) → k.floor ≤ length k.types → take_one k t ≡ Ok n → Passes k n (t ∷ []) []
-takes_one k n t w e =
-    let q = follow_ok (take_any k) (λ r. is_wanted t r.0 r.1) n e in
-    let p = popped k q.0.0 q.0.1 w q.1 in
-    let a = admits_wanted q.0.0 t q.0.1 n q.2 in
-    let stays : Stays k n = subst (λ u. Stays k u) a.1 p.stays in
-    let high : length n.types ≡ max k.floor (length k.types - 1) = subst (λ (u : Known). length u.types ≡ max k.floor (length k.types - 1)) a.1 p.height in
-    record {
-      stays = stays;
-      height = omega arith;
-      back = λ after fit. (after, refl, p.back after (subst (λ u. Fit u after) (sym a.1) fit) t a.0);
-    }
+takes_one k n t w e = search (rules, follow_ok, popped, admits_wanted, max)
 
 -- an operand of which this is known was given
 pub record Pushed (k : Known) (o : Option ValType) (n : Known) : Type 0 where
@@ -133,63 +107,22 @@ pub record Pushed (k : Known) (o : Option ValType) (n : Known) : Type 0 where
   pub height : length n.types ≡ length k.types + 1
   pub back : (after : List ValType) → Fit n after → (t : ValType) × (rest : List ValType) × (after ≡ t ∷ rest) × Admits o t × Fit k rest
 
-agrees_front : (o : Option ValType) (os : List (Option ValType)) (dead : Bool) (after : List ValType) → AgreeWithKnown (o ∷ os) dead after → (t : ValType) × (rest : List ValType) × (after ≡ t ∷ rest) × Admits o t × AgreeWithKnown os dead rest
-agrees_front o os dead [] f = absurd f
-agrees_front o os dead (t ∷ rest) f = (t, rest, refl, f.0, f.1)
-
 pub pushed : (k n : Known) (o : Option ValType) → k.floor ≤ length k.types → give_one k o ≡ Ok n → Pushed k o n
-pushed k n o w e =
-    let m : Known = record k { types = o ∷ k.types } in
-    let p = cond_ok (nat_lt (length k.types) 256) (Ok m) Height n e in
-    let room : length k.types < 256 = ltb-true (length k.types) 256 p.0 in
-    let made : Pushed k o m = record {
-      stays = record { floor = refl; within = omega arith; beneath = beneath-front k.floor o k.types w; small = λ h. omega arith };
-      height = omega arith;
-      back = λ after fit. agrees_front o (above k.floor k.types) k.dead after (subst (λ xs. AgreeWithKnown xs k.dead after) (above-front k.floor o k.types w) fit);
-    } in
-    subst (λ u. Pushed k o u) (ok_is {E = ValidKind} m n p.1) made
+pushed k n o w e = search rules
 
 pub gives_one : (k n : Known) (t : ValType) → k.floor ≤ length k.types → give_one k (Some t) ≡ Ok n → Passes k n [] (t ∷ [])
-gives_one k n t w e =
-    let p = pushed k n (Some t) w e in
-    let high = p.height in
-    record {
-      stays = p.stays;
-      height = omega arith;
-      back = λ after fit. let q = p.back after fit in (q.1, q.2 ∙ ap (λ u. u ∷ q.1) (sym q.3), q.4);
-    }
+gives_one k n t w e = search rules
 
 -- ---- one behind the other
 
 pub take_then : (a b d : Known) (xs ys : List ValType) → Passes a b xs [] → Passes b d ys [] → Passes a d (xs ++ ys) []
-take_then a b d xs ys p q = record {
-  stays = stays_on a b d p.stays q.stays;
-  height = (let h = p.height in let j = q.height in let f = p.stays.floor in let l = length-append xs ys in omega arith);
-  back = λ after fit.
-      let u = q.back after fit in
-      let v = p.back (ys ++ u.0) u.2 in
-      (u.0, u.1, subst (Fit a) (ap (λ w. xs ++ w) (sym v.1) ∙ sym (append_assoc xs ys u.0)) v.2);
-}
+take_then a b d xs ys p q = search (rules, stays_on, length-append, append_assoc)
 
 pub take_then_give : (a b d : Known) (xs ys : List ValType) → Passes a b xs [] → Passes b d [] ys → Passes a d xs ys
-take_then_give a b d xs ys p q = record {
-  stays = stays_on a b d p.stays q.stays;
-  height = (let h = p.height in let j = q.height in let f = p.stays.floor in let w = p.stays.within in omega arith);
-  back = λ after fit.
-      let u = q.back after fit in
-      let v = p.back u.0 u.2 in
-      (u.0, u.1, subst (λ w. Fit a (xs ++ w)) (sym v.1) v.2);
-}
+take_then_give a b d xs ys p q = search rules
 
 pub give_then : (a b d : Known) (xs ys : List ValType) → a.floor ≤ length a.types → Passes a b [] xs → Passes b d [] ys → Passes a d [] (ys ++ xs)
-give_then a b d xs ys w p q = record {
-  stays = stays_on a b d p.stays q.stays;
-  height = (let h = p.height in let j = q.height in let f = p.stays.floor in let l = length-append ys xs in let v = p.stays.within in omega arith);
-  back = λ after fit.
-      let u = q.back after fit in
-      let v = p.back u.0 u.2 in
-      (v.0, u.1 ∙ ap (λ r. ys ++ r) v.1 ∙ sym (append_assoc ys xs v.0), v.2);
-}
+give_then a b d xs ys w p q = search (rules, stays_on, length-append, append_assoc)
 
 pub passes_none : (k : Known) → k.floor ≤ length k.types → Passes k k [] []
 passes_none k w = record { stays = stay k w; height = omega arith; back = λ after fit. (after, refl, fit) }
@@ -216,14 +149,7 @@ pub record Falls (k n : Known) : Type 0 where
   pub back : (after : List ValType) → Fit n after
 
 pub falls : (k : Known) → k.floor ≤ length k.types → Falls k (fall k)
-falls k w =
-    let under = known_beneath k.floor k.types in
-    let high : length under ≡ k.floor = let l = length-drop (length k.types - k.floor) k.types in omega arith in
-    record {
-      stays = record { floor = refl; within = omega arith; beneath = beneath_all k.floor under (omega arith); small = λ h. omega arith };
-      height = high;
-      back = λ after. subst (λ xs. AgreeWithKnown xs true after) (sym (above_none k.floor under (omega arith))) tt;
-    }
+falls k w = search (rules, length-drop, beneath_all, above_none)
 
 -- something fits whatever is known
 some_type : (o : Option ValType) → (t : ValType) × Admits o t

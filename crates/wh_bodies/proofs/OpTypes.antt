@@ -1,6 +1,6 @@
 -- Instructions of a fixed type have it.
-use Rattle.std.proofs.Common.{◌≡◌, ℕ, ◌≤◌, ◌^◌, List, [], ◌∷◌, length, reverse, Ok, refl, ap, subst, arith}
-use Rattle.std.specs.Prelude.{nat_le, slice_get, unwrap_or, ℤ, ◌<◌}
+use Rattle.std.proofs.Common.{◌≡◌, ℕ, ◌≤◌, ◌^◌, List, [], ◌∷◌, length, reverse, Ok, refl, subst, arith, rules}
+use Rattle.std.specs.Prelude.{nat_le, slice_get, ℤ, ◌<◌}
 use Rattle.std.proofs.lemmas.Bool.{leb-true}
 use Rattle.std.proofs.Math.Nat.{pow-le-pow_right}
 use Rattle.wh_model.specs.declared.ValType.{ValType}
@@ -17,7 +17,7 @@ use Rattle.wh_model.specs.declared.UnaryOp.{UnaryOp}
 use Rattle.wh_model.specs.declared.BinaryOp.{BinaryOp}
 use Rattle.wh_model.specs.declared.ConvertOp.{ConvertOp}
 use Rattle.wh_model.specs.Format.{Op, nop, call, local_get, local_set, local_tee, global_get, global_set, load, store, memory_size, memory_grow, i32_const, i64_const, test, comparison, unary, binary, conversion, FuncType}
-use Rattle.wh_model.specs.Validity.{Context, OpType, load_type, store_type, conversion_type, taken, given, no_type}
+use Rattle.wh_model.specs.Validity.{Context, OpType, load_type, store_type, conversion_type, taken, given}
 use Rattle.wh_model.specs.declared.faults.ValidKind.{ValidKind}
 use Rattle.wh_model.specs.declared.faults.ValidKind.TheVariants.{Align}
 use Rattle.wh_bodies.specs.CheckSteps.{fixed, typed, load_exponent, store_exponent, aligned, type_to_write}
@@ -65,43 +65,26 @@ two_pow : (a e n : ℕ) → a ≤ e → 2 ^ e ≡ n → 2 ^ a ≤ n
 two_pow a e n h w = subst (λ m. 2 ^ a ≤ m) w (let two : 0 < 2 = omega arith in pow-le-pow_right two h)
 
 pub call_typed : (c : Context) (x : ℕ) (f : FuncType) → fixed c (call x) ≡ Ok f → Typed c (call x) f
-call_typed c x f e =
-    let q = found_ok (slice_get c.funcs x) (λ g. Ok g) f e in
-    is_typed c (call x) q.0 f (ok_is {E = ValidKind} q.0 f q.2) (record {
-      type = (q.0, q.1, refl, refl);
-      takes = ap (λ o. length (unwrap_or o no_type).params) q.1;
-      gives = ap (λ o. length (unwrap_or o no_type).results) q.1;
-    })
+call_typed c x f e = search rules
 
 pub get_typed : (c : Context) (x : ℕ) (f : FuncType) → fixed c (local_get x) ≡ Ok f → Typed c (local_get x) f
-get_typed c x f e =
-    let q = found_ok (slice_get c.locals x) (λ t. typed [] (t ∷ [])) f e in
-    known_type c (local_get x) f [] (q.0 ∷ []) q.2 (record { type = (q.0, q.1, refl, refl); takes = refl; gives = refl })
+get_typed c x f e = search rules
 
 pub set_typed : (c : Context) (x : ℕ) (f : FuncType) → fixed c (local_set x) ≡ Ok f → Typed c (local_set x) f
-set_typed c x f e =
-    let q = found_ok (slice_get c.locals x) (λ t. typed (t ∷ []) []) f e in
-    known_type c (local_set x) f (q.0 ∷ []) [] q.2 (record { type = (q.0, q.1, refl, refl); takes = refl; gives = refl })
+set_typed c x f e = search rules
 
 pub tee_typed : (c : Context) (x : ℕ) (f : FuncType) → fixed c (local_tee x) ≡ Ok f → Typed c (local_tee x) f
-tee_typed c x f e =
-    let q = found_ok (slice_get c.locals x) (λ t. typed (t ∷ []) (t ∷ [])) f e in
-    known_type c (local_tee x) f (q.0 ∷ []) (q.0 ∷ []) q.2 (record { type = (q.0, q.1, refl, refl); takes = refl; gives = refl })
+tee_typed c x f e = search rules
 
 pub global_typed : (c : Context) (x : ℕ) (f : FuncType) → fixed c (global_get x) ≡ Ok f → Typed c (global_get x) f
-global_typed c x f e =
-    let q = found_ok (slice_get c.globals x) (λ g. typed [] (g.value ∷ [])) f e in
-    known_type c (global_get x) f [] (q.0.value ∷ []) q.2 (record { type = (q.0, q.1, refl, refl); takes = refl; gives = refl })
+global_typed c x f e = search rules
 
 is_written : (m : Mutability) (t : ValType) (f : FuncType) → type_to_write m t ≡ Ok f → (m ≡ Var) × (typed (t ∷ []) [] ≡ Ok f)
 is_written Const t f e = cc
 is_written Var t f e = (refl, e)
 
 pub written_typed : (c : Context) (x : ℕ) (f : FuncType) → fixed c (global_set x) ≡ Ok f → Typed c (global_set x) f
-written_typed c x f e =
-    let q = found_ok (slice_get c.globals x) (λ g. type_to_write g.mutability g.value) f e in
-    let p = is_written q.0.mutability q.0.value f q.2 in
-    known_type c (global_set x) f (q.0.value ∷ []) [] p.1 (record { type = (q.0, q.1, p.0, refl, refl); takes = refl; gives = refl })
+written_typed c x f e = search rules
 
 pub load_typed : (c : Context) (op : LoadOp) (align offset : ℕ) (f : FuncType) → fixed c (load op align offset) ≡ Ok f → Typed c (load op align offset) f
 load_typed c op align offset f e =
@@ -120,14 +103,10 @@ store_typed c op align offset f e =
     known_type c (store op align offset) f (I32 ∷ (store_type op).0 ∷ []) [] p.1 (record { type = (((q.0, q.1), room), refl, refl); takes = refl; gives = refl })
 
 pub size_typed : (c : Context) (f : FuncType) → fixed c memory_size ≡ Ok f → Typed c memory_size f
-size_typed c f e =
-    let q = found_ok (slice_get c.memories 0) (λ l. typed [] (I32 ∷ [])) f e in
-    known_type c memory_size f [] (I32 ∷ []) q.2 (record { type = ((q.0, q.1), refl, refl); takes = refl; gives = refl })
+size_typed c f e = search rules
 
 pub grow_typed : (c : Context) (f : FuncType) → fixed c memory_grow ≡ Ok f → Typed c memory_grow f
-grow_typed c f e =
-    let q = found_ok (slice_get c.memories 0) (λ l. typed (I32 ∷ []) (I32 ∷ [])) f e in
-    known_type c memory_grow f (I32 ∷ []) (I32 ∷ []) q.2 (record { type = ((q.0, q.1), refl, refl); takes = refl; gives = refl })
+grow_typed c f e = search rules
 
 module _ (c : Context) (f : FuncType) where
   pub nop_typed : fixed c nop ≡ Ok f → Typed c nop f

@@ -1,5 +1,5 @@
 -- An instruction without a body that passes has a type that explains what is known behind it.
-use Rattle.std.proofs.Common.{◌≡◌, ℕ, zero, suc, ◌+◌, ◌-◌, ◌≤◌, max, List, [], ◌∷◌, ◌++◌, length, reverse, map, Option, Some, None, Result, Ok, Err, true, cond, refl, sym, ap, subst, ◌∙◌, arith, append_assoc, append-nil}
+use Rattle.std.proofs.Common.{◌≡◌, ℕ, zero, suc, ◌+◌, ◌-◌, ◌≤◌, max, List, [], ◌∷◌, ◌++◌, length, reverse, map, Option, Some, None, Result, Ok, Err, true, cond, refl, sym, ap, subst, ◌∙◌, arith, append_assoc, append-nil, rules}
 use Rattle.std.specs.Prelude.{slice_get, unwrap_or}
 use Rattle.std.specs.List.{AllByRecursion}
 use Rattle.std.proofs.lemmas.List.{length-reverse, map-append}
@@ -12,7 +12,7 @@ use Rattle.wh_model.specs.declared.faults.ValidKind.TheVariants.{BadType}
 use Rattle.wh_bodies.specs.declared.table.BranchEntry.{BranchEntry}
 use Rattle.wh_bodies.specs.declared.labels.Label.{Label}
 use Rattle.wh_bodies.specs.BodyFaults.{follow}
-use Rattle.wh_bodies.specs.Known.{Known, Admits, Fit, take_any, take_one, give_one, take_all, give_all, pass, fall, agreed, selected, same_type}
+use Rattle.wh_bodies.specs.Known.{Known, Admits, Fit, take_any, take_one, give_one, take_all, give_all, pass, fall, agreed, selected}
 use Rattle.wh_bodies.specs.SideTables.{Target, nowhere, leads_to, entry_of, run_of, branch_to, to_target}
 use Rattle.wh_bodies.specs.Opened.{target_of, targets_of, around}
 use Rattle.wh_bodies.specs.CheckSteps.{found, fixed, straight, entry_to, branch, branch_if, same_operand, add_run, branch_table, plain_step}
@@ -33,11 +33,7 @@ pub record Explained (c : Context) (op : Op) (k n : Known) : Type 0 where
 -- ---- of a fixed type
 
 explained_pass : (c : Context) (op : Op) (k n : Known) (ins outs : List ValType) → OpType c op ins outs → height_behind c k.floor (length k.types) op ≡ max k.floor (length k.types - length ins) + length outs → Passes k n ins outs → Explained c op k n
-explained_pass c op k n ins outs t high p = record {
-  stays = p.stays;
-  height = p.height ∙ sym high;
-  back = λ after fit. let u = p.back after fit in (ins ++ u.0, u.2, ins, outs, u.0, t, refl, u.1);
-}
+explained_pass c op k n ins outs t high p = search rules
 
 passes : (k n : Known) (params results : List ValType) → k.floor ≤ length k.types → pass k params results ≡ Ok n → Passes k n (reverse params) (reverse results)
 passes k n params results w e =
@@ -98,10 +94,7 @@ explained_drop c k n w e =
 admits_both : (o p r : Option ValType) (t : ValType) → agreed o p ≡ Ok r → Admits r t → Admits o t × Admits p t
 admits_both None p r t e a = (tt, subst (λ u. Admits u t) (sym (ok_is {E = ValidKind} p r e)) a)
 admits_both (Some u) None r t e a = (subst (λ v. Admits v t) (sym (ok_is {E = ValidKind} (Some u) r e)) a, tt)
-admits_both (Some u) (Some v) r t e a =
-    let q = cond_ok (same_type u v) (Ok (Some u)) BadType r e in
-    let is : u ≡ t = subst (λ o. Admits o t) (sym (ok_is {E = ValidKind} (Some u) r q.1)) a in
-    (is, sym (same_types u v q.0) ∙ is)
+admits_both (Some u) (Some v) r t e a = search rules
 
 explained_select : (c : Context) (k n : Known) → k.floor ≤ length k.types → selected k ≡ Ok n → Explained c select k n
 explained_select c k n w e =
@@ -245,8 +238,7 @@ branch_table_done c labels ls last k n pool e more w h =
     let there = label_there c labels last to q.1 in
     let x = explained_fall (around labels c) (br_table ls last) k s.0 (I32 ∷ ts) refl (λ any outs. (to.carries, any, run.0, there, refl)) (take_then k r.0 s.0 (I32 ∷ []) ts pa pb) in
     let f = branch_to (targets_of labels) in
-    let pools : u.0 ++ entry_to to ∷ [] ≡ pool ++ map f (ls ++ last ∷ []) =
-    ap (λ v. v ++ entry_to to ∷ []) run.1 ∙ append_assoc pool (map f ls) (entry_to to ∷ []) ∙ ap (λ v. pool ++ (map f ls ++ v ∷ [])) (label_entry labels last to q.1) ∙ ap (λ v. pool ++ v) (sym (map-append f ls (last ∷ []))) in
+    let pools : u.0 ++ entry_to to ∷ [] ≡ pool ++ map f (ls ++ last ∷ []) = search (rules, append_assoc, label_entry, map-append) in
     done_as c labels (br_table ls last) k (fall s.0) n pool (leads_to (length pool)) e (u.0 ++ entry_to to ∷ []) more s.2 (record { explained = x; entry = refl; run = pools })
 
 -- ---- every instruction without a body

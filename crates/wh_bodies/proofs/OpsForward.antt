@@ -1,5 +1,5 @@
 -- An instruction that has a type is not refused where its operands fit.
-use Rattle.std.proofs.Common.{◌≡◌, ℕ, zero, suc, ◌+◌, ◌-◌, ◌≤◌, ◌^◌, max, List, [], ◌∷◌, ◌++◌, length, reverse, map, Option, Some, None, Result, Ok, Err, Bool, true, false, cond, refl, sym, ap, subst, ◌∙◌, arith, append_assoc}
+use Rattle.std.proofs.Common.{◌≡◌, ℕ, zero, suc, ◌+◌, ◌-◌, ◌≤◌, ◌^◌, max, List, [], ◌∷◌, ◌++◌, length, reverse, map, Option, Some, None, Result, Ok, Err, Bool, true, false, cond, refl, sym, ap, subst, ◌∙◌, arith, append_assoc, rules}
 use Rattle.std.specs.Prelude.{slice_get, unwrap_or, nat_le}
 use Rattle.std.specs.List.{AllByRecursion}
 use Rattle.std.proofs.Common.{inl, inr}
@@ -17,8 +17,8 @@ use Rattle.wh_bodies.specs.declared.table.BranchEntry.{BranchEntry}
 use Rattle.wh_bodies.specs.declared.labels.Label.{Label}
 use Rattle.wh_bodies.specs.BodyFaults.{follow}
 use Rattle.wh_bodies.specs.Known.{Known, Fit, take_one, take_all, give_all, pass, fall}
-use Rattle.wh_bodies.specs.SideTables.{Target, nowhere, leads_to}
-use Rattle.wh_bodies.specs.Opened.{target_of, targets_of, around}
+use Rattle.wh_bodies.specs.SideTables.{nowhere, leads_to}
+use Rattle.wh_bodies.specs.Opened.{around}
 use Rattle.wh_bodies.specs.CheckSteps.{found, fixed, straight, typed, aligned, type_to_write, load_exponent, store_exponent, entry_to, same_operand, add_run, plain_step}
 use Rattle.wh_bodies.proofs.Knowing.{takes_one, takes_all}
 use Rattle.wh_bodies.proofs.Forward.{Goes, can_take, can_take_one, can_take_all, can_give_all, can_pass, can_select, can_fall, same_true}
@@ -75,13 +75,7 @@ has c (conversion op) a b w t = (type ((conversion_type op).0 ∷ []) ((conversi
 has c _ a b w t = cc
 
 can_fixed : (c : Context) (op : Op) (k : Known) (a b below : List ValType) → k.floor ≤ length k.types → ((floor h : ℕ) → height_behind c floor h op ≡ lowered floor h (taken c op) + given c op) → ((f : FuncType) → fixed c op ≡ Ok f → Typed c op f) → height_behind c k.floor (length k.types) op ≤ 256 → Has c op a b → Fit k (a ++ below) → Goes (follow (fixed c op) (λ f. pass k f.params f.results)) (b ++ below)
-can_fixed c op k a b below w high types room t fit =
-    let f = t.0 in
-    let d = types f t.1 in
-    let tall : height_behind c k.floor (length k.types) op ≡ max k.floor (length k.types - length (reverse f.params)) + length f.results =
-    high k.floor (length k.types) ∙ ap (λ m. lowered k.floor (length k.types) m + given c op) (d.takes ∙ sym (length-reverse f.params)) ∙ ap (λ m. max k.floor (length k.types - length (reverse f.params)) + m) d.gives in
-    let p = can_pass k f.params f.results below w (omega arith) (subst (λ xs. Fit k (xs ++ below)) t.2 fit) in
-    (p.0, ap (λ (r : Result FuncType ValidKind). follow r (λ f. pass k f.params f.results)) t.1 ∙ p.1, subst (λ xs. Fit p.0 (xs ++ below)) (sym t.3) p.2)
+can_fixed c op k a b below w high types room t fit = search (rules, max, reverse, length-reverse, can_pass)
 
 -- ---- with types of their own
 
@@ -92,14 +86,10 @@ can_return c k a b below w t fit =
     (fall p.0, ap (λ (r : Result Known ValidKind). follow r (λ left. Ok (fall left))) p.1, can_fall p.0 (b ++ below) q.stays.within)
 
 can_drop : (c : Context) (k : Known) (a b below : List ValType) → OpType c drop_operand a b → Fit k (a ++ below) → Goes (straight c drop_operand k) (b ++ below)
-can_drop c k a b below t fit =
-    let p = can_take k t.0 below (subst (λ xs. Fit k (xs ++ below)) t.1 fit) in
-    (p.left, ap (λ (r : Result (Option ValType × Known) ValidKind). follow r (λ r. Ok r.1)) p.is, subst (λ xs. Fit p.left (xs ++ below)) (sym t.2) p.fit)
+can_drop c k a b below t fit = search (rules, can_take)
 
 can_choose : (c : Context) (k : Known) (a b below : List ValType) → k.floor ≤ length k.types → length k.types ≤ 256 → height_behind c k.floor (length k.types) select ≤ 256 → OpType c select a b → Fit k (a ++ below) → Goes (straight c select k) (b ++ below)
-can_choose c k a b below w small room t fit =
-    let p = can_select k t.0 below w small (omega arith) (subst (λ xs. Fit k (xs ++ below)) t.1 fit) in
-    (p.0, p.1, subst (λ xs. Fit p.0 (xs ++ below)) (sym t.2) p.2)
+can_choose c k a b below w small room t fit = search (rules, can_select)
 
 can_indirect : (c : Context) (y : ℕ) (k : Known) (a b below : List ValType) → k.floor ≤ length k.types → height_behind c k.floor (length k.types) (call_indirect y) ≤ 256 → OpType c (call_indirect y) a b → Fit k (a ++ below) → Goes (straight c (call_indirect y) k) (b ++ below)
 can_indirect c y k a b below w room t fit =
@@ -127,10 +117,7 @@ unmap f (x ∷ xs) zero y e = (x, refl, cc)
 unmap f (x ∷ xs) (suc i) y e = unmap f xs i y e
 
 label_of : (c : Context) (labels : List Label) (l : ℕ) (t : Option ValType) → slice_get (around labels c).labels l ≡ Some t → (to : Label) × (slice_get labels l ≡ Some to) × (to.carries ≡ t)
-label_of c labels l t e =
-    let u = unmap (λ (t : Target). t.carries) (targets_of labels) l t e in
-    let v = unmap target_of labels l u.0 u.1 in
-    (v.0, v.1, ap (λ (t : Target). t.carries) v.2 ∙ u.2)
+label_of c labels l t e = search (rules, unmap)
 
 abbrev Step : Type 0
 Step = BranchEntry × Known × List BranchEntry
@@ -196,9 +183,8 @@ can_table c labels ls last k pool a b below w t fit =
     let ts = operand to.0.carries in
     let r = can_run c labels to.0.carries ls pool (subst (λ (o : Option ValType). AllByRecursion (λ k. slice_get (around labels c).labels k ≡ Some o) ls) (sym to.2) t.2) in
     let p = can_take_one k I32 (ts ++ (t.1 ++ below)) (subst (λ xs. Fit k xs) (ap (λ xs. xs ++ below) (t.4 ∙ ap (λ o. I32 ∷ (operand o ++ t.1)) (sym to.2)) ∙ ap (λ xs. I32 ∷ xs) (append_assoc ts t.1 below)) fit) in
-    let pa = takes_one k p.0 I32 w p.1 in
     let q = can_take_all p.0 ts (t.1 ++ below) p.2 in
-    let pb = takes_all p.0 q.0 ts pa.stays.within q.1 in (
+    let pb = takes_all p.0 q.0 ts (takes_one k p.0 I32 w p.1).stays.within q.1 in (
       leads_to (length pool),
       fall q.0,
       r.0 ++ entry_to to.0 ∷ [],

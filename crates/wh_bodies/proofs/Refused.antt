@@ -1,5 +1,5 @@
 -- A body that is valid and fits is not refused.
-use Rattle.std.proofs.Common.{◌≡◌, ℕ, ◌+◌, ◌≤◌, List, [], ◌∷◌, ◌++◌, length, Option, Some, None, Result, Ok, Err, refl, sym, ap, subst, ◌∙◌, arith, append-nil, length-append}
+use Rattle.std.proofs.Common.{◌≡◌, ℕ, ◌+◌, ◌≤◌, List, [], ◌∷◌, ◌++◌, length, Option, Some, None, Ok, Err, refl, sym, ap, ◌∙◌, arith, append-nil, length-append, rules}
 use Rattle.std.specs.Prelude.{slice_get}
 use Rattle.wh_model.specs.declared.ValType.{ValType}
 use Rattle.wh_model.specs.declared.Open.TheVariants.{Other}
@@ -39,19 +39,7 @@ first_of None rs e = ap (λ (x : List ValType). slice_get x 0) e
 first_of (Some t) rs e = ap (λ (x : List ValType). slice_get x 0) e
 
 passes : (c : Context) (f : FuncType) (b : Body) → ValidBody c f b → body_height c f b ≤ 256 → (last : State) × (whole_run (place_of c f b) (expression b.code) ≡ Ok last)
-passes c f b valid low =
-    let of = slice_get f.results 0 in
-    let same : of ≡ valid.0 = first_of valid.0 f.results valid.1 in
-    let d = place_of c f b in
-    let typed : HasType (record d { labels = of ∷ [] }) b.code [] (operand of) = subst (λ (t : Option ValType). HasType (record c { locals = f.params ++ b.locals; labels = t ∷ []; result = t }) b.code [] (operand t)) (sym same) valid.2 in
-    let high : greatest (record d { labels = of ∷ [] }) 0 0 b.code ≤ 256 = let g = greatest_same c (f.params ++ b.locals) of (of ∷ []) 0 0 b.code in omega arith in
-    goes_through d b.code of (length (expression b.code)) (length-append (flatten b.code) (end_mark ∷ [])) high typed
+passes c f b valid low = search (rules, first_of, place_of, greatest_same, goes_through, length-append)
 
 pub not_refused : (c : Context) (f : FuncType) (b : Body) (d : Context) (is : List Instr) (e : BodyFault) → d ≡ place_of c f b → is ≡ expression b.code → whole_run d is ≡ Err e → ValidBody c f b → body_height c f b ≤ 256 → ⊥
-not_refused c f b d is e place code refused valid low =
-    let p = passes c f b valid low in
-    let q = sym p.1 ∙ ap (λ (v : List Instr). whole_run (place_of c f b) v) (sym code) ∙ ap (λ (v : Context). whole_run v is) (sym place) ∙ refused in
-    contradiction p.0 q
-  where
-    contradiction : (last : State) → ◌≡◌ {A = Result State BodyFault} (Ok last) (Err e) → ⊥
-    contradiction last q = cc
+not_refused c f b d is e place code refused valid low = search (rules, passes, place_of, ◌≡◌)

@@ -1,5 +1,5 @@
 -- Words cut down, as they lie in memory: bottom first.
-use Rattle.std.proofs.Common.{◌≡◌, ℕ, zero, suc, ◌-◌, ◌≤◌, List, [], ◌∷◌, ◌++◌, length, reverse, take, drop, replicate, Bool, true, false, refl, sym, ap, ◌∙◌, arith}
+use Rattle.std.proofs.Common.{◌≡◌, ℕ, zero, suc, ◌-◌, ◌≤◌, List, [], ◌∷◌, ◌++◌, length, reverse, take, replicate, Bool, true, false, refl, sym, ap, ◌∙◌, rules}
 use Rattle.std.proofs.lemmas.List.{reverse-append, length-reverse}
 use Rattle.wh_bodies.proofs.Lists.{reverse-take}
 use Rattle.wh_control.specs.ControlSteps.{cut, words_carried}
@@ -8,12 +8,7 @@ pub cut_none : (items : List ℕ) (height : ℕ) (b : Bool) → b ≡ false → 
 cut_none items height b e = reverse-take height items ∙ ap (λ x. cut (reverse items) (words_carried x) height) (sym e)
 
 pub cut_one : (items rest : List ℕ) (top height : ℕ) (b : Bool) → b ≡ true → items ≡ rest ++ top ∷ [] → height ≤ length rest → reverse (take height rest ++ top ∷ []) ≡ cut (reverse items) (words_carried b) height
-cut_one items rest top height b e split low =
-    let whole : reverse items ≡ top ∷ reverse rest = ap reverse split ∙ reverse-append rest (top ∷ []) in
-    let n = length-reverse rest in
-    let less : suc (length (reverse rest)) - height ≡ suc (length (reverse rest) - height) = omega (arith, n, low) in
-    let here : drop (suc (length (reverse rest)) - height) (top ∷ reverse rest) ≡ reverse (take height rest) = ap (λ k. drop k (top ∷ reverse rest)) less ∙ sym (reverse-take height rest) in
-    reverse-append (take height rest) (top ∷ []) ∙ ap (λ w. top ∷ w) (sym here) ∙ ap (λ w. cut w 1 height) (sym whole) ∙ ap (λ x. cut (reverse items) (words_carried x) height) (sym e)
+cut_one items rest top height b e split low = search (rules, reverse, reverse-append, length-reverse, reverse-take)
 
 same_more : (n x : ℕ) → replicate n x ++ x ∷ [] ≡ x ∷ replicate n x
 same_more zero x = refl

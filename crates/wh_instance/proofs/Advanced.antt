@@ -1,13 +1,12 @@
 -- Where a turn leaves the present call of an instance.
-use Rattle.std.proofs.Common.{◌≡◌, ◌≢◌, ℕ, ◌+◌, ◌<◌, ◌≤◌, ◌^◌, List, [], ◌∷◌, ◌++◌, length, map, Some, refl, sym, ap, subst, ◌∙◌, arith, length-append}
-use Rattle.std.specs.List.{AllByRecursion}
+use Rattle.std.proofs.Common.{◌≡◌, ◌≢◌, ℕ, ◌+◌, ◌<◌, ◌≤◌, ◌^◌, List, [], ◌∷◌, ◌++◌, length, map, Some, refl, sym, subst, ◌∙◌, arith, length-append, rules}
 use Rattle.wh_model.specs.declared.memory.Need.{Need}
 use Rattle.wh_model.specs.Execution.Store.{Instance}
 use Rattle.wh_model.specs.Execution.{Term, Config, Piece, Call}
 use Rattle.wh_host_model.specs.Host.{Rest, Doing, resting, has_left, computing, Tenant, Opens, by_invocation, as_it_was, Upshot, Proceeds, returns, traps, writes_all, uses_fuel, waits, waits_to_write, has_had_its_turn, gone_further}
 use Rattle.wh_host_model.specs.{Entry}
 use Rattle.wh_control.specs.Represents.{bits_of}
-use Rattle.wh_journal.specs.Calls.{JournalCallState, JournalState, HasPresent, CanGoFurther}
+use Rattle.wh_journal.specs.Calls.{JournalCallState, HasPresent, CanGoFurther}
 use Rattle.wh_machine.specs.CallStates.{CallState, Setting}
 use Rattle.wh_instance.specs.declared.computing.TurnOutcome.{TurnOutcome}
 use Rattle.wh_instance.specs.declared.stages.CallStage.TheVariants.{Writing, Faced, UnderWay}
@@ -29,10 +28,7 @@ pub record Opened {M : Type 0} (w : Setting M) (x : HostInstanceState) (m : M) (
   pub counted : IsCounted e
 
 pub opened : {M : Type 0} (w : Setting M) (x : HostInstanceState) (m : M) (t : Tenant) (e : Entry) (es : List Entry) → t.open_calls ≡ e ∷ es → RepresentsTenant w x m t → Opened w x m t e es
-opened w x m t e es is_open rep =
-    let f = first_of_each x.journal.open_calls e es (subst (RepresentsEach x.journal.open_calls) is_open rep.open_calls) in
-    let all = subst (AllByRecursion IsCounted) is_open rep.counted in
-    record { c = f.0; cs = f.1; at = f.2; first = f.3; others = f.4; counted = all.0 }
+opened w x m t e es is_open rep = search (rules, first_of_each)
 
 some_first : (es : List Entry) → es ≢ [] → (e : Entry) × (rest : List Entry) × (es ≡ e ∷ rest)
 some_first [] some = absurd (some refl)
@@ -157,7 +153,6 @@ few_of (has_left ps) e k more counted few = let all = more (length ps) (λ other
 pub advanced : {M : Type 0} (w : Setting M) (q : ℕ) (x2 : HostInstanceState) (m m2 : M) (t : Tenant) (e : Entry) (es : List Entry) (answer : TurnOutcome) (k n : ℕ) (left : List Piece) (d : Doing) → t.doing ≡ d → Turns w t.inst q e.call m t.rest d answer k n (state_over x2 m2) left → Around w d e x2 left → AdvancesTenant w q m t e es answer k n x2 m2
 unfolding PiecesWithin
 advanced w q x2 m m2 t e es answer k n left d same turns a =
-    let more = pieces_within turns.proceeds in
     record {
       to = turns.to;
       rest = turns.rest;
@@ -167,16 +162,14 @@ advanced w q x2 m m2 t e es answer k n left d same turns a =
       store = turns.store;
       begun = a.begun;
       is_where = there w t.inst q m m2 t.rest turns.rest d turns.doing e es k n x2 left turns.to turns.proceeds turns.is_there a;
-      few_pieces = few_of d e k more a.counted (λ ps is. let s = a.started ps is in s.1);
+      few_pieces = few_of d e k (pieces_within turns.proceeds) a.counted (λ ps is. let s = a.started ps is in s.1);
       in_fuel = charges_within a.within turns.proceeds;
     }
 
 -- ---- the code's counts
 
 pub can_go_further : {M : Type 0} (w : Setting M) (q : ℕ) (x x2 : HostInstanceState) (m m2 : M) (t : Tenant) (e : Entry) (es : List Entry) (answer : TurnOutcome) (k n : ℕ) → Opened w x m t e es → AdvancesTenant w q m t e es answer k n x2 m2 → x2.journal ≡ x.journal → CanGoFurther x2.journal.open_calls k n
-can_go_further w q x x2 m m2 t e es answer k n o a same =
-    let f = o.first in
-    (o.c, o.cs, ap (λ (j : JournalState). j.open_calls) same ∙ o.at, omega (arith, f.pieces, a.few_pieces), omega (arith, f.charges, f.fuel, o.counted.fuel, a.in_fuel))
+can_go_further w q x x2 m m2 t e es answer k n o a same = search rules
 
 -- ---- what no call is
 

@@ -1,11 +1,11 @@
 -- Turns of a call: from its pieces, from its invocation, and from where it is under way.
-use Rattle.std.proofs.Common.{◌≡◌, ℕ, ◌+◌, ◌≤◌, List, [], ◌∷◌, ◌++◌, Option, Some, None, length, map, reverse, slice_get, refl, sym, ap, subst, ◌∙◌, arith, length-append}
+use Rattle.std.proofs.Common.{◌≡◌, ℕ, ◌+◌, ◌≤◌, List, [], ◌∷◌, ◌++◌, Option, Some, None, length, reverse, refl, sym, ap, subst, ◌∙◌, arith, length-append, rules}
 use Rattle.std.specs.List.{AllByRecursion}
 use Rattle.wh_model.specs.declared.memory.Need.{Need}
 use Rattle.wh_model.specs.Format.{nothing, FuncType, Body}
 use Rattle.wh_model.specs.Validity.{Context}
 use Rattle.wh_model.specs.Execution.Store.{Instance}
-use Rattle.wh_model.specs.Execution.{Value, type_of, InRange, own, Term, called, Config, config, stays, After, Piece, Within, returned, Call, Invocation}
+use Rattle.wh_model.specs.Execution.{Value, Term, called, Config, config, stays, After, Piece, Within, returned, Call, Invocation}
 use Rattle.wh_model.specs.Execution.Memory.{writing}
 use Rattle.wh_model.specs.Laws.{InOnePage}
 use Rattle.wh_host_model.specs.Host.{Rest, resting, has_left, computing, store_with, Opens, by_invocation, as_it_was, to_end, to_wait, Proceeds, writes_all, waits_to_write}
@@ -27,24 +27,7 @@ use Rattle.wh_instance.proofs.Opened.{turns_as}
 -- ---- other bytes
 
 other_instance : {p : ProgramParts} {k : code_store.Store} {flat : List ℕ} {most : ℕ} {c : Context} {inst : Instance} (r : Rest) (flat2 : List ℕ) → RepresentsInstance p k flat most c inst (store_with flat r) → RepresentsInstance p k flat2 most c inst (store_with flat2 r)
-other_instance r flat2 st =
-    let s = st.store in
-    record {
-      instance = st.instance;
-      store = record {
-        bytes = refl;
-        limit = s.limit;
-        globals = s.globals;
-        global_types = s.global_types;
-        globals_fit = s.globals_fit;
-        table = s.table;
-        named = s.named;
-        inputs = s.inputs;
-        output = s.output;
-        small = s.small;
-        room = s.room;
-      };
-    }
+other_instance r flat2 st = search rules
 
 -- the machine and the memory may be others
 pub other_bytes : {M : Type 0} (w : Setting M) (before : CallState M) (machine : Machine) (m2 : M) (inst : Instance) (r : Rest) → HasRest w before inst r → HasRest w (call_state machine before.store m2) inst r
@@ -53,8 +36,7 @@ other_bytes w before machine m2 inst r (c, st) = (c, other_instance r (w.bytes m
 -- ---- what is begun
 
 pub can_begin : {M : Type 0} (w : Setting M) (state : CallState M) (inst : Instance) (r : Rest) (func : ℕ) (args : List ℕ) (type : FuncType) (body : Body) (vs : List Value) → HasRest w state inst r → IsOwnCall inst func args type body vs → CanBegin w.program func args
-can_begin w state inst r func args type body vs (c, st) suits =
-    record { kept = state.store; flat = w.bytes state.memory; most = w.limit; context = c; inst = inst; s = store_with (w.bytes state.memory) r; around = st; type = type; body = body; vs = vs; suits = suits }
+can_begin w state inst r func args type body vs (c, st) suits = search rules
 
 pub has_begun : {M : Type 0} (w : Setting M) (mid : CallState M) (inst : Instance) (r : Rest) (func : ℕ) (args : List ℕ) (type : FuncType) (body : Body) (vs : List Value) → HasRest w mid inst r → IsOwnCall inst func args type body vs → BeginsCall w.program func args mid.machine → IsSettledIn w.program mid.machine → HasConfiguration w mid
 has_begun w mid inst r func args type body vs (c, st) suits begun settled =
@@ -73,7 +55,6 @@ waits_now w inst q call r before m2 ps left n need (Some other) st (front, is, s
     let cut : ps ≡ front ++ (p ∷ more) = is ∙ ap (λ z. front ++ z) next in
     let goes : Proceeds w.bytes w.ready w.keeps inst q call before.memory r (has_left ps) (to_wait want) (length front) 0 m2 r (has_left (p ∷ more)) = waits_to_write (ap (λ z. has_left z) cut) writes (λ z. never (subst (w.ready m2) (sym wants) z)) in
     let store = other_bytes w before before.machine m2 inst r st.store in
-    let counted = ap length cut ∙ length-append front (p ∷ more) in
     let within = all_behind (λ z. z.at + length z.items ≤ length (w.bytes before.memory)) front (p ∷ more) (subst (Within (length (w.bytes before.memory))) cut st.within) in
     record {
       to = to_wait want;
@@ -87,7 +68,7 @@ waits_now w inst q call r before m2 ps left n need (Some other) st (front, is, s
           store = store;
           within = subst (λ i. Within i (p ∷ more)) (sym same) within;
           in_pages = all_behind InOnePage front (p ∷ more) (subst (AllByRecursion InOnePage) cut st.in_pages);
-          few = omega (arith, st.few, counted);
+          few = omega (arith, st.few, ap length cut ∙ length-append front (p ∷ more));
           no_args = st.no_args;
           no_charges = st.no_charges;
           calls_own = st.calls_own;
@@ -130,16 +111,7 @@ started_now w inst q call r before after machine m2 ps left n charges func answe
     let b = begun before.store (w.bytes m2) w.limit around.0 inst s type body [] around.1 suits in
     let came = computes (result_of type) inst b.0 b.2 in
     let first : Config = config s [] (called type body [] [] nothing) in
-    let invocation : Invocation inst s call first = record {
-      index = func;
-      type = type;
-      body = body;
-      calls = some;
-      is_own = suits.is_own;
-      types = ap (map type_of) st.no_args ∙ suits.types;
-      fit = subst (AllByRecursion InRange) (sym st.no_args) tt;
-      begins = ap (λ vs. config s [] (called type body (reverse vs) [] nothing)) (sym st.no_args);
-    } in
+    let invocation : Invocation inst s call first = search (rules, reverse) in
     let opens : Opens w.bytes w.ready w.keeps inst call before.memory r (has_left ps) (length ps) m2 b.0 = by_invocation all.1 invocation b.1 in
     let charged = st.no_charges in
     let turned = turns_as w inst q call.fuel call before.memory r (has_left ps) (length ps) charges mid after b.0 came.0 func type body answer left no_more opens b.1.1 (omega (arith, charged)) some suits.is_own came.1 came.2 in
@@ -151,10 +123,7 @@ same_index : {i j : ℕ} → Some i ≡ Some j → i ≡ j
 same_index e = cc e
 
 pub own_call : {M : Type 0} (w : Setting M) (before : CallState M) (inst : Instance) (call : Call) (r : Rest) (func : ℕ) (args : List ℕ) (t : Term) (f : IsFaced w before inst call r func args t) → IsOwnCall inst func args f.invocation.type f.invocation.body call.args
-own_call w before inst call r func args t f =
-    let i = f.invocation in
-    let same = same_index (sym i.calls ∙ f.calls) in
-    record { is_own = subst (λ x. slice_get inst.funcs x ≡ Some (own i.type i.body)) same i.is_own; types = i.types; fit = i.fit; words = f.words }
+own_call w before inst call r func args t f = search rules
 
 pub first_now : {M : Type 0} (w : Setting M) (inst : Instance) (q : ℕ) (call : Call) (r : Rest) (before after : CallState M) (machine : Machine) (func : ℕ) (args : List ℕ) (t : Term) (charges : ℕ) (answer : TurnOutcome) → IsFaced w before inst call r func args t → BeginsCall w.program func args machine
     → ComputesWithin w (call_state machine before.store before.memory) q call.fuel answer charges after → Turns w inst q call before.memory r (computing t) answer 0 charges after []

@@ -1,10 +1,10 @@
 -- What a call comes to in one turn and then in another, it comes to in one of as many charges as both.
-use Rattle.std.proofs.Common.{◌≡◌, inl, inr, ℕ, ◌+◌, ◌-◌, ◌<◌, ◌≤◌, suc, refl, sym, subst, arith}
+use Rattle.std.proofs.Common.{◌≡◌, inl, inr, ℕ, ◌+◌, ◌-◌, ◌<◌, ◌≤◌, suc, refl, sym, subst, arith, rules}
 use Rattle.wh_model.specs.declared.ValType.{ValType}
 use Rattle.wh_model.specs.declared.memory.Need.{Need}
 use Rattle.std.proofs.Common.{List, Option}
 use Rattle.wh_model.specs.Execution.Store.{Instance, Store}
-use Rattle.wh_model.specs.Execution.{Config, Takes, took_all, took, Asks}
+use Rattle.wh_model.specs.Execution.{Config, Takes, took_all, took}
 use Rattle.wh_machine.specs.CallStates.{CallState, Setting, HasConfiguration}
 use Rattle.wh_call.specs.Ends.{TakesTo}
 use Rattle.wh_instance.specs.declared.computing.TurnOutcome.{TurnOutcome}
@@ -22,16 +22,12 @@ takes_join {bytes = bytes} {ready = ready} {keeps = keeps} {inst = inst} {m = m}
 comes_later : {M : Type 0} (w : Setting M) (after : CallState M) (out : Option ValType) (inst : Instance) (first then : ℕ → Config → Type 0) (n q more left k : ℕ) (came : TurnOutcome) (s : Store)
     → ((i : ℕ) (c : Config) → then i c → first (n + i) c) → n ≡ q → n < left
     → ComesWithin w after out inst then more (left - n) came k s → ComesWithin w after out inst first (q + more) left came (n + k) s
-comes_later w after out inst first then n q more left k (Returned result) s leads is less (low, (fits, us, are, top, x)) =
-    (omega (arith, is, low), (omega (arith, less, fits), us, are, top, leads k _ x))
-comes_later w after out inst first then n q more left k (Trapped trap) s leads is less (low, (fits, x)) =
-    (omega (arith, is, low), (omega (arith, less, fits), leads k _ x))
-comes_later w after out inst first then n q more left k Fuel s leads is less (low, (all, (c, x, next, same, stands, runs, settled))) =
-    (omega (arith, is, low), (omega (arith, less, all), (c, leads k c x, next, same, stands, runs, settled)))
+comes_later w after out inst first then n q more left k (Returned result) s leads is less (low, (fits, us, are, top, x)) = search rules
+comes_later w after out inst first then n q more left k (Trapped trap) s leads is less (low, (fits, x)) = search rules
+comes_later w after out inst first then n q more left k Fuel s leads is less (low, (all, (c, x, next, same, stands, runs, settled))) = search rules
 comes_later w after out inst first then n q more left k (Frame need) s leads is less (low, (fits, never, (c, x, next, same, stands, runs, settled))) =
     (omega (arith, is, low), (omega (arith, less, fits), never, (c, leads k c x, next, same, stands, runs, settled)))
-comes_later w after out inst first then n q more left k Again s leads is less (all, fits, (c, x, next, same, stands, runs, settled)) =
-    (omega (arith, is, all), omega (arith, less, fits), (c, leads k c x, next, same, stands, runs, settled))
+comes_later w after out inst first then n q more left k Again s leads is less (all, fits, (c, x, next, same, stands, runs, settled)) = search rules
 
 pub goes_further : {M : Type 0} (w : Setting M) (before mid after : CallState M) (q more left n k : ℕ) (came : TurnOutcome) → ComputesWithin w before q left Again n mid → ComputesWithin w mid more (left - n) came k after → ComputesWithin w before (q + more) left came (n + k) after
 goes_further w before mid after q more left n k came first then out inst c st =
@@ -71,8 +67,7 @@ none_taken w mid after out inst c q left n (Returned result) s next least less (
 none_taken w mid after out inst c q left n (Trapped trap) s next least less (low, (fits, x)) none = trap_has_no_next s trap (sym (takes_none x none).1) next.0
 none_taken w mid after out inst c q left n Fuel s next least less x none = let all = x.1.0 in omega (arith, all, none, less)
 none_taken w mid after out inst c q left n (Frame need) s next least less (low, (fits, never, (c2, x, (more, asks), same, stands, runs, settled))) none =
-    let h = takes_none x none in
-    never (subst (λ m. w.ready m need) (sym h.0) (next.1 need (subst (λ z. Asks inst z need) h.1 asks)))
+    search (rules, takes_none)
 none_taken w mid after out inst c q left n Again s next least less x none = let all = x.0 in omega (arith, all, none, least)
 
 pub some_taken : {M : Type 0} (w : Setting M) (before mid after : CallState M) (q more left n k : ℕ) (came : TurnOutcome) → ComputesWithin w before q left Again n mid → HasConfiguration w before → 1 ≤ more → ComputesWithin w mid more (left - n) came k after → 1 ≤ k

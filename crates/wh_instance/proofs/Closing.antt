@@ -124,10 +124,9 @@ closes_so : {M : Type 0} (w : Setting M) (x : HostInstanceState) (m : M) (t : Te
     (record x { journal = record { ended = x.journal.ended ++ with_end c how ∷ map (λ v. with_end v end.Dead) cs; open_calls = [] }; progress = Faced; waiting_for = None; dead = true })
     (record x { journal = record { ended = x.journal.ended ++ with_end c how ∷ []; open_calls = cs }; progress = Faced; waiting_for = None })) m t r e es o s
 closes_so w x m t r c cs e es how o k s true fatal =
-    let same = same_fate x.journal.ended t.ended how o k.ended k.is_end in
     let last = each_joins x.journal.ended t.ended (with_end c how ∷ map (λ v. with_end v end.Dead) cs) (ended_by e o ∷ map (λ v. ended_by v dead) es) k.ended (call_ends c e how o k.first k.is_end, each_dies cs es k.others) in (
       _,
-      is_dead (sym same ∙ fatal),
+      is_dead (sym (same_fate x.journal.ended t.ended how o k.ended k.is_end) ∙ fatal),
       record {
         store = k.store;
         ended = last;

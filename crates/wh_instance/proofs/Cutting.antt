@@ -1,5 +1,5 @@
 -- Data segments from a cursor on: the first fragment, and those behind it.
-use Rattle.std.proofs.Common.{◌≡◌, ℕ, zero, suc, ◌+◌, ◌-◌, ◌*◌, ◌%◌, ◌==◌, ◌<◌, ◌≤◌, min, Bool, true, false, List, [], ◌∷◌, ◌++◌, length, take, drop, Some, slice_get, refl, sym, ap, ◌∙◌, arith, if◌then◌else◌, length-append, length-drop}
+use Rattle.std.proofs.Common.{◌≡◌, ℕ, zero, suc, ◌+◌, ◌-◌, ◌*◌, ◌%◌, ◌==◌, ◌<◌, ◌≤◌, min, Bool, true, false, List, [], ◌∷◌, ◌++◌, length, take, drop, Some, slice_get, refl, sym, ap, ◌∙◌, arith, if◌then◌else◌, length-append, length-drop, rules}
 use Rattle.std.proofs.Math.Nat.{mul-suc}
 use Rattle.std.proofs.lemmas.Bool.{eqb-true}
 use Rattle.std.proofs.lemmas.List.{drop-drop}
@@ -74,17 +74,11 @@ behind_none (p ∷ ps) = let same : p.at + 0 ≡ p.at = omega arith in ap (λ i.
 -- a segment that is written in full is passed over
 pub behind_whole : (segments : List Data) (places : List ℕ) (i at : ℕ) (d : Data) (n : ℕ) → slice_get segments i ≡ Some d → slice_get places i ≡ Some n → length d.init.items ≤ at
     → fragments_behind at (drop i (placed_data segments places)) ≡ fragments_behind 0 (drop (i + 1) (placed_data segments places))
-behind_whole segments places i at d n at_d at_n full =
-    let ps = placed_data segments places in
-    ap (fragments_behind at) (drop_at ps i (piece n d.init.items) (placed_get segments places i d n at_d at_n))
-    ∙ ap (λ bs. cut_up (n + at) bs ++ fragments (drop (i + 1) ps)) (drop_all d.init.items at full)
-    ∙ sym (behind_none (drop (i + 1) ps))
+behind_whole segments places i at d n at_d at_n full = search (rules, drop_at, placed_get, drop_all, behind_none)
 
 -- behind the last one nothing is left
 pub behind_all : (segments : List Data) (places : List ℕ) (i at : ℕ) → min (length segments) (length places) ≤ i → fragments_behind at (drop i (placed_data segments places)) ≡ []
-behind_all segments places i at past =
-    let size = placed_length segments places in
-    ap (fragments_behind at) (drop_all (placed_data segments places) i (omega (arith, size, past)))
+behind_all segments places i at past = search (rules, placed_length, drop_all)
 
 -- the first piece that is left, and those behind it
 pub next_fragment : (segments : List Data) (places : List ℕ) (c : Cursor) (d : Data) (n count : ℕ) (bytes : List ℕ) → c.at < length bytes → slice_get segments c.segment ≡ Some d → slice_get places c.segment ≡ Some n → bytes ≡ d.init.items → count ≡ min (length bytes - c.at) (4096 - (n + c.at) % 4096)
@@ -112,28 +106,19 @@ there (x ∷ xs) zero low = (x, refl)
 there (x ∷ xs) (suc i) low = there xs i (omega (arith, low))
 
 pub byte_low : (segments : List Data) (places : List ℕ) (c : Cursor) (d : Data) (bytes : List ℕ) → IsAtByte segments places c → slice_get segments c.segment ≡ Some d → bytes ≡ d.init.items → c.at < length bytes
-byte_low segments places c d bytes (e, n, at_e, at_n, low) at_d same =
-    let both : Some e ≡ Some d = sym at_e ∙ at_d in
-    let one : e ≡ d = cc both in
-    let size = ap (λ (f : Data). length f.init.items) one ∙ ap length (sym same) in
-    omega (arith, low, size)
+byte_low segments places c d bytes (e, n, at_e, at_n, low) at_d same = search rules
 
 -- at a byte a piece is left
 pub some_left : (segments : List Data) (places : List ℕ) (c : Cursor) → IsAtByte segments places c → ¬ (pieces_left segments places c ≡ [])
 some_left segments places c (d, n, at_d, at_n, low) none =
     let count = min (length d.init.items - c.at) (4096 - (n + c.at) % 4096) in
-    let first = sym none ∙ next_fragment segments places c d n count d.init.items low at_d at_n refl refl in
-    cc first
+    cc (sym none ∙ next_fragment segments places c d n count d.init.items low at_d at_n refl refl)
 
 -- ---- how many they are
 
 onto_few : (at b n : ℕ) (ps : List Piece) → length ps ≤ n → length (onto_piece at b ps) ≤ suc n
 onto_few at b n [] few = omega arith
-onto_few at b n (p ∷ ps) few = by_case (p.at % 4096 == 0)
-  where
-    by_case : (c : Bool) → length (either c at b p ps) ≤ suc n
-    by_case true = omega (arith, few)
-    by_case false = omega (arith, few)
+onto_few at b n (p ∷ ps) few = search rules
 
 -- bytes are no more pieces than bytes
 cut_few : (at : ℕ) (items : List ℕ) → length (cut_up at items) ≤ length items
@@ -144,8 +129,7 @@ pub placed_few : (size : ℕ) (segments : List Data) (places : List ℕ) → Wit
 placed_few size [] places within = omega arith
 placed_few size (d ∷ segments) [] within = omega arith
 placed_few size (d ∷ segments) (n ∷ places) within =
-    let joined = length-append (cut_up n d.init.items) (fragments (placed_data segments places)) in
     let first = cut_few n d.init.items in
     let later = placed_few size segments places within.1 in
     let more = mul-suc size (length segments) in
-    omega (arith, joined, first, later, within.0, more)
+    omega (arith, length-append (cut_up n d.init.items) (fragments (placed_data segments places)), first, later, within.0, more)

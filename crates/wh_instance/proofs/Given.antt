@@ -1,5 +1,5 @@
 -- Numbers that are given as arguments, and the values that they are.
-use Rattle.std.proofs.Common.{◌≡◌, ℕ, suc, ℤ, pos, negsuc, ◌≤ℤ◌, int_le, nat_abs, ◌+◌, ◌^◌, ◌<◌, ◌≤◌, List, [], ◌∷◌, ◌++◌, drop, length, map, Some, slice_get, Bool, true, false, refl, sym, ap, subst, ◌∙◌, arith, append_assoc, append-nil}
+use Rattle.std.proofs.Common.{◌≡◌, ℕ, suc, ℤ, pos, negsuc, ◌≤ℤ◌, int_le, nat_abs, ◌+◌, ◌^◌, ◌<◌, ◌≤◌, List, [], ◌∷◌, ◌++◌, drop, length, map, Some, slice_get, Bool, true, false, refl, sym, ap, subst, ◌∙◌, arith, append_assoc, append-nil, rules}
 use Rattle.std.specs.Bool.{MatchBool}
 use Rattle.std.specs.List.{AllByRecursion}
 use Rattle.std.specs.Int.{int_rem_euclid}
@@ -86,15 +86,11 @@ abs_64 (negsuc n) = refl
 
 pub word_32 : (t : ValType) (n m r s : ℤ) → t ≡ I32 → m ≡ n → s ≡ r → r ≡ int_rem_euclid m (pos 4294967296)
     → nat_abs s ≡ unsigned (bits t) n
-word_32 t n m r s is same seen e =
-    ap nat_abs (seen ∙ e ∙ ap (λ z. int_rem_euclid z (pos 4294967296)) same)
-    ∙ (abs_32 n ∙ ap (λ z. unsigned (bits z) n) (sym is))
+word_32 t n m r s is same seen e = search (rules, nat_abs, pos, abs_32)
 
 pub word_64 : (t : ValType) (n m r s : ℤ) → t ≡ I64 → m ≡ n → s ≡ r → r ≡ int_rem_euclid m (pos 18446744073709551616)
     → nat_abs s ≡ unsigned (bits t) n
-word_64 t n m r s is same seen e =
-    ap nat_abs (seen ∙ e ∙ ap (λ z. int_rem_euclid z (pos 18446744073709551616)) same)
-    ∙ (abs_64 n ∙ ap (λ z. unsigned (bits z) n) (sym is))
+word_64 t n m r s is same seen e = search (rules, nat_abs, pos, abs_64)
 
 -- ---- one for each parameter
 
@@ -141,10 +137,7 @@ split ts ns t n (vs, (v, rest, is, e, more)) = ((v, is), (rest, more))
 pub one_less : (ts : List ValType) (ns : List ℤ) (i : ℕ) (t : ValType) (n : ℤ) → slice_get ts i ≡ Some t
     → slice_get ns i ≡ Some n → AreGiven (drop i ts) (drop i ns)
     → IsGiven t n × AreGiven (drop (i + 1) ts) (drop (i + 1) ns)
-one_less ts ns i t n at_t at_n h =
-    split (drop (i + 1) ts) (drop (i + 1) ns) t n
-    (subst (AreGiven (t ∷ drop (i + 1) ts)) (drop_at ns i n at_n)
-    (subst (λ z. AreGiven z (drop i ns)) (drop_at ts i t at_t) h))
+one_less ts ns i t n at_t at_n h = search (rules, split, drop_at)
 
 -- ---- their words
 
@@ -164,23 +157,17 @@ words_are (t ∷ ts) (n ∷ ns) vs (v, rest, is, e, more) =
 pub next_word : (ts : List ValType) (ns : List ℤ) (i : ℕ) (t : ValType) (n : ℤ) → slice_get ts i ≡ Some t
     → slice_get ns i ≡ Some n → words_in (drop i ts) (drop i ns) ≡ unsigned (bits t) n ∷ words_in (drop (i + 1) ts)
     (drop (i + 1) ns)
-next_word ts ns i t n at_t at_n = ap (λ z. words_in z (drop i ns)) (drop_at ts i t at_t)
-    ∙ ap (words_in (t ∷ drop (i + 1) ts)) (drop_at ns i n at_n)
+next_word ts ns i t n at_t at_n = search (rules, drop_at)
 
 pub word_pushed : (ts : List ValType) (ns : List ℤ) (i : ℕ) (t : ValType) (n : ℤ) (old words : List ℕ) (w : ℕ)
     → slice_get ts i ≡ Some t → slice_get ns i ≡ Some n → w ≡ unsigned (bits t) n → words ≡ old ++ w ∷ []
     → old ++ words_in (drop i ts) (drop i ns) ≡ words_in ts ns
     → words ++ words_in (drop (i + 1) ts) (drop (i + 1) ns) ≡ words_in ts ns
-word_pushed ts ns i t n old words w at_t at_n is pushed h =
-    let later = words_in (drop (i + 1) ts) (drop (i + 1) ns) in
-    ap (λ z. z ++ later) pushed ∙ (append_assoc old (w ∷ []) later ∙ (ap (λ z. old ++ z ∷ later) is ∙ (ap
-    (λ zs. old ++ zs) (sym (next_word ts ns i t n at_t at_n)) ∙ h)))
+word_pushed ts ns i t n old words w at_t at_n is pushed h = search (rules, append_assoc, next_word)
 
 pub words_done : (ts : List ValType) (ns : List ℤ) (i : ℕ) (words : List ℕ) → length ts ≤ i
     → words ++ words_in (drop i ts) (drop i ns) ≡ words_in ts ns → AreWords ts ns words
-words_done ts ns i words all h vs given =
-    words_are ts ns vs given ∙ (sym h ∙ (ap (λ z. words ++ words_in z (drop i ns)) (drop_all ts i all)
-    ∙ append-nil words))
+words_done ts ns i words all h vs given = search (rules, words_are, drop_all, append-nil)
 
 -- ---- of a function of an instance's own
 

@@ -1,6 +1,5 @@
 -- Exports of one name.
-use Rattle.std.proofs.Common.{◌≡◌, ◌≢◌, ℕ, zero, suc, List, [], ◌∷◌, map, Some, None, slice_get, refl, sym, ap, subst, ◌∙◌}
-use Rattle.std.specs.String.{string_bytes}
+use Rattle.std.proofs.Common.{◌≡◌, ◌≢◌, ℕ, zero, suc, List, [], ◌∷◌, map, Some, None, slice_get, refl, sym, ap, subst, ◌∙◌, rules}
 use Rattle.wh_model.specs.declared.ExternKind.{ExternKind}
 use Rattle.wh_model.specs.declared.ExternKind.TheVariants.{Func}
 use Rattle.wh_model.specs.Format.Syntax as model
@@ -30,14 +29,8 @@ same_export : (es : List model.Export) → DifferentNames es → (i j : ℕ) (a 
     → slice_get es j ≡ Some b → a.name ≡ b.name → a ≡ b
 same_export [] d i j a b at bt same = cc
 same_export (e ∷ es) d zero zero a b at bt same = some_same (sym at ∙ bt)
-same_export (e ∷ es) d zero (suc j) a b at bt same =
-    let first : e ≡ a = some_same at in
-    absurd (all_of (λ (other : model.Export). other.name ≢ e.name) es j b d.0 bt
-    (sym same ∙ ap (λ (z : model.Export). z.name) (sym first)))
-same_export (e ∷ es) d (suc i) zero a b at bt same =
-    let first : e ≡ b = some_same bt in
-    absurd (all_of (λ (other : model.Export). other.name ≢ e.name) es i a d.0 at
-    (same ∙ ap (λ (z : model.Export). z.name) (sym first)))
+same_export (e ∷ es) d zero (suc j) a b at bt same = search (rules, some_same, all_of)
+same_export (e ∷ es) d (suc i) zero a b at bt same = search (rules, some_same, all_of)
 same_export (e ∷ es) d (suc i) (suc j) a b at bt same = same_export es d.1 i j a b at bt same
 
 -- ---- what was found
@@ -57,8 +50,7 @@ record_is name other kind index x k n e = cc
 found : (es : List Export) (name : List ℕ) (index : ℕ) → Exports es name index → Found es name index
 found es name index (at, e, there, is, same) = record {
   place = at;
-  exported = mapped_to view_export es at e there
-      ∙ ap Some (record_is name (string_bytes e.name) e.kind index e.index is.0 is.1 same);
+  exported = search (rules, mapped_to, record_is);
 }
 
 -- ---- of a linked module
@@ -94,9 +86,7 @@ named_host l name index d h lacks c inst x type body is = λ u. lacks c inst is 
 
 -- no function is
 pub named_none : (l : LinkedState) (name : List ℕ) → LacksFunc l.valid.decoded.exports.items name → NamesNone l name
-named_none l name lacks c inst x type body is = λ u.
-    let e = mapped_from view_export l.valid.decoded.exports.items u.place _ u.exported in
-    lacks u.place e.0 e.1 (ap (λ (z : model.Export). z.kind) e.2, ap (λ (z : model.Export). z.name) e.2)
+named_none l name lacks c inst x type body is = search (rules, mapped_from)
 
 pub none_only : (l : LinkedState) (name : List ℕ) → NamesNone l name → NamesOnly l name None
 none_only l name lacks c inst x type body is u = absurd (lacks c inst x type body is u)

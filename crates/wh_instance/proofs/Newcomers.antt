@@ -1,11 +1,9 @@
 -- What an instance begins with.
-use Rattle.std.proofs.Common.{◌≡◌, ◌≢◌, Bool, true, false, cond, ℕ, ◌*◌, ◌<◌, ◌≤◌, ◌^◌, List, [], ◌∷◌, ◌++◌, Option, Some, None, length, map, replicate, refl, sym, ap, subst, ◌∙◌, arith}
+use Rattle.std.proofs.Common.{◌≡◌, ◌≢◌, Bool, true, false, cond, ℕ, ◌*◌, ◌<◌, ◌≤◌, ◌^◌, List, [], ◌∷◌, ◌++◌, Option, Some, None, length, map, replicate, refl, sym, ap, subst, ◌∙◌, arith, rules}
 use Rattle.std.proofs.lemmas.List.{length-replicate}
-use Rattle.std.proofs.lemmas.Nat.{mul-le}
 use Rattle.std.specs.Bool.{MatchBool}
 use Rattle.std.specs.List.{AllByRecursion}
 use Rattle.wh_model.specs.Format.Syntax as model
-use Rattle.wh_model.specs.Format.Syntax.{Limits}
 use Rattle.wh_model.specs.Format.{nothing, FuncType, Body, Module}
 use Rattle.wh_model.specs.Validity.{WithinBound, most_pages}
 use Rattle.wh_model.specs.Execution.Store.{Store}
@@ -62,17 +60,8 @@ inits_of (d ∷ segments) = ap (λ z. d.init.items ∷ z) (inits_of segments)
 pub segments_are : (l : LinkedState) (p : Parameters) (begun : Instantiated) (i : Instantiates (view_module l.valid.decoded) p begun) → placed_data l.valid.decoded.segments.items begun.places.items ≡ i.segments
 segments_are l p begun i = placed_are i.segments l.valid.decoded.segments.items begun.places.items i.places (i.bytes ∙ inits_of l.valid.decoded.segments.items)
 
--- they are few
-first_within : (bound : ℕ) (ls : List Limits) → AllByRecursion (WithinBound bound) ls → first_size ls ≤ bound
-first_within bound [] all = omega arith
-first_within bound (l ∷ ls) all = all.0.0
-
 pub few_pieces : (m : Module) (n pieces : ℕ) → AllByRecursion (WithinBound most_pages) m.memories → n ≤ 1024 → pieces ≤ first_size m.memories * 65536 * n → pieces < 2 ^ 64
-few_pieces m n pieces memories few within =
-    let first = first_within most_pages m.memories memories in
-    let bytes = mul-le (first_size m.memories) 65536 65536 65536 first (omega arith) in
-    let all = mul-le (first_size m.memories * 65536) n 4294967296 1024 bytes few in
-    omega (arith, within, all)
+few_pieces m n pieces memories few within = search rules
 
 -- ---- the store
 

@@ -1,5 +1,5 @@
 -- From what a turn comes to, to what the host's definitions say of it.
-use Rattle.std.proofs.Common.{◌≡◌, true, ℕ, ◌+◌, ◌≤◌, List, [], ◌∷◌, Option, Some, None, map, reverse, slice_get, cond, refl, sym, ap, subst, ◌∙◌, arith}
+use Rattle.std.proofs.Common.{◌≡◌, true, ℕ, ◌+◌, ◌≤◌, List, [], ◌∷◌, Option, Some, None, map, reverse, slice_get, refl, sym, ap, subst, ◌∙◌, arith, rules}
 use Rattle.wh_model.specs.declared.ValType.{ValType}
 use Rattle.wh_model.specs.Format.{nothing, FuncType, Body}
 use Rattle.wh_model.specs.Validity.{Context, operand}
@@ -9,14 +9,13 @@ use Rattle.wh_model.specs.Focus.Focused.{Focused}
 use Rattle.wh_model.specs.Focus.{Activation, running, finished, stopped as halted, inside, awaited, plug}
 use Rattle.wh_model.proofs.Taken.{takes_after}
 use Rattle.wh_host_model.specs.Host.{Rest, Doing, resting, computing, store_with, rest_of, Opens, Computes, to_end, out_of_fuel, to_wait, to_go_on, returns, traps, uses_fuel, waits, has_had_its_turn}
-use Rattle.wh_control.specs.Represents.{Func, CallsState, RepresentsCalls, bits_of, result_of, IsFunc}
+use Rattle.wh_control.specs.Represents.{Func, CallsState, RepresentsCalls, bits_of, result_of}
 use Rattle.wh_control.specs.Parts.{ProgramParts, funcs_in, IsInstance}
 use Rattle.wh_control.specs.declared.store.Store as code_store
 use Rattle.wh_control.proofs.Entries.{Callee, of_host, of_module, callee}
 use Rattle.wh_control.proofs.Jumps.{all_at}
 use Rattle.wh_machine.specs.declared.machine.Machine.{Machine}
-use Rattle.wh_machine.specs.Executing.{calls_of, ended_calls}
-use Rattle.wh_machine.specs.MachineRuns.{calls_in, RepresentsInstance, RepresentsMachine}
+use Rattle.wh_machine.specs.MachineRuns.{RepresentsInstance, RepresentsMachine}
 use Rattle.wh_machine.specs.CallStates.{CallState, Setting, RepresentsConfig}
 use Rattle.wh_call.specs.Ends.{HasStoreIn, TakesTo}
 use Rattle.wh_instance.specs.declared.computing.TurnOutcome.{TurnOutcome}
@@ -34,10 +33,7 @@ declared_by p c index type body each (of_host k at is) = absurd (cc is)
 declared_by p c index type body each (of_module g y i at is) = subst (λ (t : FuncType). t.results ≡ operand (result_of t)) (sym (own_type is)) (each y g at)
 
 pub declared_in : (p : ProgramParts) (c : Context) (inst : Instance) (index : ℕ) (type : FuncType) (body : Body) → IsInstance p c inst → slice_get inst.funcs index ≡ Some (own type body) → type.results ≡ operand (result_of type)
-declared_in p c inst index type body is is_own =
-    let program = is.program in
-    declared_by p c index type body (λ y g at. let f = all_at (IsFunc c) (funcs_in p) y g program.each at in f.results)
-    (callee p.hosts (funcs_in p) index (own type body) (ap (λ fs. slice_get fs index) (sym program.funcs_are) ∙ is_own))
+declared_in p c inst index type body is is_own = search (rules, declared_by, all_at, callee)
 
 pub declared : {p : ProgramParts} {k : code_store.Store} {flat : List ℕ} {most : ℕ} {c : Context} {inst : Instance} {s : Store} (index : ℕ) (type : FuncType) (body : Body) → RepresentsInstance p k flat most c inst s → slice_get inst.funcs index ≡ Some (own type body) → type.results ≡ operand (result_of type)
 declared {p} {c = c} {inst = inst} index type body st is_own = declared_in p c inst index type body st.instance is_own
@@ -63,10 +59,7 @@ under_way c funcs out m s (finished s2 vs) some h = absurd (some h.1)
 under_way c funcs out m s (halted s2 x) some h = absurd h
 
 runs_at : {p : ProgramParts} {m : Machine} {k : code_store.Store} {flat : List ℕ} {most : ℕ} {out : Option ValType} {inst : Instance} {cfg : Config} (st : RepresentsMachine p m k flat most out inst cfg) → m.running ≡ true → (t : Term) × (cfg ≡ config st.s [] t)
-runs_at {p} {m} {out = out} st e =
-    let now : (calls_in m).now ≡ (calls_of m.stack).now = ap (λ b. let calls : CallsState = cond b (calls_of m.stack) (ended_calls m.stack) in calls.now) e in
-    let x = under_way st.context (funcs_in p) out (calls_in m) st.s st.focused (λ none. let never = sym now ∙ none in cc never) st.calls in
-    (x.0, st.nested ∙ x.1)
+runs_at {p} {m} {out = out} st e = search rules
 
 -- a store whose memory has these bytes
 with_bytes : (s : Store) (b : List ℕ) → s.bytes ≡ b → s ≡ store_with b (rest_of s)

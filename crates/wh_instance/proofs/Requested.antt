@@ -1,11 +1,11 @@
 -- What the owner's requests leave of an instance.
-use Rattle.std.proofs.Common.{◌≡◌, true, inl, inr, ℕ, ◌+◌, ◌<◌, min, List, [], ◌∷◌, length, suc, Option, Some, None, refl, sym, ap, subst, ◌∙◌, arith}
+use Rattle.std.proofs.Common.{◌≡◌, true, ℕ, ◌+◌, ◌<◌, min, List, [], ◌∷◌, length, suc, Option, Some, None, refl, sym, ap, subst, ◌∙◌, arith, rules}
 use Rattle.std.specs.List.{AllByRecursion}
 use Rattle.wh_model.specs.Execution.Store.{Instance}
 use Rattle.wh_model.specs.Execution.{cancelled}
 use Rattle.wh_space_model.specs.declared.plain.SwapError.{SwapError}
 use Rattle.wh_space_model.specs.{Space}
-use Rattle.wh_host_model.specs.Host.{Rest, Doing, for_fuel, for_device, Tenant, ended_by, Closes, more_fuel, WaitsAfter, Refuels, has_more, Retries, may_try, AwaitsFrame}
+use Rattle.wh_host_model.specs.Host.{Rest, Doing, for_device, Tenant, ended_by, Closes, more_fuel, WaitsAfter, Refuels, has_more, Retries, may_try, AwaitsFrame}
 use Rattle.wh_host_model.specs.{Entry, most_fuel}
 use Rattle.wh_journal.specs.Calls.{JournalCallState, with_more_fuel}
 use Rattle.wh_journal.specs.declared.calls.CallEnd.TheVariants as end
@@ -74,22 +74,7 @@ frame_at (Some (stop.Device fault)) is = absurd (cc is)
 
 pub fails_for : {M : Type 0} (w : Setting M) (x : HostInstanceState) (m : M) (t : Tenant) (fault : SwapError) → waits_at_frame x.waiting_for ≡ true → RepresentsTenant w x m t
     → AwaitsFrame t × RepresentsTenant w (record x { waiting_for = Some (stop.Device fault) }) m (record t { waiting_for = Some (for_device fault) })
-fails_for w x m t fault is rep =
-    let stands = frame_at x.waiting_for is in
-    let y : HostInstanceState = record x { waiting_for = Some (stop.Device fault) } in (
-      rep.waiting_for ∙ ap suspension_of stands,
-      record {
-        store = rep.store;
-        ended = rep.ended;
-        open_calls = rep.open_calls;
-        is_where = is_where_too w x y m t.inst t.rest t.doing t.open_calls refl refl refl refl refl rep.is_where;
-        waiting = rep.waiting;
-        counted = rep.counted;
-        waiting_for = refl;
-        fresh = λ at. let never = sym stands ∙ rep.fresh at in absurd (cc never);
-        dead = rep.dead;
-      },
-    )
+fails_for w x m t fault is rep = search (rules, frame_at, is_where_too)
 
 -- as many calls have ended
 pub as_many_ended : (cs : List JournalCallState) (es : List Entry) → RepresentsEach cs es → length es ≡ length cs
@@ -169,24 +154,15 @@ refuels_to w x m t n c cs stands at fresh rep after =
 -- it has fuel again
 pub refuels_on : {M : Type 0} (w : Setting M) (x : HostInstanceState) (m : M) (t : Tenant) (n : ℕ) (c : JournalCallState) (cs : List JournalCallState) → x.journal.open_calls ≡ c ∷ cs → HasFuelAgain x.waiting_for (with_more_fuel c n) → RepresentsTenant w x m t
     → (t2 : Tenant) × Refuels t n t2 × RepresentsTenant w (record x { journal = record x.journal { open_calls = with_more_fuel c n ∷ cs }; waiting_for = None }) m t2
-refuels_on w x m t n c cs at again rep =
-    refuels_to w x m t n c cs None at (λ is. refl) rep
-    (λ e r.
-    let less : e.call.charges < min (e.call.fuel + n) most_fuel = omega (arith, r.charges, r.fuel, again.1) in
-    let stood : t.waiting_for ≡ Some for_fuel = rep.waiting_for ∙ ap suspension_of again.0 in
-    subst (λ o. WaitsAfter (more_fuel e n).call o None) (sym stood) (inl (less, refl)))
+refuels_on w x m t n c cs at again rep = search (rules, refuels_to, min)
 
 stands_as_before : (stands : Option code.Suspension) (c : JournalCallState) (e : Entry) (n : ℕ) → ¬ (HasFuelAgain stands (with_more_fuel c n)) → RepresentsCall c e → WaitsAfter (more_fuel e n).call (suspension_of stands) (suspension_of stands)
 stands_as_before None c e n none r = refl
 stands_as_before (Some stop.Frame) c e n none r = refl
 stands_as_before (Some (stop.Device fault)) c e n none r = refl
-stands_as_before (Some stop.Fuel) c e n none r =
-    let never : ¬ (c.charges < min (c.fuel + n) most_fuel) = λ some. none (refl, some) in
-    inr (omega (arith, r.charges, r.fuel, never), refl)
+stands_as_before (Some stop.Fuel) c e n none r = search rules
 
 -- or is blocked on what it was blocked on
 pub refuels_still : {M : Type 0} (w : Setting M) (x : HostInstanceState) (m : M) (t : Tenant) (n : ℕ) (c : JournalCallState) (cs : List JournalCallState) → x.journal.open_calls ≡ c ∷ cs → ¬ (HasFuelAgain x.waiting_for (with_more_fuel c n)) → RepresentsTenant w x m t
     → (t2 : Tenant) × Refuels t n t2 × RepresentsTenant w (record x { journal = record x.journal { open_calls = with_more_fuel c n ∷ cs } }) m t2
-refuels_still w x m t n c cs at none rep =
-    refuels_to w x m t n c cs x.waiting_for at rep.fresh rep
-    (λ e r. subst (λ o. WaitsAfter (more_fuel e n).call o (suspension_of x.waiting_for)) (sym rep.waiting_for) (stands_as_before x.waiting_for c e n none r))
+refuels_still w x m t n c cs at none rep = search (rules, refuels_to, stands_as_before)

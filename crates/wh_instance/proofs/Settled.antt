@@ -1,5 +1,5 @@
 -- What a turn leaves, as the code's instance has it and as the host's definitions do.
-use Rattle.std.proofs.Common.{◌≡◌, ◌≢◌, inl, inr, ℕ, zero, suc, ◌+◌, ◌<◌, ◌&&◌, Bool, true, false, cond, List, [], ◌∷◌, length, Option, Some, None, refl, sym, ap, subst, ◌∙◌, arith}
+use Rattle.std.proofs.Common.{◌≡◌, ◌≢◌, inl, inr, ℕ, zero, suc, ◌+◌, ◌<◌, ◌&&◌, Bool, true, false, cond, List, [], ◌∷◌, length, Option, Some, None, refl, sym, ap, subst, ◌∙◌, arith, rules}
 use Rattle.std.specs.Bool.{MatchBool}
 use Rattle.std.specs.List.{AllByRecursion}
 use Rattle.wh_model.specs.declared.memory.Need.{Need}
@@ -51,17 +51,8 @@ not_resting call never (has_had_its_turn a b c d f) is = cc is
 goes_on : {M : Type 0} (w : Setting M) (q : ℕ) (x x1 : HostInstanceState) (m m2 : M) (t : Tenant) (e : Entry) (es : List Entry) (answer : TurnOutcome) (k n : ℕ) (c : JournalCallState) (cs : List JournalCallState) (stands : Option code.Suspension) (o : Option Suspension)
     → RepresentsTenant w x m t → t.open_calls ≡ e ∷ es → x1.journal.ended ≡ x.journal.ended → x1.dead ≡ x.dead → RepresentsCall c e → RepresentsEach cs es → (a : AdvancesTenant w q m t e es answer k n x1 m2) → ((o : Outcome) → a.to ≢ to_end o) → o ≡ suspension_of stands
     → RepresentsTenant w (record x1 { journal = record x1.journal { open_calls = with_progress c k n ∷ cs }; waiting_for = stands }) m2 (gone_on t (gone_further e k n) es a.rest a.doing o)
-goes_on w q x x1 m m2 t e es answer k n c cs stands o rep is_open same_ended same_dead first others a never is = record {
-  store = a.store;
-  ended = subst (λ js. RepresentsEach js t.ended) (sym same_ended) rep.ended;
-  open_calls = (call_goes_on c e k n first, others);
-  is_where = is_where_too w x1 (record x1 { journal = record x1.journal { open_calls = with_progress c k n ∷ cs }; waiting_for = stands }) m2 t.inst a.rest a.doing (gone_further e k n ∷ es) refl refl refl refl refl (a.is_where (not_resting e.call never a.proceeds));
-  waiting = subst (λ os. AllByRecursion (MayBegin t.inst) (behind_first os)) is_open rep.waiting;
-  counted = let all = subst (AllByRecursion IsCounted) is_open rep.counted in let one = all.0 in (record { pieces = a.few_pieces; fuel = one.fuel }, all.1);
-  waiting_for = is;
-  fresh = λ at. absurd (a.begun at);
-  dead = same_dead ∙ rep.dead;
-}
+goes_on w q x x1 m m2 t e es answer k n c cs stands o rep is_open same_ended same_dead first others a never is =
+    search (rules, call_goes_on, is_where_too, not_resting)
 
 -- ---- the whole turn
 
@@ -305,15 +296,9 @@ leaves w q x x1 m m2 t e es came.Again k n c cs still a (to_wait other) goes is 
 -- So a turn is one of the host's definitions, and leaves the instance so.
 pub settles : {M : Type 0} (w : Setting M) (q : ℕ) (x x1 : HostInstanceState) (m m2 : M) (t : Tenant) (e : Entry) (es : List Entry) (answer : TurnOutcome) (k n : ℕ) (c : JournalCallState) (cs : List JournalCallState) (still : Bool) → Advanced w q x x1 m m2 t e es answer k n c cs still
     → TurnsTenant w q m t e es (answered (written_on x1 c cs k n) answer still) n (settled_to (written_on x1 c cs k n) answer still (with_progress c k n) cs) m2
-settles w q x x1 m m2 t e es answer k n c cs still a =
-    let adv = a.advances in
-    record { to = adv.to; pieces = k; rest = adv.rest; doing = adv.doing; proceeds = adv.proceeds; leaves = leaves w q x x1 m m2 t e es answer k n c cs still a adv.to refl adv.is_came }
+settles w q x x1 m m2 t e es answer k n c cs still a = search (rules, leaves)
 
 -- the same of what the code has then
 pub settles_so : {M : Type 0} (w : Setting M) (q : ℕ) (x x1 : HostInstanceState) (m m2 : M) (t : Tenant) (e : Entry) (es : List Entry) (answer : TurnOutcome) (k n : ℕ) (c : JournalCallState) (cs : List JournalCallState) (still : Bool) (j2 : JournalState) (answer2 : TurnResult) (x2 : HostInstanceState) → Advanced w q x x1 m m2 t e es answer k n c cs still
     → j2 ≡ record x1.journal { open_calls = with_progress c k n ∷ cs } → answer2 ≡ answered (record x1 { journal = j2 }) answer still → x2 ≡ settled_to (record x1 { journal = j2 }) answer still (with_progress c k n) cs → TurnsTenant w q m t e es answer2 n x2 m2
-settles_so w q x x1 m m2 t e es answer k n c cs still j2 answer2 x2 a go answered_so left =
-    let h = settles w q x x1 m m2 t e es answer k n c cs still a in
-    let left2 = left ∙ ap (λ (j : JournalState). settled_to (record x1 { journal = j }) answer still (with_progress c k n) cs) go in
-    let answered2 = answered_so ∙ ap (λ (j : JournalState). answered (record x1 { journal = j }) answer still) go in
-    subst (λ z. TurnsTenant w q m t e es z n x2 m2) (sym answered2) (subst (λ z. TurnsTenant w q m t e es (answered (written_on x1 c cs k n) answer still) n z m2) (sym left2) h)
+settles_so w q x x1 m m2 t e es answer k n c cs still j2 answer2 x2 a go answered_so left = search (rules, settles)

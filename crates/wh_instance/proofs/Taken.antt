@@ -1,12 +1,12 @@
 -- Calls that an instance takes, and those that it doesn't.
-use Rattle.std.proofs.Common.{◌≡◌, ◌≢◌, ℕ, suc, ◌-◌, ◌<◌, ◌≤◌, ◌^◌, Bool, true, false, min, List, [], ◌∷◌, ◌++◌, length, map, Some, slice_get, ℤ, refl, sym, ap, subst, ◌∙◌, arith, length-append}
+use Rattle.std.proofs.Common.{◌≡◌, ◌≢◌, ℕ, suc, ◌-◌, ◌<◌, ◌≤◌, ◌^◌, Bool, true, false, min, List, [], ◌∷◌, ◌++◌, length, map, Some, slice_get, ℤ, refl, sym, ap, subst, ◌∙◌, arith, length-append, rules}
 use Rattle.std.specs.List.{AllByRecursion}
 use Rattle.wh_model.specs.Format.{FuncType, Body, Module}
 use Rattle.wh_model.specs.Execution.Store.{Instance}
 use Rattle.wh_model.specs.Execution.{Value, own, bits_of}
 use Rattle.wh_space_model.specs.{Space}
 use Rattle.wh_host_model.specs.Host.{Rest, Doing, Tenant, journal, store_in, Faces, open_count, Meets, IsFirst, TakesCall}
-use Rattle.wh_host_model.specs.{Entry, new_entry, most_open, most_calls, AreArguments, ExportsOwn, InvokeFault, no_export, arguments, queue_full, instance_dead, journal_full, rank}
+use Rattle.wh_host_model.specs.{Entry, new_entry, most_open, most_calls, AreArguments, ExportsOwn, InvokeFault, no_export, arguments, queue_full, instance_dead, journal_full}
 use Rattle.wh_journal.specs.Calls.{JournalCallState, JournalState}
 use Rattle.wh_syntax.specs.View.{view_module}
 use Rattle.wh_imports.specs.LinkedState.{LinkedState}
@@ -30,17 +30,10 @@ each_length (c ∷ cs) [] h = absurd h
 each_length (c ∷ cs) (e ∷ es) h = ap suc (each_length cs es h.1)
 
 pub same_open : {M : Type 0} (w : Setting M) (x : HostInstanceState) (m : M) (t : Tenant) → RepresentsTenant w x m t → open_in x ≡ open_count t
-same_open w x m t rep =
-    let ended = each_length x.journal.ended t.ended rep.ended in
-    let open_calls = each_length x.journal.open_calls t.open_calls rep.open_calls in
-    ap (λ n. length x.journal.open_calls - (1 - min 1 n)) ended ∙ ap (λ n. n - (1 - min 1 (length t.ended))) open_calls
+same_open w x m t rep = search (rules, each_length, min)
 
 pub same_calls : {M : Type 0} (w : Setting M) (x : HostInstanceState) (m : M) (t : Tenant) → RepresentsTenant w x m t → calls_in_journal x ≡ length (journal t)
-same_calls w x m t rep =
-    let ended = each_length x.journal.ended t.ended rep.ended in
-    let open_calls = each_length x.journal.open_calls t.open_calls rep.open_calls in
-    let all = length-append t.ended t.open_calls in
-    omega (arith, ended, open_calls, all)
+same_calls w x m t rep = search (rules, each_length, length-append)
 
 -- ---- a new call
 
@@ -49,16 +42,7 @@ all_joins P [] ys a b = b
 all_joins P (x ∷ xs) ys a b = (a.0, all_joins P xs ys a.1 b)
 
 may_begin : (inst : Instance) (func : ℕ) (type : FuncType) (body : Body) (vs : List Value) (given : List ℤ) (fuel : ℕ) → slice_get inst.funcs func ≡ Some (own type body) → AreArguments type.params given vs → MayBegin inst (new_entry func vs given fuel)
-may_begin inst func type body vs given fuel is_own fits = record {
-  index = func;
-  type = type;
-  body = body;
-  calls = refl;
-  is_own = is_own;
-  types = types_of type.params given vs fits;
-  fit = all_fit type.params given vs fits;
-  waits = record { outcome = refl; fragments = refl; charges = refl };
-}
+may_begin inst func type body vs given fuel is_own fits = search (rules, types_of, all_fit)
 
 at_rest : {M : Type 0} (w : Setting M) (x : HostInstanceState) (m : M) (inst : Instance) (r : Rest) (d : Doing) → IsWhere w x m inst r d [] → x.progress ≡ Faced
 at_rest w x m inst r d (rests at) = at
@@ -105,11 +89,9 @@ pub takes_call : {M : Type 0} (w : Setting M) (x : HostInstanceState) (m : M) (t
 takes_call w x m t s mod_ name given fuel at func type body vs words j rep exports fits are_words counted room place pushed =
     let e = new_entry func vs given fuel in
     let may = may_begin t.inst func type body vs given fuel exports.is_own fits in
-    let y = with_journal x j in
-    let k = joined w x y m t s e refl refl refl refl refl rep may t.open_calls refl in
+    let k = joined w x (with_journal x j) m t s e refl refl refl refl refl rep may t.open_calls refl in
     let few_open = room.few_open in
     let few_calls = room.few_calls in
-    let opens = same_open w x m t rep in
     let calls = same_calls w x m t rep in
     let call : RepresentsCall (new_call func given words fuel) e = record { func = refl; given = refl; words = are_words; fuel = refl; pieces = refl; charges = refl; end = tt } in
     let each : RepresentsEach (x.journal.open_calls ++ new_call func given words fuel ∷ []) (t.open_calls ++ e ∷ []) = each_joins x.journal.open_calls t.open_calls (new_call func given words fuel ∷ []) (e ∷ []) rep.open_calls (call, tt) in
@@ -124,7 +106,7 @@ takes_call w x m t s mod_ name given fuel at func type body vs words j rep expor
         exports = exports;
         fits = fits;
         can_count = omega (arith, counted);
-        few_open = omega (arith, opens, few_open);
+        few_open = omega (arith, same_open w x m t rep, few_open);
         alive = sym rep.dead ∙ room.alive;
         few_calls = omega (arith, calls, few_calls);
         place = place ∙ calls;
@@ -148,57 +130,22 @@ takes_call w x m t s mod_ name given fuel at func type body vs words j rep expor
 -- ---- the first fault
 
 pub first_export : (mod_ : Module) (t : Tenant) (name : List ℕ) (given : List ℤ) → Meets mod_ t name given no_export → IsFirst mod_ t name given no_export
-first_export mod_ t name given is = (is, before)
-  where
-    before : (other : InvokeFault) → rank other < 2 → ¬ (Meets mod_ t name given other)
-    before no_export lt met = omega (arith, lt)
-    before arguments lt met = omega (arith, lt)
-    before queue_full lt met = omega (arith, lt)
-    before instance_dead lt met = omega (arith, lt)
-    before journal_full lt met = omega (arith, lt)
+first_export mod_ t name given is = search rules
 
 pub first_arguments : (mod_ : Module) (t : Tenant) (name : List ℕ) (given : List ℤ) → ¬ (Meets mod_ t name given no_export) → Meets mod_ t name given arguments → IsFirst mod_ t name given arguments
-first_arguments mod_ t name given a is = (is, before)
-  where
-    before : (other : InvokeFault) → rank other < 3 → ¬ (Meets mod_ t name given other)
-    before no_export lt met = a met
-    before arguments lt met = omega (arith, lt)
-    before queue_full lt met = omega (arith, lt)
-    before instance_dead lt met = omega (arith, lt)
-    before journal_full lt met = omega (arith, lt)
+first_arguments mod_ t name given a is = search rules
 
 pub first_queue : (mod_ : Module) (t : Tenant) (name : List ℕ) (given : List ℤ) → ¬ (Meets mod_ t name given no_export) → ¬ (Meets mod_ t name given arguments) → most_open ≤ open_count t → IsFirst mod_ t name given queue_full
-first_queue mod_ t name given a b is = (is, before)
-  where
-    before : (other : InvokeFault) → rank other < 4 → ¬ (Meets mod_ t name given other)
-    before no_export lt met = a met
-    before arguments lt met = b met
-    before queue_full lt met = omega (arith, lt)
-    before instance_dead lt met = omega (arith, lt)
-    before journal_full lt met = omega (arith, lt)
+first_queue mod_ t name given a b is = search rules
 
 pub first_dead : (mod_ : Module) (t : Tenant) (name : List ℕ) (given : List ℤ) → ¬ (Meets mod_ t name given no_export) → ¬ (Meets mod_ t name given arguments) → open_count t < most_open → t.dead ≡ true → IsFirst mod_ t name given instance_dead
-first_dead mod_ t name given a b few is = (is, before)
-  where
-    before : (other : InvokeFault) → rank other < 5 → ¬ (Meets mod_ t name given other)
-    before no_export lt met = a met
-    before arguments lt met = b met
-    before queue_full lt met = omega (arith, few, met)
-    before instance_dead lt met = omega (arith, lt)
-    before journal_full lt met = omega (arith, lt)
+first_dead mod_ t name given a b few is = search rules
 
 not_both : (b : Bool) → b ≡ true → b ≡ false → ⊥
 not_both b t f = let never = sym t ∙ f in cc never
 
 pub first_journal : (mod_ : Module) (t : Tenant) (name : List ℕ) (given : List ℤ) → ¬ (Meets mod_ t name given no_export) → ¬ (Meets mod_ t name given arguments) → open_count t < most_open → t.dead ≡ false → most_calls ≤ length (journal t) → IsFirst mod_ t name given journal_full
-first_journal mod_ t name given a b few alive is = (is, before)
-  where
-    before : (other : InvokeFault) → rank other < 6 → ¬ (Meets mod_ t name given other)
-    before no_export lt met = a met
-    before arguments lt met = b met
-    before queue_full lt met = omega (arith, few, met)
-    before instance_dead lt met = not_both t.dead met alive
-    before journal_full lt met = omega (arith, lt)
+first_journal mod_ t name given a b few alive is = search rules
 
 pub none_met : (mod_ : Module) (t : Tenant) (name : List ℕ) (given : List ℤ) → ¬ (Meets mod_ t name given no_export) → ¬ (Meets mod_ t name given arguments) → open_count t < most_open → t.dead ≡ false → length (journal t) < most_calls → (fault : InvokeFault) → ¬ (Meets mod_ t name given fault)
 none_met mod_ t name given a b few alive calls no_export met = a met
@@ -210,9 +157,7 @@ none_met mod_ t name given a b few alive calls journal_full met = omega (arith, 
 -- ---- of a linked module
 
 pub refuses_export : (l : LinkedState) (x : HostInstanceState) (name : List ℕ) (given : List ℤ) → NamesNone l name → RefusesInvoke l x name given NoExport
-refuses_export l x name given none limit bytes t s rep sees =
-    let (c, st) = rep.store in
-    first_export (view_module l.valid.decoded) t name given (λ y type body e. none c t.inst y type body st.instance e)
+refuses_export l x name given none limit bytes t s rep sees = search (rules, first_export)
 
 same_func : {x y : ℕ} → Some x ≡ Some y → x ≡ y
 same_func e = cc e

@@ -1,5 +1,5 @@
 -- What is told of a call is how far it is.
-use Rattle.std.proofs.Common.{◌≡◌, ℕ, zero, suc, ◌<◌, ◌≤◌, inl, inr, Bool, true, false, List, [], ◌∷◌, ◌++◌, length, map, reverse, slice_get, nat_lt, Option, Some, None, refl, sym, ap, subst, ◌∙◌, arith}
+use Rattle.std.proofs.Common.{◌≡◌, ℕ, zero, suc, ◌<◌, ◌≤◌, Bool, true, false, List, [], ◌∷◌, ◌++◌, length, map, reverse, slice_get, nat_lt, Option, Some, None, refl, sym, ap, subst, ◌∙◌, arith, rules}
 use Rattle.std.specs.List.{AllByRecursion}
 use Rattle.std.proofs.lemmas.Bool.{cases_lt, le-ltb, lt-ltb}
 use Rattle.wh_model.specs.declared.ValType.{ValType}
@@ -73,8 +73,7 @@ value_told l f n of types c inst call vs is func typed e =
 -- what a type declares, by the code's
 pub first_declared : (l : LinkedState) (func : ℕ) (found : FuncType) (o : Option ValType) → IsOwnType l func found → o ≡ slice_get found.results 0 → (c : Context) (inst : Instance) (type : FuncType) (body : Body) → IsInstanceOf l c inst → slice_get inst.funcs func ≡ Some (own type body) → o ≡ slice_get type.results 0
 first_declared l func found o has first c inst type body is at =
-    let h = has c inst is in
-    let there = h.1 in
+    let there = (has c inst is).1 in
     let same : found ≡ type = cc in
     first ∙ ap (λ (t : FuncType). slice_get t.results 0) same
 
@@ -194,19 +193,13 @@ open_all_typed inst (e ∷ es) h = (pending_typed inst e h.0.open_yet, open_all_
 
 typed_ones : {m : Module} {inst : Instance} {died : Bool} {ended os : List Entry} → InOrder m inst died ended os → AllByRecursion (IsTypedEntry inst) (ended ++ os)
 typed_ones {inst = inst} (is_starting {e = e} {es = es} start yet rest) = (pending_typed inst e yet, open_all_typed inst es rest)
-typed_ones {inst = inst} (has_started {e = e} {es = es} {os = os} start h well typed ended rest) =
-    (typed, all_join (IsTypedEntry inst) es os (all_typed inst es ended) (open_all_typed inst os rest))
-typed_ones {inst = inst} (has_died {e = e} {es = es} start h failed rest) =
-    (failed_typed inst e.call e.call.outcome failed, all_join (IsTypedEntry inst) es [] (dead_all_typed inst es rest) tt)
+typed_ones {inst = inst} (has_started {e = e} {es = es} {os = os} start h well typed ended rest) = search (rules, all_join, all_typed, open_all_typed)
+typed_ones {inst = inst} (has_died {e = e} {es = es} start h failed rest) = search (rules, failed_typed, all_join, dead_all_typed)
 
 -- ---- what is told of it
 
 waits_by : (m : Module) (t : Tenant) (e : Entry) (at ended : ℕ) → InOrder m t.inst t.dead t.ended t.open_calls → ended ≡ length t.ended → slice_get (journal t) at ≡ Some e → waits_at (journal t) at ≡ nat_lt ended at
-waits_by m t e at ended order many is =
-    elim (cases_lt ended at) [
-      | inl less ↦ one_before t.ended t.open_calls at e (closed_ones order) (open_ones order) (omega (arith, less, many)) is ∙ sym (lt-ltb ended at less)
-      | inr past ↦ none_before t.ended t.open_calls at (closed_ones order) (omega (arith, past, many)) ∙ sym (le-ltb ended at past)
-    ]
+waits_by m t e at ended order many is = search (rules, cases_lt, one_before, closed_ones, open_ones, lt-ltb, none_before, le-ltb)
 
 -- it is told so, where it waits exactly behind those that have ended
 pub told_at : (l : LinkedState) (x : HostInstanceState) (at ended : ℕ) (c : JournalCallState) (status : CallStatus) → slice_get (x.journal.ended ++ x.journal.open_calls) at ≡ Some c → ended ≡ length x.journal.ended → IsEntryTold l c (nat_lt ended at) x.waiting_for status → TellsCall l x at (Some status)
@@ -221,5 +214,4 @@ told_at l x at ended c status is many says limit bytes m t rep order =
     (e, found.1, subst (λ b. IsCallStatus status b t.waiting_for e.call) (sym waits) (subst (λ o. IsCallStatus status (nat_lt ended at) o e.call) (sym rep.waiting_for) told))
 
 pub none_told : (l : LinkedState) (x : HostInstanceState) (at : ℕ) → slice_get (x.journal.ended ++ x.journal.open_calls) at ≡ None → TellsCall l x at None
-none_told l x at none limit bytes m t rep order =
-    no_entry_at (x.journal.ended ++ x.journal.open_calls) (journal t) at (join_each x.journal.ended x.journal.open_calls t.ended t.open_calls rep.ended rep.open_calls) none
+none_told l x at none limit bytes m t rep order = search (rules, no_entry_at, join_each)

@@ -1,5 +1,5 @@
 -- Pieces that are written, one after the other.
-use Rattle.std.proofs.Common.{◌≡◌, ℕ, ◌+◌, ◌≤◌, List, [], ◌∷◌, ◌++◌, length, sym, ap, subst, ◌∙◌, arith, length-append, append_assoc, append-nil}
+use Rattle.std.proofs.Common.{◌≡◌, ℕ, ◌+◌, ◌≤◌, List, [], ◌∷◌, ◌++◌, length, sym, ap, ◌∙◌, arith, length-append, append_assoc, rules}
 use Rattle.std.specs.List.{AllByRecursion}
 use Rattle.wh_model.specs.declared.memory.Need.{Need}
 use Rattle.wh_model.specs.Execution.{Piece, Within, written, Writes, wrote_all, wrote}
@@ -28,12 +28,8 @@ all_behind P (p ∷ front) left all = all_behind P front left all.1
 
 -- it ends within the memory
 pub next_within : (size : ℕ) (before front left rest : List Piece) (p : Piece) → Within size before → before ≡ front ++ left → left ≡ p ∷ rest → p.at + length p.items ≤ size
-next_within size before front left rest p within is next =
-    let all = all_behind (λ q. q.at + length q.items ≤ size) front (p ∷ rest) (subst (Within size) (is ∙ ap (λ z. front ++ z) next) within) in
-    all.0
+next_within size before front left rest p within is next = search (rules, all_behind)
 
 -- all of them, where none is left
 pub all_written : {M : Type 0} (bytes : M → List ℕ) (ready : M → Need → Type 0) (keeps : M → M → Type 0) (before left : List Piece) (m m2 : M) (n : ℕ) → HasWritten bytes ready keeps before m n left m2 → left ≡ [] → (n ≡ length before) × Writes bytes ready keeps m before m2
-all_written bytes ready keeps before left m m2 n (front, is, size, writes) none =
-    let same : before ≡ front = is ∙ ap (λ z. front ++ z) none ∙ append-nil front in
-    (size ∙ ap length (sym same), subst (λ ps. Writes bytes ready keeps m ps m2) (sym same) writes)
+all_written bytes ready keeps before left m m2 n (front, is, size, writes) none = search rules

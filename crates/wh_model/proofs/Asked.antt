@@ -1,11 +1,11 @@
 -- What the focused form asks for is what its nested configuration asks for; that is one need at most, and none where it traps.
-use Rattle.std.proofs.Common.{◌≡◌, ℕ, List, [], ◌∷◌, subst, arith, inl, inr, slice_get, Some}
+use Rattle.std.proofs.Common.{◌≡◌, ℕ, List, [], ◌∷◌, inl, inr, rules}
 use Rattle.wh_model.specs.declared.Trap.{Trap}
 use Rattle.wh_model.specs.declared.host.HostFunc.TheVariants.{Input, Put, Emit}
 use Rattle.wh_model.specs.declared.memory.Need.{Need}
 use Rattle.wh_model.specs.Format.{Op, unreachable, nop, br, br_if, br_table, return, call, call_indirect, drop_operand, select, local_get, local_set, local_tee, global_get, global_set, load, store, memory_size, memory_grow, i32_const, i64_const, test, comparison, unary, binary, conversion, Code, nothing, plain, block, loop, if_then, if_else}
 use Rattle.wh_model.specs.Execution.Store.{Instance, Store}
-use Rattle.wh_model.specs.Execution.{Value, FuncInst, own, host, signature, Term, code, label, frame, config, trapped, CallAsks, OpAsks, CodeAsks, TermAsks, Asks}
+use Rattle.wh_model.specs.Execution.{Value, FuncInst, own, host, Term, code, label, frame, config, trapped, CallAsks, OpAsks, CodeAsks, TermAsks, Asks}
 use Rattle.wh_model.specs.Focus.{Label, Activation, running, stopped, inside, awaited, plug, CallStep, OpStep, CodeStep, Steps}
 use Rattle.wh_model.specs.Laws.{OneNeed}
 
@@ -33,31 +33,11 @@ asks_now inst s a ws need h = inside_back inst s need (code a.operands a.code) a
 
 -- ---- one need
 
-call_one : (s : Store) (h : FuncInst) (vs : List Value) (x y : Need) → CallAsks s h vs x → CallAsks s h vs y → x ≡ y
-call_one s (own type body) vs x y p q = absurd p
-call_one s (host Input) vs x y p q = absurd p
-call_one s (host Put) vs x y p q = absurd p
-call_one s (host Emit) vs x y (i, n, rest, e, few, within, room, is) (j, k, others, d, few2, within2, room2, is2) =
-    let same : i ≡ j = cc (e, d) in
-    let many : n ≡ k = cc (e, d) in
-    cc (is, is2, same, many)
-
 op_one : (inst : Instance) (s : Store) (op : Op) (vs : List Value) (x y : Need) → OpAsks inst s op vs x → OpAsks inst s op vs y → x ≡ y
-op_one inst s (load op align offset) vs x y (i, rest, e, within, is) (j, others, d, within2, is2) =
-    let same : i ≡ j = cc (e, d) in
-    cc (is, is2, same)
-op_one inst s (store op align offset) vs x y (v, i, rest, e, within, is) (w, j, others, d, within2, is2) =
-    let same : i ≡ j = cc (e, d) in
-    cc (is, is2, same)
-op_one inst s (call f) vs x y (h, at, asks) (k, at2, asks2) =
-    let same : k ≡ h = cc (at, at2) in
-    call_one s h vs x y asks (subst (λ z. CallAsks s z vs y) same asks2)
-op_one inst s (call_indirect t) vs x y (i, f, h, rest, e, entry, at, type, asks) (j, g, k, others, d, entry2, at2, type2, asks2) =
-    let index : j ≡ i = cc (e, d) in
-    let args : others ≡ rest = cc (e, d) in
-    let func : g ≡ f = cc (entry, entry2, index) in
-    let same : k ≡ h = cc (at, at2, func) in
-    call_one s h rest x y asks (subst (λ z. CallAsks s z rest y) same (subst (λ z. CallAsks s k z y) args asks2))
+op_one inst s (load op align offset) vs x y (i, rest, e, within, is) (j, others, d, within2, is2) = search rules
+op_one inst s (store op align offset) vs x y (v, i, rest, e, within, is) (w, j, others, d, within2, is2) = search rules
+op_one inst s (call f) vs x y (h, at, asks) (k, at2, asks2) = search rules
+op_one inst s (call_indirect t) vs x y (i, f, h, rest, e, entry, at, type, asks) (j, g, k, others, d, entry2, at2, type2, asks2) = search rules
 op_one inst s unreachable vs x y p q = absurd p
 op_one inst s nop vs x y p q = absurd p
 op_one inst s (br l) vs x y p q = absurd p
@@ -104,48 +84,24 @@ call_stops : (s : Store) (h : FuncInst) (a : Activation) (vs : List Value) (is :
 call_stops s (own type body) a vs is ws need x asks step = asks
 call_stops s (host Input) a vs is ws need x asks step = asks
 call_stops s (host Put) a vs is ws need x asks step = asks
-call_stops s (host Emit) a vs is ws need x (i, n, rest, e, few, within, room, same) (j, k, others, d, inl (long, to)) =
-    let many : n ≡ k = cc (e, d) in
-    omega (arith, few, long, many)
-call_stops s (host Emit) a vs is ws need x (i, n, rest, e, few, within, room, same) (j, k, others, d, inr (inl (few2, beyond, to))) =
-    let many : n ≡ k = cc (e, d) in
-    let first : i ≡ j = cc (e, d) in
-    omega (arith, within, beyond, many, first)
+call_stops s (host Emit) a vs is ws need x (i, n, rest, e, few, within, room, same) (j, k, others, d, inl (long, to)) = search rules
+call_stops s (host Emit) a vs is ws need x (i, n, rest, e, few, within, room, same) (j, k, others, d, inr (inl (few2, beyond, to))) = search rules
 call_stops s (host Emit) a vs is ws need x (i, n, rest, e, few, within, room, same) (j, k, others, d, inr (inr (inl (few2, within2, full, to)))) =
-    let many : n ≡ k = cc (e, d) in
-    omega (arith, room, full, many)
+    search rules
 call_stops s (host Emit) a vs is ws need x (i, n, rest, e, few, within, room, same) (j, k, others, d, inr (inr (inr (few2, within2, room2, to)))) = cc
 
 op_stops : (inst : Instance) (s : Store) (op : Op) (a : Activation) (is : Code) (ws : List Activation) (need : Need) (x : Trap) → OpAsks inst s op a.operands need → OpStep inst op s a is ws (stopped s x) → ⊥
 op_stops inst s (load op align offset) a is ws need x (i, rest, e, within, same) (j, others, d, inl (within2, to)) = cc
-op_stops inst s (load op align offset) a is ws need x (i, rest, e, within, same) (j, others, d, inr (beyond, to)) =
-    let first : i ≡ j = cc (e, d) in
-    omega (arith, within, beyond, first)
+op_stops inst s (load op align offset) a is ws need x (i, rest, e, within, same) (j, others, d, inr (beyond, to)) = search rules
 op_stops inst s (store op align offset) a is ws need x (v, i, rest, e, within, same) (j, n, others, d, inl (within2, to)) = cc
-op_stops inst s (store op align offset) a is ws need x (v, i, rest, e, within, same) (j, n, others, d, inr (beyond, to)) =
-    let first : i ≡ j = cc (e, d) in
-    omega (arith, within, beyond, first)
-op_stops inst s (call f) a is ws need x (h, at, asks) (k, at2, step) =
-    let same : k ≡ h = cc (at, at2) in
-    call_stops s h a a.operands is ws need x asks (subst (λ z. CallStep z s a a.operands is ws (stopped s x)) same step)
-op_stops inst s (call_indirect t) a is ws need x (i, f, h, rest, e, entry, at, type, asks) (j, others, d, inl (none, to)) =
-    let index : j ≡ i = cc (e, d) in
-    cc (entry, none, index)
-op_stops inst s (call_indirect t) a is ws need x (i, f, h, rest, e, entry, at, type, asks) (j, others, d, inr (inl (empty, to))) =
-    let index : j ≡ i = cc (e, d) in
-    cc (entry, empty, index)
+op_stops inst s (store op align offset) a is ws need x (v, i, rest, e, within, same) (j, n, others, d, inr (beyond, to)) = search rules
+op_stops inst s (call f) a is ws need x (h, at, asks) (k, at2, step) = search rules
+op_stops inst s (call_indirect t) a is ws need x (i, f, h, rest, e, entry, at, type, asks) (j, others, d, inl (none, to)) = search rules
+op_stops inst s (call_indirect t) a is ws need x (i, f, h, rest, e, entry, at, type, asks) (j, others, d, inr (inl (empty, to))) = search rules
 op_stops inst s (call_indirect t) a is ws need x (i, f, h, rest, e, entry, at, type, asks) (j, others, d, inr (inr (g, k, entry2, at2, inl (type2, step)))) =
-    let index : j ≡ i = cc (e, d) in
-    let args : others ≡ rest = cc (e, d) in
-    let func : g ≡ f = cc (entry, entry2, index) in
-    let same : k ≡ h = cc (at, at2, func) in
-    call_stops s h a rest is ws need x asks (subst (λ z. CallStep z s a rest is ws (stopped s x)) same (subst (λ z. CallStep k s a z is ws (stopped s x)) args step))
+    search rules
 op_stops inst s (call_indirect t) a is ws need x (i, f, h, rest, e, entry, at, type, asks) (j, others, d, inr (inr (g, k, entry2, at2, inr (type2, there, other, to)))) =
-    let index : j ≡ i = cc (e, d) in
-    let func : g ≡ f = cc (entry, entry2, index) in
-    let same : h ≡ k = cc (at, at2, func) in
-    let named = subst (λ z. slice_get inst.types t ≡ Some (signature z)) same type in
-    other (cc (there, named))
+    search rules
 op_stops inst s unreachable a is ws need x asks step = asks
 op_stops inst s nop a is ws need x asks step = asks
 op_stops inst s (br l) a is ws need x asks step = asks

@@ -1,12 +1,11 @@
 -- Every valid module that links begins.
-use Rattle.std.proofs.Common.{◌≡◌, ◌⊎◌, inl, inr, ⊎_elim, ℕ, ◌+◌, ◌*◌, List, [], ◌∷◌, ◌++◌, length, map, Option, Some, None, option_map, slice_get, refl, sym, ap, subst, ◌∙◌, arith}
+use Rattle.std.proofs.Common.{◌≡◌, ◌⊎◌, inl, inr, ⊎_elim, ℕ, ◌+◌, ◌*◌, List, [], ◌∷◌, ◌++◌, length, map, Option, Some, None, option_map, slice_get, refl, sym, ap, subst, ◌∙◌, arith, rules}
 use Rattle.std.proofs.lemmas.Bool.{cases_lt}
 use Rattle.std.proofs.lemmas.List.{map-append}
 use Rattle.std.proofs.lemmas.Option.{slice_get-map}
 use Rattle.std.specs.List.{AllByRecursion}
 use Rattle.wh_model.specs.declared.ValType.{ValType}
 use Rattle.wh_model.specs.declared.ValType.TheVariants.{I32, I64}
-use Rattle.wh_model.specs.declared.Mutability.TheVariants.{Const}
 use Rattle.wh_model.specs.Format.{Code, FuncType, GlobalType, Import, of_global, Global, Element, Data, Body}
 use Rattle.wh_model.specs.Execution.{unsigned, Value, value, type_of, FuncInst, own, host, Parameters, ImportsGlobal, Imported, Defined, Evaluates, Begun, Piece, Placed, Within, first_size, last_size, Prepares, memory_min, segment_bounds, needs_more, out_of_bounds, in_bounds}
 use Rattle.wh_model.specs.Validity.{Context, ConstantOf, ValidGlobal, ValidElement, ValidData, ValidBodies, global_first, imported_globals}
@@ -75,9 +74,7 @@ value_at vs gs x g are at =
 evaluates_of : (vs : List Value) (gs : List GlobalType) (e : Code) (t : ValType) → AreOf vs gs → ConstantOf gs e t → (v : Value) × Evaluates vs e v × (type_of v ≡ t)
 evaluates_of vs gs e t are (inl (n, is, type)) = (value I32 (unsigned 32 n), inl (n, is, refl), sym type)
 evaluates_of vs gs e t are (inr (inl (n, is, type))) = (value I64 (unsigned 64 n), inr (inl (n, is, refl)), sym type)
-evaluates_of vs gs e t are (inr (inr (x, is, at))) =
-    let v = value_at vs gs x (record { value = t; mutability = Const }) are at in
-    (v.0, inr (inr (x, is, v.1)), v.2)
+evaluates_of vs gs e t are (inr (inr (x, is, at))) = search (rules, value_at)
 
 begun_of : (imports : List Import) (vs : List Value) (gs : List Global) → AreOf vs (imported_globals imports) → AllByRecursion (ValidGlobal imports) gs → (ws : List Value) × Begun vs gs ws × AreOf ws (map (λ g. g.type) gs)
 begun_of imports vs [] are all = ([], refl, refl)
@@ -127,29 +124,12 @@ unfolding Valid
 some_beginning m p (c, valid) links =
     let imports = imports_of m.types p m.imports links in
     let owns = defined_of c m.types m.funcs m.bodies valid.context.types valid.bodies in
-    let begun = begun_of m.imports imports.values m.globals imports.are_of valid.globals in
-    let globals = imports.values ++ begun.0 in
-    let are : AreOf globals c.globals = map-append type_of imports.values begun.0 ∙ ap (λ ts. ts ++ map type_of begun.0) imports.are_of
-    ∙ ap (λ ts. map (λ (g : GlobalType). g.value) (imported_globals m.imports) ++ ts) begun.2 ∙ sym (map-append (λ (g : GlobalType). g.value) (imported_globals m.imports) (map (λ g. g.type) m.globals))
-    ∙ ap (λ gs. map (λ (g : GlobalType). g.value) gs) (sym valid.context.globals) in
+    let globals = imports.values ++ (begun_of m.imports imports.values m.globals imports.are_of valid.globals).0 in
+    let are : AreOf globals c.globals = search (rules, map-append) in
     let elements = placed_of globals c.globals (map (λ e. (e.offset, e.init)) m.elements) are (element_offsets c m.elements valid.elements) in
     let segments = placed_of globals c.globals (map (λ d. (d.offset, d.init)) m.segments) are (data_offsets c m.segments valid.segments) in
     let inst : Instance = record { types = m.types; funcs = imports.funcs ++ owns.0; page_limit = last_size m.memories p.page_limit } in
-    let prepares : Prepares m p inst globals elements.0 segments.0 = record {
-      types = refl;
-      page_limit = refl;
-      hosts = imports.funcs;
-      owns = owns.0;
-      imported = imports.values;
-      begun = begun.0;
-      imports = imports.imported;
-      defines = owns.1;
-      funcs = refl;
-      begins = begun.1;
-      globals_are = refl;
-      elements_at = elements.1;
-      segments_at = segments.1;
-    } in
+    let prepares : Prepares m p inst globals elements.0 segments.0 = search rules in
     ⊎_elim
     (λ few. (memory_min, needs_more few))
     (λ enough. ⊎_elim

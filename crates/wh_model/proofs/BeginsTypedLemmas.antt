@@ -1,5 +1,5 @@
 -- A valid module begins with an instance and a store of its types.
-use Rattle.std.proofs.Common.{◌≡◌, ℕ, suc, ◌+◌, ◌*◌, ◌%◌, ◌==◌, ◌≤◌, inl, inr, Bool, true, false, List, [], ◌∷◌, ◌++◌, length, map, replicate, Option, Some, None, slice_get, refl, sym, ap, subst, arith, ◌∙◌, if◌then◌else◌, length-append, length-take, length-drop}
+use Rattle.std.proofs.Common.{◌≡◌, ℕ, suc, ◌+◌, ◌*◌, ◌%◌, ◌==◌, ◌≤◌, inl, inr, Bool, true, false, List, [], ◌∷◌, ◌++◌, length, map, replicate, Option, Some, None, slice_get, refl, sym, ap, subst, arith, ◌∙◌, if◌then◌else◌, length-append, length-take, length-drop, rules}
 use Rattle.std.proofs.lemmas.List.{length-replicate, map-append}
 use Rattle.std.proofs.lemmas.Option.{slice_get-map}
 use Rattle.std.specs.List.{AllByRecursion}
@@ -33,11 +33,9 @@ named_all : (types : List FuncType) (p : Parameters) (is : List Import) (xs : Li
     (bs : List Body) (hosts owns : List FuncInst) (vs : List Value)
     → Name types (imported_funcs is ++ xs) fs → Imported types p is hosts vs → Defined types xs bs owns
     → map signature (hosts ++ owns) ≡ fs
-named_all types p [] xs fs bs hosts owns vs n i d =
-    ap (λ hs. map signature (hs ++ owns)) i.0 ∙ named_owns types xs fs bs owns n d
+named_all types p [] xs fs bs hosts owns vs n i d = search (rules, named_owns)
 named_all types p (i ∷ is) xs fs bs hosts owns vs n (inl (h, rest, imports, hosts_are, more)) d =
-    let found : Name types (imports.2 ∷ imported_funcs is ++ xs) fs =
-    subst (λ w. Name types (func_first w (imported_funcs is) ++ xs) fs) imports.3 n in
+    let found : Name types (imports.2 ∷ imported_funcs is ++ xs) fs = search rules in
     let same : signature (host h) ≡ found.0 = let there = sym imports.4 ∙ found.3 in cc there in
     ap (λ hs. map signature (hs ++ owns)) hosts_are ∙ ap (λ t. t ∷ map signature (rest ++ owns)) same
     ∙ ap (λ ts. found.0 ∷ ts) (named_all types p is xs found.1 bs rest owns vs found.4 more d) ∙ sym found.2
@@ -75,13 +73,11 @@ owns_typed c types (x ∷ xs) bs owns e (b, rest, is, f, at, body, more)
 
 evaluates_typed : (vs : List Value) (gs : List GlobalType) (e : Code) (t : ValType) (v : Value)
     → AreOfTypes vs (map (λ g. g.value) gs) → ConstantOf gs e t → Evaluates vs e v → IsOfType t v
-evaluates_typed vs gs e t v h (inl (n, is, type)) (inl (k, at, same)) =
-    subst (IsOfType t) (sym same) (sym type, unsigned-lt 32 k)
+evaluates_typed vs gs e t v h (inl (n, is, type)) (inl (k, at, same)) = search (rules, unsigned-lt)
 evaluates_typed vs gs e t v h (inl (n, is, type)) (inr (inl (k, at, same))) = absurd (cc (is, at))
 evaluates_typed vs gs e t v h (inl (n, is, type)) (inr (inr (k, at, same))) = absurd (cc (is, at))
 evaluates_typed vs gs e t v h (inr (inl (n, is, type))) (inl (k, at, same)) = absurd (cc (is, at))
-evaluates_typed vs gs e t v h (inr (inl (n, is, type))) (inr (inl (k, at, same))) =
-    subst (IsOfType t) (sym same) (sym type, unsigned-lt 64 k)
+evaluates_typed vs gs e t v h (inr (inl (n, is, type))) (inr (inl (k, at, same))) = search (rules, unsigned-lt)
 evaluates_typed vs gs e t v h (inr (inl (n, is, type))) (inr (inr (k, at, same))) = absurd (cc (is, at))
 evaluates_typed vs gs e t v h (inr (inr (n, is, type))) (inl (k, at, same)) = absurd (cc (is, at))
 evaluates_typed vs gs e t v h (inr (inr (n, is, type))) (inr (inl (k, at, same))) = absurd (cc (is, at))
@@ -178,12 +174,7 @@ HasByteItems q = AllByRecursion IsByte q.items
 onto_bytes : (at b : ℕ) (ps : List Piece) → IsByte b → AllByRecursion HasByteItems ps
     → AllByRecursion HasByteItems (onto_piece at b ps)
 onto_bytes at b [] h all = ((h, tt), tt)
-onto_bytes at b (q ∷ ps) h all = by_case (q.at % 4096 == 0)
-  where
-    by_case : (c : Bool) → AllByRecursion HasByteItems
-        (if c then record { at = at; items = b ∷ [] } ∷ q ∷ ps else record { at = at; items = b ∷ q.items } ∷ ps)
-    by_case true = ((h, tt), all)
-    by_case false = ((h, all.0), all.1)
+onto_bytes at b (q ∷ ps) h all = search rules
 
 cut_bytes : (at : ℕ) (items : List ℕ) → AllByRecursion IsByte items → AllByRecursion HasByteItems (cut_up at items)
 cut_bytes at [] all = tt
@@ -231,13 +222,7 @@ begins_in {m = m} {p = p} {inst = inst}
     let count = length-replicate {A = ℕ} (first_size m.memories * 65536) 0 in
     let entries = length-replicate {A = Option ℕ} (first_size m.tables) None in
     let imported = imported_typed m.types p m.imports r.hosts r.imported given r.imports in
-    let values : AreOfTypes globals (map (λ g. g.value) c.globals) =
-    subst (λ w. AreOfTypes w (map (λ g. g.value) c.globals)) (sym r.globals_are)
-    (subst (λ w. AreOfTypes (r.imported ++ r.begun) (map (λ g. g.value) w)) (sym context.globals)
-    (subst (AreOfTypes (r.imported ++ r.begun))
-    (sym (map-append (λ (g : GlobalType). g.value) (imported_globals m.imports) (map (λ g. g.type) m.globals)))
-    (types_append r.imported r.begun _ _ imported
-    (begun_typed m.imports r.imported m.globals r.begun imported valid.globals r.begins)))) in
+    let values : AreOfTypes globals (map (λ g. g.value) c.globals) = search (rules, map-append, types_append, begun_typed) in
     let written_entries = placed_items (AllByRecursion (HasFunc c)) globals _ elements r.elements_at
     (element_items c m.elements valid.elements) in
     let items = placed_items (AllByRecursion IsByte) globals _ segments r.segments_at (data_items m.segments bytes) in
@@ -250,9 +235,7 @@ begins_in {m = m} {p = p} {inst = inst}
     } in (
       record {
         types = r.types ∙ sym context.types;
-        signatures = ap (map signature) r.funcs
-            ∙ named_all m.types p m.imports m.funcs c.funcs m.bodies r.hosts r.owns r.imported context.funcs r.imports
-            r.defines;
+        signatures = search (rules, named_all);
         funcs = subst (AllByRecursion (FuncInstType c)) (sym r.funcs)
             (each_append (FuncInstType c) r.hosts r.owns
             (hosts_typed c m.types p m.imports r.hosts r.imported r.imports)
@@ -265,11 +248,8 @@ begins_in {m = m} {p = p} {inst = inst}
           each_replicate IsByte (first_size m.memories * 65536) 0 (omega arith),
         );
         globals = values;
-        entries =
-            filled_length (replicate (first_size m.tables) None) elements
-            (subst (λ n. Within n elements) (sym entries) in_table) ∙ entries ∙ ap first_size (sym context.tables);
-        table = filled_typed c (replicate (first_size m.tables) None) elements
-            (each_replicate (EntryType c) (first_size m.tables) None tt) written_entries;
+        entries = search (rules, filled_length, replicate);
+        table = search (rules, filled_typed, replicate, each_replicate);
         inputs = given.inputs;
         output = (omega arith, tt);
       },

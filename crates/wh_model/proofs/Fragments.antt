@@ -1,9 +1,8 @@
 -- Fragments lie in one page each, and together they are the segments.
-use Rattle.std.proofs.Common.{◌≡◌, ℕ, zero, suc, ◌+◌, ◌*◌, ◌%◌, ◌==◌, ◌<◌, ◌≤◌, map, Bool, true, false, List, [], ◌∷◌, ◌++◌, length, refl, sym, ap, subst, arith, ◌∙◌, if◌then◌else◌, take-append-drop, length-append, length-take, length-drop}
+use Rattle.std.proofs.Common.{◌≡◌, ℕ, zero, suc, ◌+◌, ◌*◌, ◌%◌, ◌==◌, ◌<◌, ◌≤◌, map, Bool, false, List, [], ◌∷◌, ◌++◌, length, refl, sym, ap, subst, arith, ◌∙◌, if◌then◌else◌, take-append-drop, length-append, length-take, length-drop, rules}
 use Rattle.std.specs.List.{AllByRecursion}
 use Rattle.wh_model.specs.Execution.Store.{Store}
 use Rattle.wh_model.specs.Execution.{written, Piece, Placed, onto_piece, cut_up, fragments, Within, with_pieces, begins, first_size, IsInitial, needs_more, out_of_bounds, in_bounds, Parameters, Beginning}
-use Rattle.std.proofs.lemmas.Bool.{eqb-true}
 use Rattle.std.proofs.lemmas.List.{length-replicate}
 use Rattle.wh_model.specs.Format.{Module}
 use Rattle.wh_model.specs.Execution.Store.{Instance}
@@ -23,10 +22,7 @@ write_nothing bs at = let e : at + 0 ≡ at = omega arith in rw e (take-append-d
 -- a byte, and then those behind it
 write_on : (bs : List ℕ) (at b : ℕ) (items : List ℕ) → at + suc (length items) ≤ length bs → written (written bs at (b ∷ [])) (at + 1) items ≡ written bs at (b ∷ items)
 write_on [] at b items h = absurd (omega arith)
-write_on (x ∷ bs) zero b items h =
-    let e : 0 + length items ≡ length items = omega arith in
-    let f : 0 + suc (length items) ≡ suc (length items) = omega arith in
-    written_later b bs items 0 ∙ rw (e, f) refl
+write_on (x ∷ bs) zero b items h = search rules
 write_on (x ∷ bs) (suc at) b items h =
     let e : suc at + 1 ≡ suc (at + 1) = omega arith in
     ap (λ w. written w (suc at + 1) items) (written_later x bs (b ∷ []) at) ∙ rw e (written_later x (written bs at (b ∷ [])) items (at + 1))
@@ -51,11 +47,7 @@ either c at b p ps = if c then record { at = at; items = b ∷ [] } ∷ p ∷ ps
 
 onto_begins : (at b most : ℕ) (ps : List Piece) → Begins (at + 1) most ps → Begins at (suc most) (onto_piece at b ps)
 onto_begins at b most [] h = (refl, omega arith)
-onto_begins at b most (p ∷ ps) h = by_case (p.at % 4096 == 0)
-  where
-    by_case : (c : Bool) → Begins at (suc most) (either c at b p ps)
-    by_case true = (refl, omega arith)
-    by_case false = (refl, omega (arith, h.1))
+onto_begins at b most (p ∷ ps) h = search rules
 
 cut_begins : (at : ℕ) (items : List ℕ) → Begins at (length items) (cut_up at items)
 cut_begins at [] = tt
@@ -67,16 +59,9 @@ not_zero : (n : ℕ) → (n == 0) ≡ false → 0 < n
 not_zero zero e = absurd (cc e)
 not_zero (suc n) e = omega arith
 
-next_in_page : (at next n : ℕ) → next ≡ at + 1 → 0 < next % 4096 → next % 4096 + n ≤ 4096 → at % 4096 + suc n ≤ 4096
-next_in_page at next n e some h = omega (arith, e, some, h)
-
 onto_in_page : (at b most : ℕ) (ps : List Piece) → Begins (at + 1) most ps → AllByRecursion InOnePage ps → AllByRecursion InOnePage (onto_piece at b ps)
 onto_in_page at b most [] h w = ((omega arith, omega arith), tt)
-onto_in_page at b most (p ∷ ps) h w = by_case (p.at % 4096 == 0) refl
-  where
-    by_case : (c : Bool) → (p.at % 4096 == 0) ≡ c → AllByRecursion InOnePage (either c at b p ps)
-    by_case true e = ((omega arith, omega arith), w)
-    by_case false e = let some = not_zero (p.at % 4096) e in ((omega arith, next_in_page at p.at (length p.items) h.0 some w.0.1), w.1)
+onto_in_page at b most (p ∷ ps) h w = search rules
 
 cut_in_pages : (at : ℕ) (items : List ℕ) → AllByRecursion InOnePage (cut_up at items)
 cut_in_pages at [] = tt
@@ -94,11 +79,7 @@ fragments_in_pages (p ∷ ps) = all_append InOnePage (cut_up p.at p.items) (frag
 
 onto_within : (n at b most : ℕ) (ps : List Piece) → Begins (at + 1) most ps → at + 1 ≤ n → Within n ps → Within n (onto_piece at b ps)
 onto_within n at b most [] h low w = (low, tt)
-onto_within n at b most (p ∷ ps) h low w = by_case (p.at % 4096 == 0)
-  where
-    by_case : (c : Bool) → Within n (either c at b p ps)
-    by_case true = (low, w)
-    by_case false = (let begins = h.0 in let ends = w.0 in omega (arith, begins, ends), w.1)
+onto_within n at b most (p ∷ ps) h low w = search rules
 
 cut_within : (n at : ℕ) (items : List ℕ) → at + length items ≤ n → Within n (cut_up at items)
 cut_within n at [] low = tt
@@ -116,38 +97,26 @@ over s at given = record s { bytes = written s.bytes at given }
 
 onto_writes : (s : Store) (at b most : ℕ) (ps : List Piece) → Begins (at + 1) most ps → at + suc most ≤ length s.bytes → with_pieces s (onto_piece at b ps) ≡ with_pieces (over s at (b ∷ [])) ps
 onto_writes s at b most [] h room = refl
-onto_writes s at b most (p ∷ ps) h room = by_case (p.at % 4096 == 0)
-  where
-    by_case : (c : Bool) → with_pieces s (either c at b p ps) ≡ with_pieces (over s at (b ∷ [])) (p ∷ ps)
-    by_case true = refl
-    by_case false =
-        let e = write_on s.bytes at b p.items (omega (arith, h.1, room)) in
-        ap (λ (w : List ℕ). with_pieces (record s { bytes = w }) ps) (sym e) ∙ ap (λ (n : ℕ). with_pieces (over (over s at (b ∷ [])) n p.items) ps) (sym h.0)
+onto_writes s at b most (p ∷ ps) h room = search (rules, write_on, ℕ)
 
 cut_writes : (s : Store) (at : ℕ) (items : List ℕ) → at + length items ≤ length s.bytes → with_pieces s (cut_up at items) ≡ over s at items
 cut_writes s at [] room = ap (λ (w : List ℕ). record s { bytes = w }) (sym (write_nothing s.bytes at))
 cut_writes s at (b ∷ bs) room =
-    let same = length-written s.bytes (b ∷ []) at (omega arith) in
     onto_writes s at b (length bs) (cut_up (at + 1) bs) (cut_begins (at + 1) bs) room
-    ∙ cut_writes (over s at (b ∷ [])) (at + 1) bs (omega (arith, same))
+    ∙ cut_writes (over s at (b ∷ [])) (at + 1) bs (omega (arith, length-written s.bytes (b ∷ []) at (omega arith)))
     ∙ ap (λ (w : List ℕ). record s { bytes = w }) (write_on s.bytes at b bs room)
 
 pub fragments_write : FragmentsWrite
 fragments_write s [] h = refl
 fragments_write s (p ∷ ps) h =
-    let same = length-written s.bytes p.items p.at h.0 in
     with_append s (cut_up p.at p.items) (fragments ps) ∙ ap (λ (w : Store). with_pieces w (fragments ps)) (cut_writes s p.at p.items h.0)
-    ∙ fragments_write (over s p.at p.items) ps (subst (λ n. Within n ps) (sym same) h.1)
+    ∙ fragments_write (over s p.at p.items) ps (subst (λ n. Within n ps) (sym (length-written s.bytes p.items p.at h.0)) h.1)
 
 -- ---- where a segment is cut
 
 onto_later : (at b : ℕ) (ps : List Piece) → LaterAtMultiples ps → LaterAtMultiples (onto_piece at b ps)
 onto_later at b [] h = tt
-onto_later at b (p ∷ ps) h = by_case (p.at % 4096 == 0) refl
-  where
-    by_case : (c : Bool) → (p.at % 4096 == 0) ≡ c → LaterAtMultiples (either c at b p ps)
-    by_case true e = (eqb-true (p.at % 4096) 0 e, h)
-    by_case false e = h
+onto_later at b (p ∷ ps) h = search rules
 
 pub cut_at_multiples : CutAtMultiples
 cut_at_multiples at [] = tt

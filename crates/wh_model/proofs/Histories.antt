@@ -1,9 +1,8 @@
 -- Histories put before calls, and taken away.
-use Rattle.std.proofs.Common.{◌≡◌, List, [], ◌∷◌, ◌++◌, refl, sym, subst}
-use Rattle.std.specs.Bool.{MatchBool}
+use Rattle.std.proofs.Common.{◌≡◌, List, [], ◌∷◌, ◌++◌, refl, sym, subst, rules}
 use Rattle.std.specs.List.{AllByRecursion}
 use Rattle.wh_model.specs.Execution.Store.{Instance, Store}
-use Rattle.wh_model.specs.Execution.{Piece, Call, pending, Ends, Standing, idle, Stands, has_pieces, is_invoked, is_under_way, Replays, at_rest, ended, at_work, NamesFunction, IsDead, IsNotDead, Past, none_yet, one_more}
+use Rattle.wh_model.specs.Execution.{Piece, Call, pending, Ends, Standing, idle, Stands, has_pieces, is_invoked, is_under_way, Replays, at_rest, ended, at_work, Past, none_yet, one_more}
 use Rattle.wh_model.specs.Laws.{HistoryBefore, HistorySplits, JournalGrows}
 use Rattle.wh_model.proofs.Journals.{from_beginning}
 
@@ -41,18 +40,7 @@ all_join P (x ∷ xs) ys p q = (p.0, all_join P xs ys p.1 q)
 
 pub journal_grows : JournalGrows
 journal_grows m p inst s s2 ps start xs calls z initial lives names alive (given, is, (inst2, s3, ps2, i2, r)) y =
-    let r2 = from_beginning m p inst inst2 s s3 ps ps2 (start ∷ xs) (idle s2) initial i2 r in
-    let old = subst (λ b. MatchBool b (AllByRecursion IsDead xs) (AllByRecursion IsNotDead xs)) lives is.behind in (
-      given,
-      record {
-        func = is.func;
-        args = is.args;
-        not_dead = is.not_dead;
-        names = all_join NamesFunction xs calls is.names names;
-        behind = subst (λ b. MatchBool b (AllByRecursion IsDead (xs ++ calls)) (AllByRecursion IsNotDead (xs ++ calls))) (sym lives) (all_join IsNotDead xs calls old alive);
-      },
-      (inst, s, ps, initial, history_before inst s s2 ps start xs calls z r2 y),
-    )
+    search (rules, from_beginning, all_join, history_before)
 
 -- ---- calls that have ended, and those behind them
 

@@ -1,5 +1,5 @@
 -- A module with its parameters begins in one way at most.
-use Rattle.std.proofs.Common.{◌≡◌, ℕ, List, [], ◌∷◌, ◌++◌, refl, sym, ap, subst, arith, ◌∙◌, ⊎_elim, ◌*◌, map, None, replicate}
+use Rattle.std.proofs.Common.{◌≡◌, ℕ, List, [], ◌∷◌, ◌++◌, refl, sym, ap, subst, arith, ◌∙◌, ⊎_elim, ◌*◌, None, replicate, rules}
 use Rattle.wh_model.specs.declared.host.HostFunc.{HostFunc}
 use Rattle.wh_model.specs.declared.host.HostFunc.TheVariants.{Input, Put, Emit}
 use Rattle.wh_model.specs.Format.{Code, FuncType, Import, Global, Body, Module}
@@ -27,11 +27,7 @@ func_or_global : (types : List FuncType) (p : Parameters) (i : Import) (h : Host
 func_or_global types p i h v x y = ⊎_elim (λ g. let a = x.3 in let b = g.1 in absurd (cc (a, b))) (λ g. let a = x.3 in let b = g.1 in absurd (cc (a, b))) y.1
 
 global_same : (p : Parameters) (i : Import) (v w : Value) → ImportsGlobal p i v → ImportsGlobal p i w → v ≡ w
-global_same p i v w x y =
-    ⊎_elim
-    (λ g. ⊎_elim (λ h. g.2 ∙ sym h.2) (λ h. let a = g.1 in let b = h.1 in absurd (cc (a, b))) y.1)
-    (λ g. ⊎_elim (λ h. let a = g.1 in let b = h.1 in absurd (cc (a, b))) (λ h. g.2 ∙ sym h.2) y.1)
-    x.1
+global_same p i v w x y = search rules
 
 pub imported_same : (types : List FuncType) (p : Parameters) (is : List Import) (fs gs : List FuncInst) (vs ws : List Value) → Imported types p is fs vs → Imported types p is gs ws → (fs ≡ gs) × (vs ≡ ws)
 imported_same types p [] fs gs vs ws x y = (x.0 ∙ sym y.0, x.1 ∙ sym y.1)
@@ -57,26 +53,12 @@ defined_same types (n ∷ xs) bs fs gs (t, b, more, rest, at, e, f, r) (t2, b2, 
     cc (f, f2, same, body, others)
 
 evaluates_same : (globals : List Value) (e : Code) (v w : Value) → Evaluates globals e v → Evaluates globals e w → v ≡ w
-evaluates_same globals e v w x y =
-    ⊎_elim
-    (λ (n, p, q). ⊎_elim
-    (λ (n2, p2, q2). cc (p, q, p2, q2))
-    (λ z. ⊎_elim (λ (n2, p2, q2). absurd (cc (p, p2))) (λ (n2, p2, q2). absurd (cc (p, p2))) z) y)
-    (λ u. ⊎_elim
-    (λ (n, p, q). ⊎_elim
-    (λ (n2, p2, q2). absurd (cc (p, p2)))
-    (λ z. ⊎_elim (λ (n2, p2, q2). cc (p, q, p2, q2)) (λ (n2, p2, q2). absurd (cc (p, p2))) z) y)
-    (λ (n, p, q). ⊎_elim
-    (λ (n2, p2, q2). absurd (cc (p, p2)))
-    (λ z. ⊎_elim (λ (n2, p2, q2). absurd (cc (p, p2))) (λ (n2, p2, q2). cc (p, q, p2, q2)) z) y) u)
-    x
+evaluates_same globals e v w x y = search rules
 
 begun_same : (imported : List Value) (gs : List Global) (vs ws : List Value) → Begun imported gs vs → Begun imported gs ws → vs ≡ ws
 begun_same imported [] vs ws x y = x ∙ sym y
 begun_same imported (g ∷ gs) vs ws (v, rest, x, e, r) (v2, rest2, x2, e2, r2) =
-    let same = evaluates_same imported g.init v v2 x x2 in
-    let others = begun_same imported gs rest rest2 r r2 in
-    cc (e, e2, same, others)
+    cc (e, e2, evaluates_same imported g.init v v2 x x2, begun_same imported gs rest rest2 r r2)
 
 placed_same : (globals : List Value) (ss : List (Code × List ℕ)) (ps qs : List Piece) → Placed globals ss ps → Placed globals ss qs → ps ≡ qs
 placed_same globals [] ps qs x y = x ∙ sym y
@@ -92,24 +74,10 @@ abbrev Same : Instance → Instance → List Value → List Value → List Piece
 Same inst inst2 gs gs2 es es2 ds ds2 = (inst ≡ inst2) × (gs ≡ gs2) × (es ≡ es2) × (ds ≡ ds2)
 
 instance_same : (a b : Instance) → a.types ≡ b.types → a.funcs ≡ b.funcs → a.page_limit ≡ b.page_limit → a ≡ b
-instance_same a b e f g =
-    ap (λ (t : List FuncType). record a { types = t }) e ∙ ap (λ (t : List FuncInst). record a { types = b.types; funcs = t }) f
-    ∙ ap (λ (t : ℕ). record b { page_limit = t }) g
+instance_same a b e f g = search rules
 
 prepares_same : (m : Module) (p : Parameters) (inst inst2 : Instance) (gs gs2 : List Value) (es es2 ds ds2 : List Piece) → Prepares m p inst gs es ds → Prepares m p inst2 gs2 es2 ds2 → Same inst inst2 gs gs2 es es2 ds ds2
-prepares_same m p inst inst2 gs gs2 es es2 ds ds2 x y =
-    let i = imported_same m.types p m.imports x.hosts y.hosts x.imported y.imported x.imports y.imports in
-    let d = defined_same m.types m.funcs m.bodies x.owns y.owns x.defines y.defines in
-    let b = begun_same y.imported m.globals x.begun y.begun (subst (λ w. Begun w m.globals x.begun) i.1 x.begins) y.begins in
-    let g : gs ≡ gs2 = x.globals_are ∙ ap (λ w. w ++ x.begun) i.1 ∙ ap (λ w. y.imported ++ w) b ∙ sym y.globals_are in
-    let f : inst.funcs ≡ inst2.funcs = x.funcs ∙ ap (λ w. w ++ x.owns) i.0 ∙ ap (λ w. y.hosts ++ w) d ∙ sym y.funcs in
-    let es_placed = map (λ e. (e.offset, e.init)) m.elements in
-    let ds_placed = map (λ d. (d.offset, d.init)) m.segments in (
-      instance_same inst inst2 (x.types ∙ sym y.types) f (x.page_limit ∙ sym y.page_limit),
-      g,
-      placed_same gs2 es_placed es es2 (subst (λ w. Placed w es_placed es) g x.elements_at) y.elements_at,
-      placed_same gs2 ds_placed ds ds2 (subst (λ w. Placed w ds_placed ds) g x.segments_at) y.segments_at,
-    )
+prepares_same m p inst inst2 gs gs2 es es2 ds ds2 x y = search (rules, imported_same, defined_same, begun_same, instance_same, placed_same)
 
 -- the bounds that are met and those that are passed
 bounds_differ : (m : Module) (p : Parameters) (inst inst2 : Instance) (gs gs2 : List Value) (es es2 ds ds2 : List Piece) → Prepares m p inst gs es ds → Prepares m p inst2 gs2 es2 ds2

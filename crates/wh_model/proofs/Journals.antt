@@ -1,5 +1,5 @@
 -- One end and one standing of a journal, and what it shows.
-use Rattle.std.proofs.Common.{◌≡◌, ◌⊎◌, inl, inr, ⊎_elim, ℕ, List, [], ◌∷◌, ◌++◌, map, take, drop, Some, slice_get, refl, sym, ap, subst, arith, ◌∙◌, take-append-drop}
+use Rattle.std.proofs.Common.{◌≡◌, ◌⊎◌, inl, inr, ⊎_elim, ℕ, List, [], ◌∷◌, ◌++◌, map, take, drop, Some, slice_get, refl, sym, ap, subst, arith, ◌∙◌, take-append-drop, rules}
 use Rattle.std.specs.List.{AllByRecursion}
 use Rattle.wh_model.specs.Format.{FuncType, Body, Module}
 use Rattle.wh_model.specs.Execution.Store.{Instance, Store}
@@ -12,18 +12,11 @@ use Rattle.wh_model.proofs.Opened.{opened_store}
 
 -- ---- one invocation, and one configuration behind it
 
-same_function : {type type2 : FuncType} {body body2 : Body} → own type body ≡ own type2 body2 → (type ≡ type2) × (body ≡ body2)
-same_function e = (cc e, cc e)
-
 pub functions_same : {inst : Instance} {s : Store} {call : Call} {c : Config} (i : Invocation inst s call c) (x : ℕ) (type : FuncType) (body : Body) → call.func ≡ Some x → slice_get inst.funcs x ≡ Some (own type body) → (i.type ≡ type) × (i.body ≡ body)
-functions_same i x type body e f =
-    let same : own i.type i.body ≡ own type body = cc in
-    same_function same
+functions_same i x type body e f = search rules
 
 pub invocation_same : (inst : Instance) (s : Store) (call : Call) {a b : Config} → Invocation inst s call a → Invocation inst s call b → a ≡ b
-invocation_same inst s call i j =
-    let h = functions_same i j.index j.type j.body j.calls j.is_own in
-    i.begins ∙ rw (h.0, h.1) refl ∙ sym j.begins
+invocation_same inst s call i j = search rules
 
 pub after_same : {inst : Instance} (s : Store) (call : Call) {n : ℕ} {a b c d : Config} → Invocation inst s call a → Invocation inst s call b → After inst a n c → After inst b n d → c ≡ d
 after_same {inst = inst} s call {n = n} {a = a} {c = c} {d = d} i j x y = one_after inst n a c d x (subst (λ w. After inst w n d) (sym (invocation_same inst s call i j)) y)
@@ -36,13 +29,9 @@ stands_alike (has_pieces p q) (is_invoked u v w) = absurd (omega (arith, p, u))
 stands_alike (has_pieces p q) (is_under_way u v w x y) = absurd (omega (arith, p, u))
 stands_alike (is_invoked p q r) (has_pieces u v) = absurd (omega (arith, p, u))
 stands_alike {inst = inst} {s = s} {ps = ps} {call = call} (is_invoked p q r) (is_invoked u v w) = inl (ap running (invocation_same inst (with_pieces s ps) call r w))
-stands_alike {inst = inst} {s = s} {ps = ps} {call = call} (is_invoked {c = c} p q r) (is_under_way {c = d} {c2 = e} u f v w x) =
-    let same = invocation_same inst (with_pieces s ps) call r v in
-    inr (c, e, refl, refl, inl (subst (λ n. After inst c n e) q (subst (λ b. After inst b call.charges e) (sym same) w)))
+stands_alike {inst = inst} {s = s} {ps = ps} {call = call} (is_invoked {c = c} p q r) (is_under_way {c = d} {c2 = e} u f v w x) = search rules
 stands_alike (is_under_way p l q r t) (has_pieces u v) = absurd (omega (arith, p, u))
-stands_alike {inst = inst} {s = s} {ps = ps} {call = call} (is_under_way {c = d} {c2 = e} p l q r t) (is_invoked {c = c} u v w) =
-    let same = invocation_same inst (with_pieces s ps) call w q in
-    inr (e, c, refl, refl, inr (subst (λ n. After inst c n e) v (subst (λ b. After inst b call.charges e) (sym same) r)))
+stands_alike {inst = inst} {s = s} {ps = ps} {call = call} (is_under_way {c = d} {c2 = e} p l q r t) (is_invoked {c = c} u v w) = search rules
 stands_alike {inst = inst} {s = s} {ps = ps} {call = call} (is_under_way p l q r t) (is_under_way u f v w x) = inl (ap running (after_same (with_pieces s ps) call q v r w))
 
 alike_store : {inst : Instance} {y z : Standing} → Alike inst y z → store_at y ≡ store_at z
@@ -100,9 +89,7 @@ begins_same : (m : Module) (p : Parameters) (inst inst2 : Instance) (s s2 : Stor
 begins_same m p inst inst2 s s2 ps ps2 x y = let e = one_beginning m p (begins inst s ps) (begins inst2 s2 ps2) x y in (cc e, cc e, cc e)
 
 pub from_beginning : (m : Module) (p : Parameters) (inst inst2 : Instance) (s s2 : Store) (ps ps2 : List Piece) (calls : List Call) (z : Standing) → IsInitial m p (begins inst s ps) → IsInitial m p (begins inst2 s2 ps2) → Replays inst2 s2 ps2 calls z → Replays inst s ps calls z
-from_beginning m p inst inst2 s s2 ps ps2 calls z x y r =
-    let e = begins_same m p inst inst2 s s2 ps ps2 x y in
-    subst (λ (w : Instance). Replays w s ps calls z) (sym e.0) (subst (λ (w : Store). Replays inst2 w ps calls z) (sym e.1) (subst (λ (w : List Piece). Replays inst2 s2 w calls z) (sym e.2) r))
+from_beginning m p inst inst2 s s2 ps ps2 calls z x y r = search (rules, begins_same)
 
 pub one_standing : OneStanding
 one_standing m p inst s ps [] y z initial a b = absurd a
@@ -187,13 +174,7 @@ pieces_then s [] qs = refl
 pieces_then s (p ∷ ps) qs = pieces_then (record s { bytes = written s.bytes p.at p.items }) ps qs
 
 pieces_by : {inst : Instance} {s : Store} {ps : List Piece} {call : Call} {z : Standing} → Stands inst s ps call z → (s2 : Store) (rest : List Piece) → z ≡ writing s2 rest → (s2 ≡ with_pieces s (take call.fragments ps)) × (with_pieces s2 rest ≡ with_pieces s ps)
-pieces_by {s = s} {ps = ps} {call = call} (has_pieces p q) s2 rest e =
-    let store : with_pieces s (take call.fragments ps) ≡ s2 = cc e in
-    let left : drop call.fragments ps ≡ rest = cc e in (
-      sym store,
-      ap (λ (t : Store). with_pieces t rest) (sym store) ∙ ap (with_pieces (with_pieces s (take call.fragments ps))) (sym left)
-          ∙ pieces_then s (take call.fragments ps) (drop call.fragments ps) ∙ ap (with_pieces s) (take-append-drop call.fragments ps),
-    )
+pieces_by {s = s} {ps = ps} {call = call} (has_pieces p q) s2 rest e = search (rules, pieces_then, take-append-drop)
 pieces_by (is_invoked p q i) s2 rest e = absurd (cc e)
 pieces_by (is_under_way p q i a n) s2 rest e = absurd (cc e)
 

@@ -1,5 +1,5 @@
 -- At most one import is the first without its item, for one cause, and then the module doesn't link.
-use Rattle.std.proofs.Common.{◌≡◌, ℕ, zero, suc, inl, inr, List, [], ◌∷◌, take, Some, slice_get, refl, ap, subst}
+use Rattle.std.proofs.Common.{◌≡◌, ℕ, zero, suc, inl, inr, List, [], ◌∷◌, take, Some, slice_get, ap, subst, rules}
 use Rattle.std.specs.List.{AllByRecursion}
 use Rattle.wh_model.specs.Format.{FuncType, Import, Module}
 use Rattle.wh_model.specs.Execution.{Parameters, ImportsGlobal}
@@ -27,12 +27,6 @@ pub has_not_lacks : (types : List FuncType) (i : Import) (fault : ImportFault) �
 has_not_lacks types i UnknownImport has lacks = lacks (known_item types i has.0 has.1)
 has_not_lacks types i ImportType has lacks = lacks.1 has
 
-one_cause : (types : List FuncType) (i : Import) (f g : ImportFault) → LacksItem types i f → LacksItem types i g → f ≡ g
-one_cause types i UnknownImport UnknownImport p q = refl
-one_cause types i UnknownImport ImportType p q = absurd (p q.0)
-one_cause types i ImportType UnknownImport p q = absurd (q p.0)
-one_cause types i ImportType ImportType p q = refl
-
 some_same : {X : Type 0} (x y : X) → Some x ≡ Some y → x ≡ y
 some_same x y e = cc e
 
@@ -42,8 +36,7 @@ no_item types i a fault e has lacks = has_not_lacks types a fault (subst (HasIte
 one_place : (types : List FuncType) (is : List Import) (f g : ImportFault) (p q : ℕ) (a b : Import) → slice_get is p ≡ Some a → slice_get is q ≡ Some b → LacksItem types a f → LacksItem types b g
     → AllByRecursion (HasItem types) (take p is) → AllByRecursion (HasItem types) (take q is) → (f ≡ g) × (p ≡ q)
 one_place types [] f g p q a b at bt lf lg before others = absurd (cc at)
-one_place types (i ∷ is) f g zero zero a b at bt lf lg before others =
-    (one_cause types a f g lf (subst (λ w. LacksItem types w g) (some_same b a (cc (at, bt))) lg), refl)
+one_place types (i ∷ is) f g zero zero a b at bt lf lg before others = search rules
 one_place types (i ∷ is) f g zero (suc q) a b at bt lf lg before others = absurd (no_item types i a f at others.0 lf)
 one_place types (i ∷ is) f g (suc p) zero a b at bt lf lg before others = absurd (no_item types i b g bt before.0 lg)
 one_place types (i ∷ is) f g (suc p) (suc q) a b at bt lf lg before others =

@@ -1,13 +1,12 @@
 -- Bytes of a memory: numbers that are read stay in range, and a memory that is written or grows keeps its type.
-use Rattle.std.proofs.Common.{◌≡◌, ℕ, zero, suc, ◌+◌, ◌*◌, ◌-◌, ◌/◌, ◌^◌, ◌<◌, ◌≤◌, List, [], ◌∷◌, ◌++◌, length, take, drop, replicate, refl, ap, arith, ◌∙◌, mod-lt, length-append}
+use Rattle.std.proofs.Common.{◌≡◌, ℕ, zero, suc, ◌+◌, ◌*◌, ◌-◌, ◌/◌, ◌^◌, ◌<◌, ◌≤◌, List, [], ◌∷◌, ◌++◌, length, take, drop, replicate, refl, ap, arith, ◌∙◌, mod-lt, length-append, rules}
 use Rattle.std.proofs.Math.Nat.{pow-suc}
 use Rattle.std.proofs.lemmas.List.{length-replicate}
 use Rattle.std.specs.List.{AllByRecursion, slice_range}
 use Rattle.wh_model.specs.declared.LoadOp.{LoadOp}
 use Rattle.wh_model.specs.declared.LoadOp.TheVariants.{I32Load, I64Load, I32Load8S, I32Load8U, I32Load16S, I32Load16U, I64Load8S, I64Load8U, I64Load16S, I64Load16U, I64Load32S, I64Load32U}
-use Rattle.wh_model.specs.Format.Syntax.{Limits}
-use Rattle.wh_model.specs.Validity.{Context, load_type, most_pages}
-use Rattle.wh_model.specs.Execution.{bits, extend_u, pages, number, bytes_of, bytes_at, written, loaded, last_size}
+use Rattle.wh_model.specs.Validity.{Context, load_type}
+use Rattle.wh_model.specs.Execution.{bits, extend_u, pages, number, bytes_of, bytes_at, written, loaded}
 use Rattle.wh_model.specs.Execution.Store.{Instance}
 use Rattle.wh_model.specs.Soundness.{IsByte, MemoryType, InstanceType}
 use Rattle.wh_model.proofs.Fragments.{length-written}
@@ -53,9 +52,8 @@ number-lt : (k : ℕ) (bs : List ℕ) → length bs ≤ k → AllByRecursion IsB
 number-lt k [] few h = some_power k
 number-lt zero (b ∷ bs) few h = absurd (omega arith)
 number-lt (suc k) (b ∷ bs) few h =
-    let ih = number-lt k bs (omega arith) h.1 in
     let low : b < 256 = h.0 in
-    rw pow-suc (omega (arith, ih, low))
+    rw pow-suc (omega (arith, number-lt k bs (omega arith) h.1, low))
 
 length-take_few : (k : ℕ) (bs : List ℕ) → length (take k bs) ≤ k
 length-take_few zero bs = omega arith
@@ -99,19 +97,9 @@ length-bytes_of (suc k) n = ap suc (length-bytes_of k (n / 256))
 pub pages_of : (bytes : List ℕ) (n : ℕ) → length bytes ≡ n * 65536 → pages bytes ≡ n
 pages_of bytes n e = omega (arith, e)
 
-most_last : (ls : List Limits) → last_size ls most_pages ≤ 65536
-most_last [] = omega arith
-most_last (l ∷ ls) = omega arith
-
-pub limit_small : (c : Context) (inst : Instance) → InstanceType c inst → inst.page_limit ≤ 65536
-limit_small c inst i = let low = i.page_limit in let most = most_last c.memories in omega (arith, low, most)
-
 pub pages_fit : (c : Context) (inst : Instance) (bytes : List ℕ) → InstanceType c inst → MemoryType c inst bytes
     → pages bytes < 2 ^ 32
-pages_fit c inst bytes i h =
-    let same = pages_of bytes h.0.0 h.0.1 in
-    let small = limit_small c inst i in
-    omega (arith, same, h.0.3, small)
+pages_fit c inst bytes i h = search rules
 
 pub memory_written : (c : Context) (inst : Instance) (bytes : List ℕ) (at : ℕ) (given : List ℕ)
     → MemoryType c inst bytes
@@ -122,11 +110,10 @@ memory_written c inst bytes at given h within all =
 pub memory_grown : (c : Context) (inst : Instance) (bytes : List ℕ) (n : ℕ) → MemoryType c inst bytes
     → pages bytes + n ≤ inst.page_limit → MemoryType c inst (bytes ++ replicate (n * 65536) 0)
 memory_grown c inst bytes n h room =
-    let same = pages_of bytes h.0.0 h.0.1 in
     let count : length (bytes ++ replicate (n * 65536) 0) ≡ (h.0.0 + n) * 65536 =
     rw (length-append bytes (replicate (n * 65536) 0), length-replicate {A = ℕ} (n * 65536) 0)
     (omega (arith, h.0.1)) in (
-      (h.0.0 + n, count, omega (arith, h.0.2), omega (arith, same, room)),
+      (h.0.0 + n, count, omega (arith, h.0.2), omega (arith, pages_of bytes h.0.0 h.0.1, room)),
       each_append IsByte bytes
           (replicate (n * 65536) 0) h.1 (each_replicate IsByte (n * 65536) 0 (omega arith)),
     )

@@ -1,14 +1,14 @@
 -- Laws of the integer operators of specs/Numbers.antt: each result is an integer of its type, `signed` and `unsigned` are inverse, and so are rotations to the left and to the right.
-use Rattle.std.proofs.Common.{◌≡◌, ℕ, zero, suc, ◌+◌, ◌-◌, ◌*◌, ◌/◌, ◌%◌, ◌^◌, ◌<◌, ◌≤◌, ◌⊎◌, Bool, true, false, ℤ, pos, negsuc, ◌-ℤ◌, ◌*ℤ◌, neg_ℤ, ◌≤ℤ◌, ◌<ℤ◌, refl, ap, ap₂, ◌∙◌, subst, arith, ⊎_elim, inl, inr, mod-lt, mod-eq_of_lt, pow_pos, pow-add, sub-one, mul_comm, lt_of_le_of_lt, lit<, zero-le, Result, Ok, Err}
-use Rattle.std.specs.Prelude.{◌==◌, if◌then◌else◌, IfOk, int_lt}
+use Rattle.std.proofs.Common.{◌≡◌, ℕ, zero, suc, ◌+◌, ◌-◌, ◌*◌, ◌/◌, ◌%◌, ◌^◌, ◌<◌, ◌≤◌, ◌⊎◌, Bool, true, false, ℤ, pos, negsuc, ◌-ℤ◌, ◌*ℤ◌, neg_ℤ, ◌≤ℤ◌, ◌<ℤ◌, refl, ap, ap₂, ◌∙◌, subst, arith, ⊎_elim, inl, inr, mod-lt, pow_pos, pow-add, sub-one, mul_comm, lt_of_le_of_lt, lit<, zero-le, Result, Ok, Err, rules}
+use Rattle.std.specs.Prelude.{◌==◌, if◌then◌else◌, IfOk}
 use Rattle.std.proofs.Math.Nat.{add_comm, pow-suc, div-le_self}
 use Rattle.std.proofs.lemmas.Nat.{shr_below, mul-add-lt, mod_low, shr_high, div-add-mod', and_le_l, or_lt, xor_lt}
 use Rattle.std.proofs.lemmas.Bool.{cases_lt}
 use Rattle.std.proofs.lemmas.Bool.Decides.{nat_tests}
 use Rattle.std.proofs.lemmas.Int.{ints}
-use Rattle.wh_model.specs.Execution.{bits, signed, unsigned, iadd, isub, imul, idiv_u, quotient, idiv_s, irem_u, irem_s, ishl, ishr_u, ishr_s, irotl, irotr, count_below, iclz, ictz, ipopcnt, wrap, extend_u, extend_s, iextend_s, truth, unary, binary, test, holds, compare, operand_type, result_type, convert}
+use Rattle.wh_model.specs.Execution.{bits, signed, unsigned, iadd, isub, imul, idiv_u, idiv_s, irem_u, irem_s, ishl, ishr_u, ishr_s, irotl, irotr, count_below, iclz, ictz, ipopcnt, wrap, extend_u, extend_s, iextend_s, truth, unary, binary, test, holds, compare, operand_type, result_type, convert}
 use Rattle.wh_model.specs.declared.Trap.{Trap}
-use Rattle.wh_model.specs.declared.Trap.TheVariants.{DivideByZero, Overflow}
+use Rattle.wh_model.specs.declared.Trap.TheVariants.{DivideByZero}
 use Rattle.wh_model.specs.declared.ValType.{ValType}
 use Rattle.wh_model.specs.declared.ValType.TheVariants.{I32, I64}
 use Rattle.wh_model.specs.declared.UnaryOp.{UnaryOp}
@@ -42,10 +42,7 @@ pow-half (suc N) h = rw (sub-one, pow-suc) (omega arith)
 
 -- the signed numbers of N bits are those from -2 ^ (N - 1) to below 2 ^ (N - 1)
 pub signed-bounds : (N i : ℕ) → 0 < N → i < 2 ^ N → (neg_ℤ (pos (2 ^ (N - 1))) ≤ℤ signed N i) × (signed N i <ℤ pos (2 ^ (N - 1)))
-signed-bounds N i some fits = let half = pow-half N some in ⊎_elim
-    (λ low. let e = signed-low N i low in (omega (arith, ints), omega (arith, ints)))
-    (λ high. let e = signed-high N i high fits in (omega (arith, ints), omega (arith, ints)))
-    (cases_lt i (2 ^ (N - 1)))
+signed-bounds N i some fits = search (rules, pow-half, ⊎_elim, signed-low, signed-high, cases_lt)
 
 -- any number modulo 2 ^ N is an integer
 pub unsigned-lt : (N : ℕ) (z : ℤ) → unsigned N z < 2 ^ N
@@ -64,16 +61,11 @@ exchanged j k a = a % 2 ^ j * 2 ^ k + a / 2 ^ j
 
 exchanged-lt : (j k a : ℕ) → a < 2 ^ (j + k) → exchanged j k a < 2 ^ (j + k)
 unfolding exchanged
-exchanged-lt j k a fits =
-    let low = mod-lt a (pow_pos j) in
-    let high : a / 2 ^ j < 2 ^ k = shr_below a k j (rw add_comm fits) in
-    rw (pow-add, mul_comm (2 ^ j) (2 ^ k)) (mul-add-lt (a % 2 ^ j) (2 ^ k) (a / 2 ^ j) (2 ^ j) low high)
+exchanged-lt j k a fits = search (rules, mod-lt, pow_pos, shr_below, add_comm, pow-add, mul_comm, mul-add-lt)
 
 exchanged-exchanged : (j k a : ℕ) → a < 2 ^ (j + k) → exchanged k j (exchanged j k a) ≡ a
 unfolding exchanged
-exchanged-exchanged j k a fits =
-    let high : a / 2 ^ j < 2 ^ k = shr_below a k j (rw add_comm fits) in
-    ap₂ (λ x y. x * 2 ^ j + y) (mod_low (a % 2 ^ j) k (a / 2 ^ j) high) (shr_high (a % 2 ^ j) k (a / 2 ^ j) high) ∙ div-add-mod' a (2 ^ j)
+exchanged-exchanged j k a fits = search (rules, shr_below, add_comm, ap₂, mod_low, shr_high, div-add-mod')
 
 irotl-exchanged : (N a b : ℕ) → irotl N a b ≡ exchanged (N - b % N) (b % N) a
 unfolding irotl exchanged
@@ -167,10 +159,7 @@ idiv_u-lt N a b fits = after_test (2 ^ N) (b == 0) DivideByZero (Ok (a / b)) (lt
 
 pub idiv_s-lt : (N a b : ℕ) → IfOk (idiv_s N a b) (λ m. m < 2 ^ N)
 unfolding idiv_s
-idiv_s-lt N a b =
-    let q = quotient N a b in
-    let word = before_test (2 ^ N) (int_lt q (pos (2 ^ (N - 1)))) Overflow (Ok (unsigned N q)) (unsigned-lt N q) in
-    after_test (2 ^ N) (b == 0) DivideByZero (if int_lt q (pos (2 ^ (N - 1))) then Ok (unsigned N q) else Err Overflow) word
+idiv_s-lt N a b = search (rules, before_test, pos, unsigned-lt, after_test)
 
 pub irem_u-lt : (N a b : ℕ) → a < 2 ^ N → IfOk (irem_u a b) (λ m. m < 2 ^ N)
 unfolding irem_u
@@ -178,9 +167,7 @@ irem_u-lt N a b fits = after_test (2 ^ N) (b == 0) DivideByZero (Ok (a - b * (a 
 
 pub irem_s-lt : (N a b : ℕ) → IfOk (irem_s N a b) (λ m. m < 2 ^ N)
 unfolding irem_s
-irem_s-lt N a b =
-    let r = signed N a -ℤ signed N b *ℤ quotient N a b in
-    after_test (2 ^ N) (b == 0) DivideByZero (Ok (unsigned N r)) (unsigned-lt N r)
+irem_s-lt N a b = search (rules, after_test, unsigned-lt)
 
 pub ishl-lt : (N a b : ℕ) → ishl N a b < 2 ^ N
 unfolding ishl

@@ -72,8 +72,7 @@ reduces_same (branch b j z) (in_label y) = absurd (jump_waits b j (omega arith) 
 reduces_same (branch b j z) (trap_label y) = absurd (jump_waits b j (omega arith) y)
 reduces_same (branch b j z) leave_label = absurd (done_not_jump b j)
 reduces_same (branch {n = n} {s = s} {f = f} {rest = o1} {us = us1} {dropped = d1} {vs = vs} {next = next} {is = is} b j z) (branch {rest = o2} {us = us2} {dropped = d2} c k w) =
-    let r = jump_context b c j k in
-    let h = takes_same n n o2 us1 d1 us2 d2 refl (subst (λ o. TakesOperands n o us1 d1) r.2 z) w in
+    let h = takes_same n n o2 us1 d1 us2 d2 refl (subst (λ o. TakesOperands n o us1 d1) (jump_context b c j k).2 z) w in
     (refl, ap (λ u. config s f (code (u ++ vs) (join next is))) h.0)
 reduces_same (in_frame {n = n} {f = f} {vs = vs} {is = is} x) (in_frame y) = let r = reduces_same x y in (r.0, ap (in_frame_of vs n f is) r.1)
 reduces_same (in_frame {n = n} {f = f} {vs = vs} {is = is} x) (trap_frame y) = let r = reduces_same x y in (r.0, ap (in_frame_of vs n f is) r.1)

@@ -1,9 +1,9 @@
 -- At most one rule applies to an instruction.
-use Rattle.std.proofs.Common.{◌≡◌, ℕ, List, [], ◌∷◌, ◌++◌, length, refl, sym, ap, subst, arith, ◌∙◌, slice_get, Some}
+use Rattle.std.proofs.Common.{◌≡◌, ℕ, List, [], ◌∷◌, ◌++◌, length, refl, sym, ap, arith, ◌∙◌, slice_get, Some, rules}
 use Rattle.wh_model.specs.declared.Trap.{Trap}
 use Rattle.wh_model.specs.Format.{Code}
 use Rattle.wh_model.specs.Execution.Store.{Instance, Store}
-use Rattle.wh_model.specs.Execution.{Value, value, FuncInst, Term, code, called, Config, config, trapped, TakesOperands, Rewrites, const_i32, const_i64, unary_op, binary_op, test_op, compare_op, convert_op, drop_top, select_first, select_second, do_nothing, enter_block, enter_loop, then_true, then_false, if_true, if_false, br_if_not, Traps, never_return, no_number, load_beyond, store_beyond, no_entry, empty_entry, other_type, Calls, by_call, by_indirect, Invokes, enter, too_deep, input, put, put_full, emit, emit_long, emit_beyond, emit_full, Base, pure, traps, get_local, set_local, tee_local, get_global, set_global, load_bytes, store_bytes, size_pages, grow_pages, grow_too_far, invoke, Jumps, by_br, by_br_if, by_br_table}
+use Rattle.wh_model.specs.Execution.{Value, FuncInst, Term, called, Config, config, trapped, TakesOperands, Rewrites, const_i32, const_i64, unary_op, binary_op, test_op, compare_op, convert_op, drop_top, select_first, select_second, do_nothing, enter_block, enter_loop, then_true, then_false, if_true, if_false, br_if_not, Traps, never_return, no_number, load_beyond, store_beyond, no_entry, empty_entry, other_type, Calls, by_call, by_indirect, Invokes, enter, too_deep, input, put, put_full, emit, emit_long, emit_beyond, emit_full, Base, pure, traps, get_local, set_local, tee_local, get_global, set_global, load_bytes, store_bytes, size_pages, grow_pages, grow_too_far, invoke, Jumps, by_br, by_br_if, by_br_table}
 
 -- what is taken of the operands is determined by how many are
 pub takes_same : (n m : ℕ) (o vs ws vs2 ws2 : List Value) → n ≡ m → TakesOperands n o vs ws → TakesOperands m o vs2 ws2 → (vs ≡ vs2) × (ws ≡ ws2)
@@ -23,16 +23,9 @@ rewrites_same : {vs : List Value} {is : Code} {j k : ℕ} {t u : Term} → Rewri
 rewrites_same const_i32 const_i32 = (refl, refl)
 rewrites_same const_i64 const_i64 = (refl, refl)
 rewrites_same (unary_op {n = n} p) (unary_op {n = n2} q) = let e : n ≡ n2 = cc in rw e (refl, refl)
-rewrites_same (binary_op {t = t} {m = m} {n = n} {r = r} {vs = vs} {is = is} p q x) (binary_op {m = m2} {n = n2} {r = r2} u v y) =
-    let e : m ≡ m2 = cc in
-    let h : n ≡ n2 = cc in
-    let g : r ≡ r2 = cc (e, h, x, y) in
-    (refl, ap (λ w. code (value t w ∷ vs) is) g)
+rewrites_same (binary_op {t = t} {m = m} {n = n} {r = r} {vs = vs} {is = is} p q x) (binary_op {m = m2} {n = n2} {r = r2} u v y) = search rules
 rewrites_same (test_op {n = n} p) (test_op {n = n2} q) = let e : n ≡ n2 = cc in rw e (refl, refl)
-rewrites_same (compare_op {m = m} {n = n} p q) (compare_op {m = m2} {n = n2} u v) =
-    let e : m ≡ m2 = cc in
-    let h : n ≡ n2 = cc in
-    rw (e, h) (refl, refl)
+rewrites_same (compare_op {m = m} {n = n} p q) (compare_op {m = m2} {n = n2} u v) = search rules
 rewrites_same (convert_op {n = n} p) (convert_op {n = n2} q) = let e : n ≡ n2 = cc in rw e (refl, refl)
 rewrites_same drop_top drop_top = (refl, refl)
 rewrites_same (select_first p) (select_first q) = (refl, refl)
@@ -54,10 +47,7 @@ rewrites_same (br_if_not p) (br_if_not q) = (refl, refl)
 
 traps_same : {inst : Instance} {s : Store} {vs : List Value} {is : Code} {x y : Trap} → Traps inst s vs is x → Traps inst s vs is y → x ≡ y
 traps_same never_return never_return = refl
-traps_same (no_number {m = m} {n = n} p q x) (no_number {m = m2} {n = n2} u v y) =
-    let e : m ≡ m2 = cc in
-    let h : n ≡ n2 = cc in
-    cc (e, h, x, y)
+traps_same (no_number {m = m} {n = n} p q x) (no_number {m = m2} {n = n2} u v y) = search rules
 traps_same (load_beyond p) (load_beyond q) = refl
 traps_same (store_beyond e p) (store_beyond u q) = refl
 traps_same (no_entry p) (no_entry q) = refl
@@ -81,10 +71,7 @@ calls_or_traps : {inst : Instance} {s : Store} {vs us : List Value} {js is : Cod
 calls_or_traps (by_call p) y = elim y [ ]
 calls_or_traps (by_indirect p u a) (no_entry q) = absurd (cc (p, q))
 calls_or_traps (by_indirect p u a) (empty_entry q) = absurd (cc (p, q))
-calls_or_traps {inst = inst} {s = s} (by_indirect {i = i} p u a) (other_type q v b e) =
-    let same = entry_same inst s i p q u v in
-    let there = sym b ∙ a in
-    e (cc (there, same))
+calls_or_traps {inst = inst} {s = s} (by_indirect {i = i} p u a) (other_type q v b e) = search rules
 
 calls_or_rewrites : {inst : Instance} {k : ℕ} {s : Store} {vs us : List Value} {js is : Code} {h : FuncInst} {t : Term} → Calls inst s vs js h us is → Rewrites vs js k t → ⊥
 calls_or_rewrites (by_call p) y = elim y [ ]
@@ -120,10 +107,7 @@ invokes_same (emit_full p q r) (emit_beyond u v) = absurd (omega (arith, q, v))
 invokes_same (emit_full p q r) (emit_full u v w) = refl
 
 rewrites_or_traps : {inst : Instance} {k : ℕ} {s : Store} {vs : List Value} {is : Code} {t : Term} {x : Trap} → Rewrites vs is k t → Traps inst s vs is x → ⊥
-rewrites_or_traps (binary_op {m = m} {n = n} p q x) (no_number {m = m2} {n = n2} u v y) =
-    let e : m ≡ m2 = cc in
-    let h : n ≡ n2 = cc in
-    absurd (cc (e, h, x, y))
+rewrites_or_traps (binary_op {m = m} {n = n} p q x) (no_number {m = m2} {n = n2} u v y) = search rules
 rewrites_or_traps x y = elim y [ ]
 
 -- what holds where it doesn't trap
@@ -147,14 +131,10 @@ base_same (pure x) (invoke y q) = absurd (calls_or_rewrites y x)
 base_same (invoke y q) (pure x) = absurd (calls_or_rewrites y x)
 base_same (pure x) y = elim x [ ]
 base_same x (pure y) = elim y [ ]
-base_same {s = s} {f = f} (get_local {v = v} {vs = vs} {is = is} p) (get_local {v = w} q) =
-    let e : v ≡ w = cc in
-    (refl, ap (λ u. config s f (code (u ∷ vs) is)) e)
+base_same {s = s} {f = f} (get_local {v = v} {vs = vs} {is = is} p) (get_local {v = w} q) = search rules
 base_same (set_local p) (set_local q) = (refl, refl)
 base_same (tee_local p) (tee_local q) = (refl, refl)
-base_same {s = s} {f = f} (get_global {v = v} {vs = vs} {is = is} p) (get_global {v = w} q) =
-    let e : v ≡ w = cc in
-    (refl, ap (λ u. config s f (code (u ∷ vs) is)) e)
+base_same {s = s} {f = f} (get_global {v = v} {vs = vs} {is = is} p) (get_global {v = w} q) = search rules
 base_same (set_global p) (set_global q) = (refl, refl)
 base_same (load_bytes p) (load_bytes q) = (refl, refl)
 base_same (store_bytes {n = n} e p) (store_bytes {n = n2} u q) = let h : n ≡ n2 = cc in rw h (refl, refl)
@@ -164,8 +144,7 @@ base_same (grow_pages p) (grow_too_far q) = absurd (omega (arith, p, q))
 base_same (grow_too_far p) (grow_pages q) = absurd (omega (arith, p, q))
 base_same (grow_too_far p) (grow_too_far q) = (refl, refl)
 base_same {d = d} {s = s} {f = f} (invoke {h = h} {rest = us} {is = is} {c = b} x p) (invoke {h = k} {rest = ws} {is = ks} {c = c} y q) =
-    let r = calls_same x y in
-    (refl, invokes_same (subst (λ w. Invokes d s f k ws w b) r.2 (subst (λ w. Invokes d s f k w is b) r.1 (subst (λ w. Invokes d s f w us is b) r.0 p))) q)
+    search (rules, calls_same, invokes_same)
 base_same (invoke x p) y = elim x [ ]
 base_same x (invoke y q) = elim y [ ]
 

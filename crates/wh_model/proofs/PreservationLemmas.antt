@@ -1,5 +1,5 @@
 -- What an instruction does to the store, to locals and by a call keeps types.
-use Rattle.std.proofs.Common.{◌≡◌, ℕ, zero, suc, ◌+◌, ◌^◌, ◌<◌, ◌≤◌, List, [], ◌∷◌, ◌++◌, length, map, reverse, Option, Some, None, option_map, slice_get, get_or, refl, sym, ap, subst, arith, ◌∙◌, length-append}
+use Rattle.std.proofs.Common.{◌≡◌, ℕ, zero, suc, ◌+◌, ◌^◌, ◌<◌, ◌≤◌, List, [], ◌∷◌, ◌++◌, length, map, reverse, Option, Some, None, option_map, slice_get, get_or, refl, sym, ap, subst, arith, ◌∙◌, length-append, rules}
 use Rattle.std.specs.List.{AllByRecursion}
 use Rattle.std.proofs.lemmas.List.{length-reverse, reverse-reverse}
 use Rattle.std.proofs.lemmas.Option.{slice_get-map}
@@ -28,19 +28,13 @@ each_get P (y ∷ ys) (suc k) x e h = each_get P ys k x e h.1
 pub func_typed : (m : Context) (inst : Instance) (x : ℕ) (h : FuncInst) → InstanceType m inst
     → slice_get inst.funcs x ≡ Some h
     → (slice_get m.funcs x ≡ Some (signature h)) × FuncInstType m h
-func_typed m inst x h i at = (
-  ap (λ ts. slice_get ts x) (sym i.signatures) ∙ slice_get-map signature inst.funcs x
-      ∙ ap (λ o. option_map signature o) at,
-  each_get (FuncInstType m) inst.funcs x h at i.funcs,
-)
+func_typed m inst x h i at = search (rules, slice_get-map, option_map, each_get)
 
 -- and each type there has its instance
 pub func_there : (m : Context) (inst : Instance) (x : ℕ) (type : FuncType) → InstanceType m inst
     → slice_get m.funcs x ≡ Some type
     → (h : FuncInst) × (slice_get inst.funcs x ≡ Some h) × (signature h ≡ type)
-func_there m inst x type i at =
-    some_in signature (slice_get inst.funcs x) type
-    (sym (slice_get-map signature inst.funcs x) ∙ ap (λ ts. slice_get ts x) i.signatures ∙ at)
+func_there m inst x type i at = search (rules, some_in, slice_get-map)
 
 -- a call's operands and what it gives, by its function's type
 pub record CallTyped (m c : Context) (h : FuncInst) (vs : List Value) (is : Code) (outs : List ValType) : Type 0 where
@@ -55,8 +49,7 @@ calls_typed : {inst : Instance} {s : Store} {vs rest : List Value} {js is : Code
 calls_typed {inst = inst} (by_call {x = x} {h = h} {vs = vs} {is = is} at) m c ins outs i inside over t =
     let z = stands vs over t in
     let f = func_typed m inst x h i at in
-    let type : z.is_op.0 ≡ signature h = let there = sym z.is_op.1 ∙ ap (λ ts. slice_get ts x) inside.1 ∙ f.0 in
-    cc there in
+    let type : z.is_op.0 ≡ signature h = search rules in
     record {
       below = z.below;
       over = taking vs z.below (z.is_op.2 ∙ ap (λ (w : FuncType). reverse w.params) type) z.over;
@@ -67,12 +60,10 @@ calls_typed {inst = inst} (by_indirect {i = n} {x = x} {y = y} {h = h} {vs = vs}
     outs i inside over t =
     let z = stands (value I32 n ∷ vs) over t in
     let f = func_typed m inst x h i at in
-    let type : z.is_op.1 ≡ signature h = let there = sym z.is_op.3 ∙ ap (λ ts. slice_get ts y) (inside.0 ∙ sym i.types)
-    ∙ type_at in cc there in
+    let type : z.is_op.1 ≡ signature h = search rules in
     record {
       below = z.below;
-      over = (taking (value I32 n ∷ vs) z.below
-          (z.is_op.4 ∙ ap (λ (w : FuncType). I32 ∷ reverse w.params) type) z.over).1;
+      over = search (rules, taking, reverse);
       goes = giving c is z.below outs (z.is_op.5 ∙ ap (λ (w : FuncType). reverse w.results) type) z.goes;
       is_func = f.1;
     }
@@ -91,19 +82,7 @@ word_at (w ∷ ws) (suc i) h = word_at ws i h.1
 more_output : (m : Context) (inst : Instance) (s : Store) (bytes : List ℕ) (n : ℕ) → StoreType m inst s
     → length bytes ≤ n → AllByRecursion IsByte bytes → length s.output + n ≤ output_room
     → StoreType m inst (record s { output = s.output ++ bytes })
-more_output m inst s bytes n t few all room =
-    record {
-      memory = t.memory;
-      globals = t.globals;
-      entries = t.entries;
-      table = t.table;
-      inputs = t.inputs;
-      output = (
-        rw (length-append s.output bytes)
-            (omega (arith, few, room)),
-        each_append IsByte s.output bytes t.output.1 all,
-      );
-    }
+more_output m inst s bytes n t few all room = search (rules, length-append, each_append)
 
 pub invokes_keep : {d : ℕ} {s : Store} {f vs : List Value} {h : FuncInst} {is : Code} {b : Config}
     → Invokes d s f h vs is b → (m c : Context) (inst : Instance) (outs : List ValType)
@@ -133,21 +112,10 @@ invokes_keep (enter {type = type} {body = body} {operands = operands} {args = ar
       ),
     )
 invokes_keep (too_deep takes high) m c inst outs st ls x = st
-invokes_keep (input {i = i} {vs = vs}) m c inst outs st ls x =
-    (st, ls, (I64 ∷ x.below, ((refl, word_at _ i st.inputs), x.over.1), x.goes))
-invokes_keep {s = s} (put {n = n} room) m c inst outs st ls x =
-    let count = length-bytes_of 8 n in (
-      more_output m inst s (bytes_of 8 n) 8 st (omega (arith, count)) (bytes_of_bytes 8 n) room,
-      ls,
-      (x.below, x.over.1, x.goes),
-    )
+invokes_keep (input {i = i} {vs = vs}) m c inst outs st ls x = search (rules, word_at)
+invokes_keep {s = s} (put {n = n} room) m c inst outs st ls x = search (rules, length-bytes_of, more_output, bytes_of_bytes)
 invokes_keep (put_full room) m c inst outs st ls x = st
-invokes_keep {s = s} (emit {i = i} {n = n} few within room) m c inst outs st ls x = (
-  more_output m inst s (bytes_at s.bytes i n) n st (few_at s.bytes i n)
-      (each_at IsByte s.bytes i n st.memory.1) room,
-  ls,
-  (x.below, x.over.1.1, x.goes),
-)
+invokes_keep {s = s} (emit {i = i} {n = n} few within room) m c inst outs st ls x = search (rules, more_output, few_at, each_at)
 invokes_keep (emit_long many) m c inst outs st ls x = st
 invokes_keep (emit_beyond few beyond) m c inst outs st ls x = st
 invokes_keep (emit_full few within room) m c inst outs st ls x = st
@@ -156,42 +124,20 @@ invokes_keep (emit_full few within room) m c inst outs st ls x = st
 
 pub global_at : (m c : Context) (x : ℕ) (g : GlobalType) → IsInside m c → slice_get c.globals x ≡ Some g
     → slice_get (map (λ (k : GlobalType). k.value) m.globals) x ≡ Some g.value
-global_at m c x g inside at =
-    slice_get-map (λ (k : GlobalType). k.value) m.globals x
-    ∙ ap (λ gs. option_map (λ (k : GlobalType). k.value) (slice_get gs x)) (sym inside.4)
-    ∙ ap (λ o. option_map (λ (k : GlobalType). k.value) o) at
+global_at m c x g inside at = search (rules, slice_get-map, option_map)
 
 -- the value at a place, of the type at that place
 value_there : (ts : List ValType) (vs : List Value) (x : ℕ) (t : ValType) (v : Value) → slice_get ts x ≡ Some t
     → slice_get vs x ≡ Some v → AreOfTypes vs ts → IsOfType t v
-value_there ts vs x t v type at h =
-    let y = types_get ts vs x t type h in
-    let same : y.0 ≡ v = let there = sym y.1 ∙ at in cc there in
-    subst (IsOfType t) same y.2
+value_there ts vs x t v type at h = search (rules, types_get)
 
 pub stored_memory : (m : Context) (inst : Instance) (s : Store) (bytes : List ℕ) → StoreType m inst s
     → MemoryType m inst bytes → StoreType m inst (record s { bytes = bytes })
-stored_memory m inst s bytes t h =
-    record {
-      memory = h;
-      globals = t.globals;
-      entries = t.entries;
-      table = t.table;
-      inputs = t.inputs;
-      output = t.output;
-    }
+stored_memory m inst s bytes t h = search rules
 
 stored_globals : (m : Context) (inst : Instance) (s : Store) (vs : List Value) → StoreType m inst s
     → AreOfTypes vs (map (λ g. g.value) m.globals) → StoreType m inst (record s { globals = vs })
-stored_globals m inst s vs t h =
-    record {
-      memory = t.memory;
-      globals = h;
-      entries = t.entries;
-      table = t.table;
-      inputs = t.inputs;
-      output = t.output;
-    }
+stored_globals m inst s vs t h = search rules
 
 pub base_keeps : {inst : Instance} {d k : ℕ} {s : Store} {f vs : List Value} {is : Code} {b : Config}
     → Base inst d s f vs is k b → (m c : Context) (ins outs : List ValType)
@@ -291,5 +237,4 @@ base_keeps (grow_too_far {n = n} {vs = vs} {is = is} room) m c ins outs i inside
     let o = z.is_op in
     let y = taking (value I32 n ∷ vs) z.below o.1 z.over in
     (st, ls, (I32 ∷ z.below, ((refl, omega arith), y.1), giving c is z.below outs o.2 z.goes))
-base_keeps {inst = inst} (invoke calls does) m c ins outs i inside st ls over t =
-    invokes_keep does m c inst outs st ls (calls_typed calls m c ins outs i inside over t)
+base_keeps {inst = inst} (invoke calls does) m c ins outs i inside st ls over t = search (rules, invokes_keep, calls_typed)

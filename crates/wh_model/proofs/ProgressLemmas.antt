@@ -99,8 +99,7 @@ module _ (m c : Context) (inst : Instance) (d : ℕ) (s : Store) (f : List Value
       } in
       ⊎_elim (λ low. (_, enter takes low)) (λ high. (_, too_deep takes high)) (cases_lt d call_depth)
   invokes_go (host Input) vs is below over =
-      let x = top_of_type I32 below vs over in
-      by_invoke x.2 input
+      by_invoke (top_of_type I32 below vs over).2 input
   invokes_go (host Put) vs is below over =
       let x = top_of_type I64 below vs over in
       ⊎_elim
@@ -126,8 +125,7 @@ module _ (m c : Context) (inst : Instance) (d : ℕ) (s : Store) (f : List Value
       → vs ≡ us → Calls inst s us js h rest is
       → AreOfTypes rest (reverse (signature h).params ++ below) → Going inst d s f (code vs js) outs
   calls_go outs {rest = rest} {is = is} h below e calls over =
-      let x = invokes_go h rest is below over in
-      by_base outs e (invoke calls x.1)
+      by_base outs e (invoke calls (invokes_go h rest is below over).1)
 
   -- a result, or a trap
   binary_goes : (outs : List ValType) (t : ValType) (op : BinaryOp) (i j : ℕ) (vs rest : List Value) (is : Code)
@@ -186,21 +184,18 @@ module _ (m c : Context) (inst : Instance) (d : ℕ) (s : Store) (f : List Value
       let x = top_of_type I32 (reverse (o.1).params ++ z.below) vs (taking vs z.below o.4 z.over) in
       indirect_goes outs z.below y x.0 o.1 vs x.1 is (slice_get s.table x.0) refl o.3 x.2 x.4
   op_goes drop_operand is vs outs z =
-      let x = some_top z.is_op.0 z.below vs (taking vs z.below z.is_op.1 z.over) in
-      by_base outs x.2 (pure drop_top)
+      by_base outs (some_top z.is_op.0 z.below vs (taking vs z.below z.is_op.1 z.over)).2 (pure drop_top)
   op_goes select is vs outs z =
       let t = z.is_op.0 in
       let x = top_of_type I32 (t ∷ t ∷ z.below) vs (taking vs z.below z.is_op.1 z.over) in
       let y = some_top t (t ∷ z.below) x.1 x.4 in
-      let w = some_top t z.below y.1 y.4 in
-      let e = x.2 ∙ ap (λ us. value I32 x.0 ∷ us) (y.2 ∙ ap (λ us. y.0 ∷ us) w.2) in
+      let e = x.2 ∙ ap (λ us. value I32 x.0 ∷ us) (y.2 ∙ ap (λ us. y.0 ∷ us) (some_top t z.below y.1 y.4).2) in
       ⊎_elim
       (λ none. by_base outs e (pure (select_second none)))
       (λ some. by_base outs e (pure (select_first some)))
       (zero_or_not x.0)
   op_goes (local_get x) is vs outs z =
-      let v = types_get c.locals f x z.is_op.0 z.is_op.1 ls in
-      moves (base (get_local v.1))
+      moves (base (get_local (types_get c.locals f x z.is_op.0 z.is_op.1 ls).1))
   op_goes (local_set x) is vs outs z =
       let y = some_top z.is_op.0 z.below vs (taking vs z.below z.is_op.2 z.over) in
       by_base outs y.2 (set_local (local_there x z.is_op.0 z.is_op.1))
@@ -240,15 +235,12 @@ module _ (m c : Context) (inst : Instance) (d : ℕ) (s : Store) (f : List Value
   op_goes (i32_const n) is vs outs z = moves (base (pure const_i32))
   op_goes (i64_const n) is vs outs z = moves (base (pure const_i64))
   op_goes (test t op) is vs outs z =
-      let x = top_of_type t z.below vs (taking vs z.below z.is_op.0 z.over) in
-      by_base outs x.2 (pure (test_op refl))
+      by_base outs (top_of_type t z.below vs (taking vs z.below z.is_op.0 z.over)).2 (pure (test_op refl))
   op_goes (comparison t op) is vs outs z =
       let x = top_of_type t (t ∷ z.below) vs (taking vs z.below z.is_op.0 z.over) in
-      let y = top_of_type t z.below x.1 x.4 in
-      by_base outs (x.2 ∙ ap (λ us. value t x.0 ∷ us) y.2) (pure (compare_op refl refl))
+      by_base outs (x.2 ∙ ap (λ us. value t x.0 ∷ us) (top_of_type t z.below x.1 x.4).2) (pure (compare_op refl refl))
   op_goes (unary t op) is vs outs z =
-      let x = top_of_type t z.below vs (taking vs z.below z.is_op.0 z.over) in
-      by_base outs x.2 (pure (unary_op refl))
+      by_base outs (top_of_type t z.below vs (taking vs z.below z.is_op.0 z.over)).2 (pure (unary_op refl))
   op_goes (binary t op) is vs outs z =
       let x = top_of_type t (t ∷ z.below) vs (taking vs z.below z.is_op.0 z.over) in
       let y = top_of_type t z.below x.1 x.4 in

@@ -1,5 +1,5 @@
 -- In a journal of a valid module nothing gets stuck, and calls have arguments and results of their types.
-use Rattle.std.proofs.Common.{◌≡◌, ℕ, ◌<◌, inl, inr, ⊎_elim, List, [], ◌∷◌, ◌++◌, length, take, drop, reverse, Option, Some, None, slice_get, refl, sym, ap, subst, arith, ◌∙◌}
+use Rattle.std.proofs.Common.{◌≡◌, ℕ, ◌<◌, inl, inr, ⊎_elim, List, [], ◌∷◌, ◌++◌, length, take, drop, reverse, Option, Some, None, slice_get, refl, sym, ap, subst, arith, ◌∙◌, rules}
 use Rattle.std.specs.Prelude.{◌≢◌}
 use Rattle.std.proofs.lemmas.List.{length-reverse, reverse-reverse, append-nil}
 use Rattle.std.specs.List.{AllByRecursion}
@@ -57,8 +57,7 @@ call_typed : (c : Context) (inst : Instance) (s : Store) (index : ℕ) (type : F
 call_typed c inst s index type body args i st at given =
     let over = types_reverse args type.params given in
     let count = length-reverse args ∙ types_length args type.params given in
-    let takes : TakesOperands (length type.params) (reverse args) (reverse args) [] =
-    record { split = no_values (reverse args); count = count } in
+    let takes : TakesOperands (length type.params) (reverse args) (reverse args) [] = search (rules, no_values, reverse) in
     let call : CallTyped c (frame_context c [] None) (own type body) (reverse args) nothing (reverse type.results) =
     record {
       below = [];
@@ -78,8 +77,7 @@ invocation_runs c inst s call a i st x =
       type = x.type;
       is_func = (x.index, own x.type x.body, x.calls, x.is_own, refl);
       args = given;
-      typed = subst (λ w. ThreadType c inst w (reverse x.type.results)) (sym x.begins)
-          (call_typed c inst s x.index x.type x.body call.args i st x.is_own given);
+      typed = search (rules, reverse, call_typed);
     }
 
 -- at its invocation a call goes further
@@ -94,14 +92,7 @@ invoked_goes c inst s call a i st x =
 
 after_runs : (c : Context) (inst : Instance) (call : Call) (n : ℕ) (a b : Config) → InstanceType c inst
     → CallRuns c inst call a → After inst a n b → CallRuns c inst call b
-after_runs c inst call n a b i r x =
-    record {
-      type = r.type;
-      is_func = r.is_func;
-      args = r.args;
-      typed = thread_leads x.0 c
-          (reverse r.type.results) i r.typed;
-    }
+after_runs c inst call n a b i r x = search (rules, thread_leads, reverse)
 
 has_arguments : (c : Context) (inst : Instance) (call : Call) (a : Config) → CallRuns c inst call a
     → HasArguments inst call
@@ -147,8 +138,7 @@ open_arguments : {inst : Instance} {s : Store} {ps : List Piece} {call : Call} {
     → HasArguments inst call
 open_arguments (has_pieces p q) c first h = first p
 open_arguments {inst = inst} {call = call} (is_invoked {c = a} p q x) c first h = has_arguments c inst call a h.0
-open_arguments {inst = inst} {call = call} (is_under_way {c2 = b} p q x after next) c first h =
-    has_arguments c inst call b h.0
+open_arguments {inst = inst} {call = call} (is_under_way {c2 = b} p q x after next) c first h = search rules
 
 -- ---- a call that has ended
 
@@ -179,8 +169,7 @@ ends_as {inst = inst} {s = s} {ps = ps} {call = call} (has_written is none all_w
 ends_as {inst = inst} {call = call} (was_cancelled {z = z} is at) c i st all first =
     let h = stands_as at c i st all in
     (open_store c inst call z h, subst (HasTypedEnd inst call) (sym is) (open_arguments at c first h))
-ends_as {inst = inst} {call = call} (never_began is none free) c i st all first =
-    (st, subst (HasTypedEnd inst call) (sym is) tt)
+ends_as {inst = inst} {call = call} (never_began is none free) c i st all first = search rules
 
 -- ---- journals
 
@@ -222,11 +211,8 @@ replays_typed {inst = inst} (ended {call = call} {calls = calls} {z = z} x r) c 
     let e = ends_as x c i st all first in
     let rest = replays_typed r c i e.0 tt (no_first inst calls) in
     ((e.1, rest.0), stands_later c inst call calls z (not_open x) rest.1)
-replays_typed {inst = inst} (at_work {call = call} {calls = calls} {z = z} p x waits) c i st all first = (
-  (subst (HasTypedEnd inst call) (sym p) tt, waiting_ends inst calls waits),
-  stands_first c inst call calls z p
-      (stands_as x c i st all),
-)
+replays_typed {inst = inst} (at_work {call = call} {calls = calls} {z = z} p x waits) c i st all first =
+    search (rules, waiting_ends, stands_first, stands_as)
 
 -- the start has no arguments, and a function that takes none
 start_arguments : (c : Context) (inst : Instance) (call : Call) (start : Option ℕ) → InstanceType c inst

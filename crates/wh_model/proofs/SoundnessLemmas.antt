@@ -1,5 +1,5 @@
 -- Reductions keep types, in every context.
-use Rattle.std.proofs.Common.{◌≡◌, ℕ, zero, suc, List, [], ◌∷◌, ◌++◌, Option, Some, slice_get, get_or, refl, sym, ap, subst, ◌∙◌, append_assoc}
+use Rattle.std.proofs.Common.{◌≡◌, ℕ, zero, suc, List, [], ◌∷◌, ◌++◌, Option, Some, slice_get, get_or, refl, sym, ap, subst, ◌∙◌, append_assoc, rules}
 use Rattle.std.specs.List.{AllByRecursion}
 use Rattle.wh_model.specs.declared.ValType.{ValType}
 use Rattle.wh_model.specs.declared.ValType.TheVariants.{I32}
@@ -39,8 +39,7 @@ jump_typed (by_br {vs = vs}) c ins outs h t =
       takes = o.0;
       any = o.1 ++ z.below;
       label = o.2;
-      over = subst (AreOfTypes vs)
-          (append_assoc (operand o.0) o.1 z.below) (taking vs z.below o.3 z.over);
+      over = search (rules, append_assoc, taking);
     }
 jump_typed (by_br_if {i = i} {vs = vs} some) c ins outs h t =
     let z = stands (value I32 i ∷ vs) h t in
@@ -53,16 +52,13 @@ jump_typed (by_br_table {i = i} {last = last} {ls = ls} {vs = vs} is) c ins outs
       takes = o.0;
       any = o.1 ++ z.below;
       label = ap (λ k. slice_get c.labels k) is ∙ label_of c o.0 i last ls o.2 o.3;
-      over = subst (AreOfTypes vs) (append_assoc (operand o.0) o.1 z.below)
-          (taking (value I32 i ∷ vs) z.below o.4 z.over).1;
+      over = search (rules, append_assoc, taking);
     }
 
 -- the values that are taken along
 taken_typed : (t : Option ValType) (any : List ValType) (n : ℕ) (vs us dropped : List Value) → n ≡ arity t
     → TakesOperands n vs us dropped → AreOfTypes vs (operand t ++ any) → AreOfTypes us (operand t)
-taken_typed t any n vs us dropped e takes over =
-    (types_parted us dropped (operand t) any (takes.count ∙ e ∙ arity_length t)
-    (subst (λ w. AreOfTypes w (operand t ++ any)) takes.split over)).0
+taken_typed t any n vs us dropped e takes over = search (rules, types_parted, arity_length)
 
 -- ---- reduction
 
@@ -99,8 +95,7 @@ preserves (branch {l = l} {n = arity_is} {rest = rest} {us = us} {dropped = drop
     st ls (below, ends, takes, over, n, next, body, behind) =
     let x = block_typed b m (under takes c) ends body in
     let y = jump_typed j x.around x.ins x.outs x.over x.goes in
-    let same : y.takes ≡ takes = let there = sym y.label ∙ (drop_at l x.around.labels takes c.labels x.labels).0 in
-    cc there in
+    let same : y.takes ≡ takes = search (rules, drop_at) in
     let moved = taken_typed takes y.any arity_is rest us dropped n z
     (subst (λ w. AreOfTypes rest (operand w ++ y.any)) same y.over) in (
       st,
@@ -122,8 +117,4 @@ preserves (returns {n = arity_is} {operands = operands} {us = us} {dropped = dro
     (st, ls, (operand result ++ below, types_append us vs (operand result) below moved over, behind))
 
 pub preservation : Preservation
-preservation m c inst d k a b outs i inside t x = by_config a t x
-  where
-    by_config : (a : Config) → ConfigType m inst c a outs → Reduces inst d a k b → ConfigType m inst c b outs
-    by_config (config s f t) h x = preserves x m c outs i inside h.0 h.1 h.2
-    by_config (trapped s y) h x = elim x [ ]
+preservation m c inst d k a b outs i inside t x = search (rules, preserves)

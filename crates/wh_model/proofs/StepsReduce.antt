@@ -80,8 +80,7 @@ module _ (inst : Instance) (s : Store) (f : List Value) (n : ℕ) (ls : List Lab
   op_up (br_if l) vs is c (i, us, e, w) = ⊎_elim (λ u. rw e (jump_up (value I32 i ∷ us) us (plain (br_if l) is) l c (by_br_if u.0) u.1)) (λ u. rw (e, u.1) (base_up (pure (br_if_not u.0)))) w
   op_up (br_table ks last) vs is c (i, us, e, x) = rw e (jump_up (value I32 i ∷ us) us (plain (br_table ks last) is) (get_or ks i last) c (by_br_table refl) x)
   op_up return vs is c (us, dropped, z, q) =
-      let b = block_in ls (hole {vs = vs} {is = plain return is}) (length ls) (omega arith) in
-      rw q (leaves us (λ d g ks js. returns b z) ws)
+      rw q (leaves us (λ d g ks js. returns (block_in ls (hole {vs = vs} {is = plain return is}) (length ls) (omega arith)) z) ws)
   op_up (call x) vs is c (h, e, w) = call_up h vs vs vs (plain (call x) is) is c (by_call e) w
   op_up (call_indirect y) vs is c (i, us, e, w) =
       ⊎_elim (λ u. rw (e, u.1) (trap_up (traps (no_entry u.0))))

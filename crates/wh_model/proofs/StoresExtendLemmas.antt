@@ -1,5 +1,5 @@
 -- What reductions may leave of a store.
-use Rattle.std.proofs.Common.{◌≡◌, ℕ, ◌+◌, zero, suc, ◌≤◌, ◌⊎◌, inl, inr, ⊎_elim, List, [], ◌∷◌, ◌++◌, length, replicate, ◌*◌, None, slice_get, slice_set, refl, sym, ap, arith, ◌∙◌, append_assoc, length-append}
+use Rattle.std.proofs.Common.{◌≡◌, ℕ, ◌+◌, zero, suc, ◌≤◌, ◌⊎◌, inl, inr, ⊎_elim, List, [], ◌∷◌, ◌++◌, length, replicate, ◌*◌, None, slice_get, slice_set, refl, sym, ap, arith, ◌∙◌, append_assoc, length-append, rules}
 use Rattle.std.proofs.lemmas.List.{append-nil}
 use Rattle.wh_model.specs.declared.ValType.{ValType}
 use Rattle.wh_model.specs.declared.Mutability.TheVariants.{Const, Var}
@@ -15,30 +15,10 @@ use Rattle.wh_model.proofs.TermTypingLemmas.{stands}
 use Rattle.wh_model.proofs.StuckLemmas.{thread_preservation}
 
 same_store : (m : Context) (s : Store) → StoreExtends m s s
-same_store m s =
-    record {
-      memory = omega arith;
-      table = refl;
-      inputs = refl;
-      constants = λ x g at const. refl;
-      output = ([], sym (append-nil s.output));
-    }
+same_store m s = search rules
 
 extends_further : (m : Context) (a b c : Store) → StoreExtends m a b → StoreExtends m b c → StoreExtends m a c
-extends_further m a b c x y =
-    let low = x.memory in
-    let above = y.memory in
-    record {
-      memory = omega (arith, low, above);
-      table = y.table ∙ x.table;
-      inputs = y.inputs ∙ x.inputs;
-      constants = λ n g at const. y.constants n g at const ∙ x.constants n g at const;
-      output = (
-        x.output.0 ++ y.output.0,
-        y.output.1 ∙ ap (λ w. w ++ y.output.0) x.output.1
-            ∙ append_assoc a.output x.output.0 y.output.0,
-      );
-    }
+extends_further m a b c x y = search (rules, append_assoc)
 
 -- a write leaves all other places
 set_elsewhere : {X : Type 0} (xs : List X) (i j : ℕ) (x : X)
@@ -51,24 +31,10 @@ set_elsewhere (y ∷ ys) (suc i) (suc j) x = ⊎_elim (λ e. inl (ap suc e)) (λ
 
 more_memory : (m : Context) (s : Store) (bytes : List ℕ) → length s.bytes ≤ length bytes
     → StoreExtends m s (record s { bytes = bytes })
-more_memory m s bytes low =
-    record {
-      memory = low;
-      table = refl;
-      inputs = refl;
-      constants = λ x g at const. refl;
-      output = ([], sym (append-nil s.output));
-    }
+more_memory m s bytes low = search rules
 
 output_appended : (m : Context) (s : Store) (more : List ℕ) → StoreExtends m s (record s { output = s.output ++ more })
-output_appended m s more =
-    record {
-      memory = omega arith;
-      table = refl;
-      inputs = refl;
-      constants = λ x g at const. refl;
-      output = (more, refl);
-    }
+output_appended m s more = search rules
 
 never_both : (g h : GlobalType) → g ≡ h → g.mutability ≡ Const → h.mutability ≡ Var → ⊥
 never_both g h e const var = let same = sym const ∙ ap (λ (k : GlobalType). k.mutability) e ∙ var in absurd (cc same)
@@ -100,23 +66,14 @@ base_extends {s = s} (set_global {x = x} {v = v} {vs = vs} low) m c ins outs ins
       memory = omega arith;
       table = refl;
       inputs = refl;
-      constants = λ y g at const. ⊎_elim
-          (λ same. let both : g ≡ o.0 = let there = sym at ∙ ap (λ gs. slice_get gs y) (sym inside.4)
-          ∙ ap (λ n. slice_get c.globals n) (sym same) ∙ o.1 in cc there in
-          absurd (never_both g o.0 both const o.2))
-          (λ other. other)
-          (set_elsewhere s.globals x y v);
+      constants = search (rules, ⊎_elim, never_both, set_elsewhere);
       output = ([], sym (append-nil s.output));
     }
 base_extends {s = s} (load_bytes within) m c ins outs inside over t = same_store m s
 base_extends {s = s} (store_bytes {op = op} {i = i} {n = n} {offset = offset} e within) m c ins outs inside over t =
-    let count = length-bytes_of (store_type op).1 n in
-    let same = length-written s.bytes (bytes_of (store_type op).1 n) (i + offset) (omega (arith, count, within)) in
-    more_memory m s _ (omega (arith, same))
+    search (rules, length-bytes_of, length-written, more_memory)
 base_extends {s = s} size_pages m c ins outs inside over t = same_store m s
-base_extends {s = s} (grow_pages {n = n} room) m c ins outs inside over t =
-    let count = length-append s.bytes (replicate (n * 65536) 0) in
-    more_memory m s _ (omega (arith, count))
+base_extends {s = s} (grow_pages {n = n} room) m c ins outs inside over t = search (rules, length-append, replicate, more_memory)
 base_extends {s = s} (grow_too_far room) m c ins outs inside over t = same_store m s
 base_extends (invoke calls does) m c ins outs inside over t = invokes_extends does m
 
@@ -139,8 +96,7 @@ reduces_extends {s = s} (returns b z) m c outs inside t = same_store m s
 
 thread_extends : (m : Context) (inst : Instance) (k : ℕ) (a b : Config) (outs : List ValType) → ThreadType m inst a outs
     → Reduces inst 0 a k b → StoreExtends m (store_of a) (store_of b)
-thread_extends m inst k (config s f t) b outs h r =
-    reduces_extends r m (frame_context m [] None) outs (refl, refl, refl, refl, refl) h.0.2
+thread_extends m inst k (config s f t) b outs h r = search (rules, reduces_extends)
 thread_extends m inst k (trapped s x) b outs h r = elim r [ ]
 
 leads_extend : {inst : Instance} {n : ℕ} {a b : Config} → Leads inst a n b → (m : Context) (outs : List ValType)

@@ -1,5 +1,5 @@
 -- Typed configurations outside of all functions: each has ended or goes further, and so nothing gets stuck.
-use Rattle.std.proofs.Common.{◌≡◌, ℕ, suc, ◌≤◌, ◌⊎◌, inl, inr, ⊎_elim, List, [], ◌++◌, length, Option, None, slice_get, refl, sym, ap, subst, arith, ◌∙◌, append_assoc}
+use Rattle.std.proofs.Common.{◌≡◌, ℕ, suc, ◌≤◌, ◌⊎◌, inl, inr, ⊎_elim, List, [], ◌++◌, length, Option, None, slice_get, refl, sym, ap, subst, arith, ◌∙◌, append_assoc, rules}
 use Rattle.std.proofs.lemmas.Bool.{cases_lt}
 use Rattle.wh_model.specs.declared.ValType.{ValType}
 use Rattle.wh_model.specs.Format.{Code, nothing, plain, return}
@@ -19,16 +19,7 @@ use Rattle.wh_model.proofs.ProgressLemmas.{Going, at_end, moves, jumps, leaves, 
 -- values on top that a branch or a return takes along
 takes_typed : (t : Option ValType) (any : List ValType) (n : ℕ) (vs : List Value) → n ≡ arity t
     → AreOfTypes vs (operand t ++ any) → (us ws : List Value) × TakesOperands n vs us ws
-takes_typed t any n vs e over =
-    let cut = types_split (operand t) any vs over in (
-      cut.0,
-      cut.1,
-      record {
-        split = cut.2;
-        count = types_length cut.0 (operand t) cut.3 ∙ sym (arity_length t)
-            ∙ sym e;
-      },
-    )
+takes_typed t any n vs e over = search (rules, types_split, types_length, arity_length)
 
 in_a_label : {inst : Instance} {d k : ℕ} {s : Store} {f vs : List Value} {t : Term} (n : ℕ) (next is : Code)
     (b : Config) → Reduces inst d (config s f t) k b → (r : Config)
@@ -42,8 +33,7 @@ in_a_frame {f = f} {vs = vs} n is (config s2 g2 t2) x = (config s2 f (frame vs n
 in_a_frame n is (trapped s2 y) x = (trapped s2 y, trap_frame x)
 
 same_or_above : (k l : ℕ) → k ≤ l → (l ≡ k) ⊎ (suc k ≤ l)
-same_or_above k l low =
-    ⊎_elim (λ above. inr (omega (arith, above))) (λ not. inl (omega (arith, low, not))) (cases_lt k l)
+same_or_above k l low = search rules
 
 -- a branch to the label, from operands that can be parted
 branches_out : {inst : Instance} {d l n : ℕ} {s : Store} {f us rest : List Value} {t : Term} {js : Code}
@@ -69,8 +59,7 @@ label_goes {inst = inst} {d = d} {s = s} {f = f} {t = t} {ends = ends}
     (λ same.
     let x = block_typed b m (under takes c) ends body in
     let y = jump_typed j x.around x.ins x.outs x.over x.goes in
-    let there : y.takes ≡ takes = let at = sym y.label ∙ ap (λ w. slice_get x.around.labels w) same
-    ∙ (drop_at k x.around.labels takes c.labels x.labels).0 in cc at in
+    let there : y.takes ≡ takes = search (rules, drop_at) in
     let z = takes_typed takes y.any n rest e (subst (λ w. AreOfTypes rest (operand w ++ y.any)) there y.over) in
     branches_out outs vs next is b (subst (λ w. Jumps us js w rest) same j) z)
     (λ above. jumps (inner b) j above)
@@ -102,8 +91,7 @@ frame_goes {ends = ends} (leaves {vs = us} b) m vs n is locals result ends_are e
 term_goes : (t : Term) (m c : Context) (inst : Instance) (d : ℕ) (s : Store) (f : List Value) (outs : List ValType)
     → InstanceType m inst → IsInside m c → StoreType m inst s → AreOfTypes f c.locals → TermType m c t outs
     → Going inst d s f t outs
-term_goes (code vs is) m c inst d s f outs i inside st ls (ins, over, t) =
-    code_goes m c inst d s f i inside st ls is vs ins outs over t
+term_goes (code vs is) m c inst d s f outs i inside st ls (ins, over, t) = search (rules, code_goes)
 term_goes (label vs n next t is) m c inst d s f outs i inside st ls (below, ends, takes, over, e, goes, body, behind) =
     label_goes (term_goes t m (under takes c) inst d s f ends i inside st ls body) m c outs vs n next is takes e body
 term_goes (frame vs n g t is) m c inst d s f outs i inside st ls (below, locals, result, over, e, given, body, behind) =
@@ -130,8 +118,7 @@ AloneToo (trapped s x) = Unit {0}
 frame_alone : {inst : Instance} {d k n : ℕ} {s : Store} {f g vs : List Value} {t : Term} {is : Code} {b : Config}
     → Reduces inst d (config s f (frame vs n g t is)) k b → vs ≡ [] → is ≡ nothing → AloneToo b
 unfolding AloneToo
-frame_alone {n = n} {vs = vs} {is = is} (in_frame {g2 = g2} {t2 = t2} x) e q =
-    subst (λ w. IsAlone (frame w n g2 t2 is)) (sym e) (subst (λ w. IsAlone (frame [] n g2 t2 w)) (sym q) tt)
+frame_alone {n = n} {vs = vs} {is = is} (in_frame {g2 = g2} {t2 = t2} x) e q = search rules
 frame_alone (trap_frame x) e q = tt
 frame_alone {vs = vs} (leave_frame {us = us} count) e q = subst (λ w. IsAlone (code (us ++ vs) w)) (sym q) tt
 frame_alone {vs = vs} (returns {us = us} b z) e q = subst (λ w. IsAlone (code (us ++ vs) w)) (sym q) tt
@@ -145,10 +132,7 @@ with_alone m inst (trapped s x) outs h alone = h
 pub thread_preservation : ThreadPreservation
 thread_preservation m inst k (trapped s x) b outs i h r = elim r [ ]
 thread_preservation m inst k (config s f (code vs nothing)) b outs i h r = absurd (done_stays r)
-thread_preservation m inst k (config s f (frame [] n g t nothing)) b outs i h r =
-    with_alone m inst b outs
-    (preservation m (frame_context m [] None) inst 0 k (config s f (frame [] n g t nothing)) b outs i
-    (refl, refl, refl, refl, refl) h.0 r) (frame_alone r refl refl)
+thread_preservation m inst k (config s f (frame [] n g t nothing)) b outs i h r = search (rules, with_alone, preservation, frame_alone)
 thread_preservation m inst k (config s f t) b outs i h r = absurd h.1
 
 pub thread_leads : {inst : Instance} {n : ℕ} {a b : Config} → Leads inst a n b → (m : Context) (outs : List ValType)

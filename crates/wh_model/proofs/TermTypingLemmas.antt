@@ -1,5 +1,5 @@
 -- Typing taken apart: what the type of a sequence says of its first instruction, and a term's of its innermost one.
-use Rattle.std.proofs.Common.{◌≡◌, ℕ, zero, suc, ◌≤◌, List, [], ◌∷◌, ◌++◌, length, drop, Option, Some, None, slice_get, refl, subst, arith}
+use Rattle.std.proofs.Common.{◌≡◌, ℕ, zero, suc, ◌≤◌, List, [], ◌∷◌, ◌++◌, length, drop, Option, Some, None, slice_get, refl, subst, arith, rules}
 use Rattle.std.proofs.lemmas.List.{append-nil}
 use Rattle.wh_model.specs.declared.ValType.{ValType}
 use Rattle.wh_model.specs.declared.ValType.TheVariants.{I32}
@@ -53,9 +53,7 @@ pub record Stands (c : Context) (op : Op) (rest : Code) (vs : List Value) (outs 
 
 pub stands : {c : Context} {op : Op} {rest : Code} {ins outs : List ValType} (vs : List Value) → AreOfTypes vs ins
     → HasType c (plain op rest) ins outs → Stands c op rest vs outs
-stands vs h t =
-    let x = parts t in
-    record { ins = x.0; gives = x.1; below = x.2; is_op = x.4; over = subst (λ w. AreOfTypes vs w) x.3 h; goes = x.5 }
+stands vs h t = search rules
 
 -- ---- results of one value at most
 
@@ -95,8 +93,7 @@ pub record Inside (k : ℕ) (c : Context) (vs : List Value) (is : Code) : Type 0
 
 pub block_typed : {k : ℕ} {t : Term} {vs : List Value} {is : Code} → Block k t vs is
     → (m c : Context) (outs : List ValType) → TermType m c t outs → Inside k c vs is
-block_typed hole m c outs (ins, over, goes) =
-    record { around = c; ins = ins; outs = outs; over = over; goes = goes; result = refl; labels = refl }
+block_typed hole m c outs (ins, over, goes) = search rules
 block_typed (inner {k = k} b) m c outs (below, ends, takes, over, n, next, inside, behind) =
     let x = block_typed b m (under takes c) ends inside in
     record {

@@ -165,7 +165,6 @@ zeros_at bs n i k e = let h : i + k - i ≡ k = omega arith in rw (e, h) (number
 -- in a page of zeros the last word is 0
 pub last_word : (inst : Instance) (s : Store) → s.bytes ≡ replicate 65536 0 → Done inst (invoked s (I32 ∷ []) (I32 ∷ []) (load_there 0) (value I32 65532 ∷ [])) s (value I32 0 ∷ []) 2
 last_word inst s zeros =
-    let word = zeros_at s.bytes 65536 65532 4 zeros in
     let size : length s.bytes ≡ 65536 = ap length zeros ∙ length-replicate {A = ℕ} 65536 0 in
     done s s (I32 ∷ []) (I32 ∷ []) (load_there 0) (value I32 65532 ∷ []) (value I32 0 ∷ []) 2
     (steps 1 1 (refl, (_, refl, refl)) (steps 1 0 (
@@ -182,7 +181,7 @@ last_word inst s zeros =
             labels = record { carries = 1; next = nothing; beneath = []; after_end = nothing } ∷ [];
             locals = value I32 65532 ∷ [];
             results = 1;
-          }) []) (sym word),
+          }) []) (sym (zeros_at s.bytes 65536 65532 4 zeros)),
         ),
       ),
     )

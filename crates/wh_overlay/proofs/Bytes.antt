@@ -1,5 +1,5 @@
 -- Bytes that are written over others, and what is read of them then.
-use Rattle.std.proofs.Common.{◌≡◌, ◌∙◌, ℕ, ◌+◌, ◌-◌, ◌≤◌, List, [], ◌∷◌, ◌++◌, length, replicate, take, drop, zero, suc, refl, sym, ap, arith, length-append}
+use Rattle.std.proofs.Common.{◌≡◌, ◌∙◌, ℕ, ◌+◌, ◌-◌, ◌≤◌, List, [], ◌∷◌, ◌++◌, length, replicate, take, drop, zero, suc, refl, sym, ap, arith, length-append, rules}
 use Rattle.std.proofs.Math.Seq.{drop-append-add}
 use Rattle.std.proofs.lemmas.List.{take-append-le, drop-append-le, length-take-le, length-drop, take_rest, take-replicate, drop-replicate}
 use Rattle.wh_model.specs.Execution.{bytes_at, written}
@@ -22,38 +22,25 @@ halves (suc n) (x ∷ xs) = ap (λ z. x ∷ z) (halves n xs)
 
 pub cut : (xs : List ℕ) (at n : ℕ) → at + n ≤ length xs → IsCut xs at n
 cut xs at n within =
-    let rest = length-drop at xs in
     record {
       before = take at xs;
       mid = take n (drop at xs);
       behind = drop n (drop at xs);
       is = sym (ap (λ z. take at xs ++ z) (halves n (drop at xs)) ∙ halves at xs);
       begins = length-take-le at xs (omega arith);
-      long = length-take-le n (drop at xs) (omega (arith, rest));
+      long = length-take-le n (drop at xs) (omega (arith, length-drop at xs));
     }
 
 -- ---- bytes that are read
 
 pub read_first : (x rest : List ℕ) (r n : ℕ) → r + n ≤ length x → bytes_at (x ++ rest) r n ≡ bytes_at x r n
-read_first x rest r n within =
-    let at : r ≤ length x = omega arith in
-    let e = drop-append-le r x rest at in
-    let l : (r + n) - r ≤ length (drop r x) = simp length-drop (omega arith) in
-    let e2 = take-append-le ((r + n) - r) (drop r x) rest l in
-    rw (e, e2) refl
+read_first x rest r n within = search (rules, drop-append-le, length-drop, take-append-le)
 
 pub read_past : (x rest : List ℕ) (k n : ℕ) → bytes_at (x ++ rest) (length x + k) n ≡ bytes_at rest k n
-read_past x rest k n =
-    let e = drop-append-add x rest k in
-    let a : ((length x + k) + n) - (length x + k) ≡ (k + n) - k = omega arith in
-    rw (e, a) refl
+read_past x rest k n = search (rules, drop-append-add)
 
 pub read_zeros : (m k n : ℕ) → k + n ≤ m → bytes_at (replicate m 0) k n ≡ replicate n 0
-read_zeros m k n within =
-    let a = drop-replicate {X = ℕ} k m 0 in
-    let b = take-replicate {X = ℕ} ((k + n) - k) (m - k) 0 (omega (arith, within)) in
-    let e : (k + n) - k ≡ n = omega arith in
-    rw (a, b, e) refl
+read_zeros m k n within = search (rules, drop-replicate, ℕ, take-replicate)
 
 -- ---- bytes that are written over as many
 
@@ -66,8 +53,7 @@ written_mid u m d g same =
     ap (λ z. written (u ++ (m ++ d)) z g) (sym at) ∙ written_after u (m ++ d) 0 g ∙ ap (λ z. u ++ (g ++ z)) (ap (λ z. drop z (m ++ d)) past ∙ none)
 
 pub written_cut : (xs g : List ℕ) (at : ℕ) (c : IsCut xs at (length g)) → written xs at g ≡ c.before ++ (g ++ c.behind)
-written_cut xs g at c =
-    ap (λ z. written z at g) c.is ∙ ap (λ z. written (c.before ++ (c.mid ++ c.behind)) z g) (sym c.begins) ∙ written_mid c.before c.mid c.behind g (sym c.long)
+written_cut xs g at c = search (rules, written_mid)
 
 pub written_length : (xs g : List ℕ) (at : ℕ) → at + length g ≤ length xs → length (written xs at g) ≡ length xs
 written_length xs g at within =
@@ -83,10 +69,7 @@ written_length xs g at within =
 
 -- what was written is read
 pub read_written : (xs g : List ℕ) (at k n : ℕ) → at + length g ≤ length xs → k + n ≤ length g → bytes_at (written xs at g) (at + k) n ≡ bytes_at g k n
-read_written xs g at k n within inside =
-    let c = cut xs at (length g) within in
-    ap (λ z. bytes_at z (at + k) n) (written_cut xs g at c) ∙ ap (λ z. bytes_at (c.before ++ (g ++ c.behind)) (z + k) n) (sym c.begins)
-    ∙ read_past c.before (g ++ c.behind) k n ∙ read_first g c.behind k n inside
+read_written xs g at k n within inside = search (rules, cut, written_cut, read_past, read_first)
 
 -- and what lies before it or behind is what it was
 pub read_before : (xs g : List ℕ) (at k n : ℕ) → at + length g ≤ length xs → k + n ≤ at → bytes_at (written xs at g) k n ≡ bytes_at xs k n
@@ -110,13 +93,7 @@ read_behind xs g at k n within behind =
 
 -- bytes that are written over what was written
 pub written_inside : (xs g h : List ℕ) (at k : ℕ) → at + length g ≤ length xs → k + length h ≤ length g → written xs at (written g k h) ≡ written (written xs at g) (at + k) h
-written_inside xs g h at k within inside =
-    let c = cut xs at (length g) within in
-    let same : length (written g k h) ≡ length c.mid = written_length g h k inside ∙ sym c.long in
-    ap (λ z. written z at (written g k h)) c.is ∙ ap (λ z. written (c.before ++ (c.mid ++ c.behind)) z (written g k h)) (sym c.begins)
-    ∙ written_mid c.before c.mid c.behind (written g k h) same
-    ∙ sym (ap (λ z. written z (at + k) h) (written_cut xs g at c) ∙ ap (λ z. written (c.before ++ (g ++ c.behind)) (z + k) h) (sym c.begins)
-    ∙ written_after c.before (g ++ c.behind) k h ∙ ap (λ z. c.before ++ z) (written_before g c.behind k h inside))
+written_inside xs g h at k within inside = search (rules, cut, written_length, written_mid, written_cut, written_after, written_before)
 
 -- bytes that are written apart from each other, in whichever order
 pub written_apart : (xs g h : List ℕ) (a b : ℕ) → a + length g ≤ b → b + length h ≤ length xs → written (written xs a g) b h ≡ written (written xs b h) a g
@@ -130,9 +107,7 @@ written_apart xs g h a b apart within =
     let left : written (written xs a g) b h ≡ c.before ++ (g ++ written c.behind j h) =
     ap (λ z. written z b h) (written_cut xs g a c) ∙ ap (λ z. written (c.before ++ (g ++ c.behind)) z h) first
     ∙ written_after c.before (g ++ c.behind) (length g + j) h ∙ ap (λ z. c.before ++ z) (written_after g c.behind j h) in
-    let right : written xs b h ≡ c.before ++ (c.mid ++ written c.behind j h) =
-    ap (λ z. written z b h) c.is ∙ ap (λ z. written (c.before ++ (c.mid ++ c.behind)) z h) second
-    ∙ written_after c.before (c.mid ++ c.behind) (length c.mid + j) h ∙ ap (λ z. c.before ++ z) (written_after c.mid c.behind j h) in
+    let right : written xs b h ≡ c.before ++ (c.mid ++ written c.behind j h) = search (rules, written_after) in
     left ∙ sym (ap (λ z. written z a g) right ∙ ap (λ z. written (c.before ++ (c.mid ++ written c.behind j h)) z g) (sym begins)
     ∙ written_mid c.before c.mid (written c.behind j h) g (sym long))
 

@@ -1,5 +1,5 @@
 -- A memory that has grown where it is written back.
-use Rattle.std.proofs.Common.{◌≡◌, ◌∙◌, ℕ, ◌+◌, ◌-◌, ◌*◌, ◌/◌, ◌<◌, ◌≤◌, Bool, true, false, List, [], ◌∷◌, ◌++◌, Option, None, Some, length, get_or, replicate, slice_get, zero, suc, refl, ap, arith}
+use Rattle.std.proofs.Common.{◌≡◌, ◌∙◌, ℕ, ◌+◌, ◌-◌, ◌*◌, ◌/◌, ◌<◌, ◌≤◌, true, List, [], ◌∷◌, ◌++◌, Option, None, Some, length, get_or, replicate, slice_get, zero, suc, refl, ap, arith, rules}
 use Rattle.wh_model.specs.declared.memory.Grown.{Grown}
 use Rattle.wh_model.specs.declared.memory.Grown.TheVariants.{Done, Refused}
 use Rattle.wh_model.specs.Execution.{Grows}
@@ -18,10 +18,7 @@ in_front (z ∷ xs) ys (suc i) x e = in_front xs ys i x e
 
 -- pages stay
 pub same_before : (s s2 : Space) (i n : ℕ) (grown : Grown) (number : ℕ) (state : Page) → LeavesGrowth s i n grown s2 → page_at s.tables i number ≡ Some state → page_at s2.tables i number ≡ Some state
-same_before s s2 i n (Done pages) number state grew there =
-    let row = get_or s.tables i [] in
-    let less = (is_page s.tables i number state there).0 in
-    ap (λ (z : Space). page_at z.tables i number) grew ∙ ap (λ t. slice_get t number) (got_there s.tables i (row ++ replicate (16 * n) Untouched) [] less) ∙ in_front row (replicate (16 * n) Untouched) number state there
+same_before s s2 i n (Done pages) number state grew there = search (rules, is_page, got_there, replicate, in_front)
 same_before s s2 i n Refused number state same there = ap (λ (z : Space). page_at z.tables i number) same ∙ there
 
 -- and others' too
@@ -47,12 +44,7 @@ repeated (suc n) x (suc p) less = repeated n x p (omega (arith, less))
 -- the pages by which it has grown are untouched
 pub come_behind : (s s2 : Space) (i n before p : ℕ) {t : Option Occupant} → LeavesGrowth s i n (Done before) s2 → IsSound s → slice_get s.occupants i ≡ Some t → length (get_or s.tables i []) ≤ p
     → p < length (get_or s.tables i []) + 16 * n → page_at s2.tables i p ≡ Some Untouched
-come_behind s s2 i n before p {t} grew sound there least less =
-    let row = get_or s.tables i [] in
-    let known = there_of s.occupants i t there in
-    let within : i < length s.tables = omega (arith, sound.occupants.tables, known) in
-    ap (λ (z : Space). page_at z.tables i p) grew ∙ ap (λ t. slice_get t p) (got_there s.tables i (row ++ replicate (16 * n) Untouched) [] within)
-    ∙ behind row (replicate (16 * n) Untouched) p least ∙ repeated (16 * n) Untouched (p - length row) (omega (arith, least, less))
+come_behind s s2 i n before p {t} grew sound there least less = search (rules, there_of, got_there, replicate, behind, repeated)
 
 -- who may grow lives
 pub record Lives (xs : List (Option Occupant)) (i : ℕ) : Type 0 where
@@ -64,11 +56,7 @@ pub record Lives (xs : List (Option Occupant)) (i : ℕ) : Type 0 where
 pub lives : (xs : List (Option Occupant)) (i : ℕ) → 1 ≤ limit_by (claim_of (get_or xs i None)) → Lives xs i
 lives [] i some = absurd (omega (arith, some))
 lives (None ∷ xs) zero some = absurd (omega (arith, some))
-lives (Some t ∷ xs) zero some = by t.live refl
-  where
-    by : (b : Bool) → t.live ≡ b → Lives (Some t ∷ xs) zero
-    by true is = record { occupant = t; there = refl; live = is; limit = rw is refl }
-    by false is = absurd (let none : limit_by (claim_of (Some t)) ≡ 0 = rw is refl in omega (arith, some, none))
+lives (Some t ∷ xs) zero some = search rules
 lives (x ∷ xs) (suc i) some =
     let rest = lives xs i some in
     record { occupant = rest.occupant; there = rest.there; live = rest.live; limit = rest.limit }
@@ -76,6 +64,5 @@ lives (x ∷ xs) (suc i) some =
 pub come_after : (s s2 : Space) (i n : ℕ) (grown : Grown) (p : ℕ) → LeavesGrowth s i n grown s2 → Grows (page_limit s i) (view s i) n grown (view s2 i) → IsSound s → 1 ≤ n → length (view s i) + n * 65536 ≤ page_limit s i * 65536
     → length (get_or s.tables i []) ≤ p → p < length (get_or s.tables i []) + 16 * n → page_at s2.tables i p ≡ Some Untouched
 come_after s s2 i n (Done before) p grew grows sound some within least less =
-    let it = lives s.occupants i (omega (arith, some, within)) in
-    come_behind s s2 i n before p grew sound it.there least less
+    come_behind s s2 i n before p grew sound (lives s.occupants i (omega (arith, some, within))).there least less
 come_after s s2 i n Refused p same grows sound some within least less = absurd (let past = grows.0 in omega (arith, past, within))

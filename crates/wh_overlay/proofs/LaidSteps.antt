@@ -1,5 +1,5 @@
 -- Steps by which what was written beside a memory is written back, and several one after the other.
-use Rattle.std.proofs.Common.{◌≡◌, ◌≢◌, ◌∙◌, ◌⊎◌, inl, inr, ℕ, ◌+◌, ◌*◌, ◌/◌, ◌%◌, ◌<◌, ◌≤◌, Bool, true, false, List, [], ◌∷◌, ◌++◌, Option, None, Some, length, length-append, get_or, replicate, slice_get, zero, suc, refl, sym, ap, subst, arith}
+use Rattle.std.proofs.Common.{◌≡◌, ◌≢◌, ◌∙◌, ◌⊎◌, inl, inr, ℕ, ◌+◌, ◌*◌, ◌/◌, ◌%◌, ◌<◌, ◌≤◌, Bool, true, false, List, [], ◌∷◌, ◌++◌, Option, None, Some, length, length-append, get_or, replicate, slice_get, zero, suc, refl, sym, ap, subst, arith, rules}
 use Rattle.std.proofs.lemmas.Bool.{cases_eq}
 use Rattle.std.proofs.lemmas.Bool.Decides.{nat_tests}
 use Rattle.wh_model.specs.declared.memory.Got.{Got}
@@ -35,12 +35,8 @@ use Rattle.wh_overlay.proofs.Marks.{got_there}
 
 takes_free : (s : Space) (i g : ℕ) (bytes : List ℕ) (s2 : Space) → TakesFrame s i g bytes s2 → length s.pool.free ≤ length s2.pool.free + 1
 takes_free s i g bytes s2 (inl (rest, (before, behind, was, now), is)) =
-    let a = ap length was in
-    let b = ap length now in
-    let c = length-append before (g ∷ behind) in
-    let d = length-append before behind in
     let e : length s2.pool.free ≡ length rest = ap (λ (z : Space). length z.pool.free) is in
-    omega (arith, a, b, c, d, e)
+    omega (arith, ap length was, ap length now, length-append before (g ∷ behind), length-append before behind, e)
 takes_free s i g bytes s2 (inr (rest, of, is)) = let e : length s2.pool.free ≡ length s.pool.free = ap (λ (z : Space). length z.pool.free) is in omega (arith, e)
 
 leaves_free : (s : Space) (i f g : ℕ) (s2 : Space) → LeavesSharers s i f g s2 → length s.pool.free ≤ length s2.pool.free + 1
@@ -58,19 +54,17 @@ gets_free s i (Swapped k) g s2 none = absurd none
 
 breaks_free : (s : Space) (i p : ℕ) (s2 : Space) → Breaks s i p s2 → length s.pool.free ≤ length s2.pool.free + at lacks_frame (page_at s.tables i p)
 breaks_free s i p s2 b =
-    let gets = gets_free s i b.page b.frame b.mid b.gets in
     let e : length s2.pool.free ≡ length b.mid.pool.free = ap (λ (z : Space). length z.pool.free) b.after in
     let w : at lacks_frame (page_at s.tables i p) ≡ lacks_frame b.page = ap (at lacks_frame) b.was in
-    omega (arith, gets, e, w)
+    omega (arith, gets_free s i b.page b.frame b.mid b.gets, e, w)
 
 -- bytes of one page are written
 over_free : (s : Space) (i k p : ℕ) (given : List ℕ) (s2 : Space) → pages_of_need (writing k (length given)) ≡ p ∷ [] → Overwrites s i k given s2 → length s.pool.free ≤ length s2.pool.free + at lacks_frame (page_at s.tables i p)
 over_free s i k p given s2 pages o =
     let each = subst (λ ps. BreaksEach s i ps o.mid) pages o.breaks in
-    let one = breaks_free s i p each.0 each.1 in
     let e : length o.mid.pool.free ≡ length each.0.pool.free = ap (λ (z : Space). length z.pool.free) each.2 in
     let f : length s2.pool.free ≡ length o.mid.pool.free = ap (λ (z : Space). length z.pool.free) o.fills.after in
-    omega (arith, one, e, f)
+    omega (arith, breaks_free s i p each.0 each.1, e, f)
 
 copies_one : (n : ℕ) → copies 1 n ≤ 1
 copies_one n = grind (arith, nat_tests)
@@ -89,10 +83,8 @@ wants_at_most s (Swapped k) = omega arith
 pub can_be_written : (s : Space) (i p : ℕ) → IsSound s → IsAtHand (page_at s.tables i p) → at lacks_frame (page_at s.tables i p) ≤ length s.pool.free → CanBreak s i p
 can_be_written s i p sound hand some =
     let x = at_hand (page_at s.tables i p) hand in
-    let wants = frames_one_page s i p x.0 sound.frames x.1 in
-    let most = wants_at_most s x.0 in
     let w : at lacks_frame (page_at s.tables i p) ≡ lacks_frame x.0 = ap (at lacks_frame) x.1 in
-    (hand, omega (arith, wants, most, w, some))
+    (hand, omega (arith, frames_one_page s i p x.0 sound.frames x.1, wants_at_most s x.0, w, some))
 
 lacks_one : (x : Page) → lacks_frame x ≤ 1
 lacks_one Untouched = omega arith
@@ -150,15 +142,13 @@ pub touch_step : (s : Space) (i p : ℕ) (s2 : Space) → IsSound s → IsAtHand
 touch_step s i p s2 sound hand is =
     let tables : s2.tables ≡ s.tables = ap (λ (z : Space). z.tables) is in
     let free : length s2.pool.free ≡ length s.pool.free = ap (λ (z : Space). length z.pool.free) is in
-    let quiet = steps_quiet s i in
     let on = at_hand (page_at s.tables i p) hand in
     let less = (is_page s.tables i p on.0 on.1).1 in
-    let marks = sound.occupants.marks i in
-    let mark = some_at (get_or s.touched i []) p (omega (arith, less, marks)) in
+    let mark = some_at (get_or s.touched i []) p (omega (arith, less, sound.occupants.marks i)) in
     let marked : s2.touched ≡ put s.touched i p true = ap (λ (z : Space). z.touched) is ∙ ap (touching s.touched i) (first_byte p) in
     let here : IsTouched s2 i p = ap (λ t. page_at t i p) marked ∙ put_this s.touched i p mark.0 true mark.1 in
     record {
-      sees = ap (λ (b : List (List (List ℕ))). joined (get_or b i [])) (quiet.touches (4096 * p) 1 s2 is);
+      sees = ap (λ (b : List (List (List ℕ))). joined (get_or b i [])) ((steps_quiet s i).touches (4096 * p) 1 s2 is);
       keeps = keeps_load s i (4096 * p) 1 Value s2 is;
       read = λ q read. subst (IsTouched s2 i) (the_number p q read) here;
       own = λ j x there. absurd (cc there);
@@ -198,10 +188,7 @@ growth_step s s2 i n grown sound leaves sees come =
       read = λ p is. absurd (let none = is.1 in cc none);
       own = λ k x there. absurd (cc there);
       free = omega (arith, free);
-      at_hand = λ p hand.
-          (let x = at_hand (page_at s.tables i p) hand in
-          let now = same_before s s2 i n grown p x.0 leaves x.1 in
-          subst IsAtHand (x.1 ∙ sym now) hand);
+      at_hand = search (rules, at_hand, same_before);
       come = λ p least less. subst IsAtHand (sym (come p least less)) refl;
       alone = λ p own. (own.0, same_before s s2 i n grown p (Private own.0) leaves own.1);
       touched = λ p was. marks_before s s2 i n p grown leaves was;
@@ -239,10 +226,9 @@ page_step s i x s2 sound long o =
     let own : IsOnItsOwn s2 i p = right.own p (rw pages (let e = one_same p p refl in omega (arith, e))) in
     let rest : (q : ℕ) → q ≢ p → page_at s2.tables i q ≡ page_at s.tables i q = λ q other. right.rest q (rw pages (let e = one_other q p other in omega (arith, e))) in
     let each = subst (λ ps. BreaksEach s i ps o.mid) pages o.breaks in
-    let was = is_page s.tables i p each.1.page each.1.was in
     let marked : s2.touched ≡ put s.touched i p true = right.touched ∙ ap (touching s.touched i) pages in
     let marks = sound.occupants.marks i in
-    let mark = some_at (get_or s.touched i []) p (omega (arith, was.1, marks)) in
+    let mark = some_at (get_or s.touched i []) p (omega (arith, (is_page s.tables i p each.1.page each.1.was).1, marks)) in
     let touched : IsTouched s2 i p = ap (λ t. page_at t i p) marked ∙ put_this s.touched i p mark.0 true mark.1 in
     let free = over_free s i k p x.bytes s2 pages o in
     record {
@@ -251,15 +237,9 @@ page_step s i x s2 sound long o =
       read = λ q is. absurd (let none = is.1 in cc none);
       own = λ j y there. subst (λ (z : WrittenPage). IsOnItsOwn s2 i z.number × IsTouched s2 i z.number) (the_one x j y there) (own, touched);
       free = omega (arith, free);
-      at_hand = λ q hand. elim (cases_eq q p) [
-        | inl same ↦ subst IsAtHand (sym (ap (page_at s2.tables i) same ∙ own.1)) refl
-        | inr other ↦ subst IsAtHand (sym (rest q other)) hand
-      ];
+      at_hand = search (rules, cases_eq);
       come = λ q least less. absurd (omega (arith, least, less));
-      alone = λ q is. elim (cases_eq q p) [
-        | inl same ↦ (own.0, ap (page_at s2.tables i) same ∙ own.1)
-        | inr other ↦ (is.0, rest q other ∙ is.1)
-      ];
+      alone = search (rules, cases_eq);
       touched = λ q is. ap (λ t. page_at t i q) marked ∙ put_true s.touched i p q is;
       others = right.other_tables;
     }
@@ -269,9 +249,8 @@ pub page_ready : (s : Space) (i : ℕ) (x : WrittenPage) → IsSound s → lengt
     → Ready s i (writing (4096 * x.number) (length x.bytes)) × (4096 * x.number + length x.bytes ≤ 4096 * length (get_or s.tables i []))
 page_ready s i x sound long hand some =
     let on = at_hand (page_at s.tables i x.number) hand in
-    let less = (is_page s.tables i x.number on.0 on.1).1 in
     let can = can_step_one s i x.number (can_be_written s i x.number sound hand some) in
-    (subst (CanStep s i true) (sym (its_page x long)) can, omega (arith, long, less))
+    (subst (CanStep s i true) (sym (its_page x long)) can, omega (arith, long, (is_page s.tables i x.number on.0 on.1).1))
 
 -- a store that is ready is done
 pub is_stored : (s : Space) (i k : ℕ) (given : List ℕ) (got : Got) (s2 : Space) → IsSound s → Ready s i (writing k (length given)) → k + length given ≤ 4096 * length (get_or s.tables i [])
@@ -294,8 +273,7 @@ lacks_less s m i p stays hand = let x = at_hand (page_at s.tables i p) hand in b
     most : (x : Page) → page_at s.tables i p ≡ Some x → lacks_frame x ≡ 1 → at lacks_frame (page_at m.tables i p) ≤ at lacks_frame (page_at s.tables i p)
     most x is one =
         let w : at lacks_frame (page_at s.tables i p) ≡ lacks_frame x = ap (at lacks_frame) is in
-        let less = lacks_most (page_at m.tables i p) in
-        omega (arith, w, one, less)
+        omega (arith, w, one, lacks_most (page_at m.tables i p))
 
     by : (x : Page) → page_at s.tables i p ≡ Some x → at lacks_frame (page_at m.tables i p) ≤ at lacks_frame (page_at s.tables i p)
     by Untouched is = most Untouched is refl
@@ -309,9 +287,8 @@ lacks_less s m i p stays hand = let x = at_hand (page_at s.tables i p) hand in b
 pub lacking_less : (s m : Space) (i : ℕ) (ys : List WrittenPage) → ((q : ℕ) → IsOnItsOwn s i q → IsOnItsOwn m i q) → AreAtHand s i ys → frames_lacking m i ys ≤ frames_lacking s i ys
 lacking_less s m i [] stays hand = omega arith
 lacking_less s m i (y ∷ ys) stays hand =
-    let first = lacks_less s m i y.number stays (hand 0 y refl) in
     let rest = lacking_less s m i ys stays (λ k x there. hand (suc k) x there) in
-    omega (arith, first, rest)
+    omega (arith, lacks_less s m i y.number stays (hand 0 y refl), rest)
 
 pub laid_on : (s : Space) (i g : ℕ) (rs ts us : List ℕ) (b c : List ℕ) (xs ys : List WrittenPage) (m m2 : Space) → HasLaid s i g rs b xs m → HasLaid m i 0 ts c ys m2 → ((p : ℕ) → IsNoted us p → IsNoted rs p ⊎ IsNoted ts p) → AreAtHand s i ys → HasLaid s i g us c (xs ++ ys) m2
 laid_on s i g rs ts us b c xs ys m m2 first second reads hand = record {
@@ -325,11 +302,7 @@ laid_on s i g rs ts us b c xs ys m m2 first second reads hand = record {
     | inl before ↦ (let is = first.own k x before in (second.alone x.number is.0, second.touched x.number is.1))
     | inr now ↦ second.own now.0 x now.1
   ];
-  free =
-      (let one = first.free in
-      let less = lacking_less s m i ys first.alone hand in
-      let sum = tally-append (λ (x : WrittenPage). at lacks_frame (page_at s.tables i x.number)) xs ys in
-      omega (arith, one, second.free, less, sum));
+  free = search (rules, lacking_less, tally-append);
   at_hand = λ p is. second.at_hand p (first.at_hand p is);
   come = λ p least less. second.at_hand p (first.come p least less);
   alone = λ p is. second.alone p (first.alone p is);

@@ -1,18 +1,16 @@
 -- What a call comes to over a memory, it comes to in the memory itself, once what was written is written back.
-use Rattle.std.proofs.Common.{◌≡◌, ◌∙◌, inl, inr, ℕ, ◌/◌, ◌≤◌, Bool, true, false, cond, List, [], Option, None, length, get_or, reverse, slice_get, zero, suc, refl, sym, ap, subst, arith}
+use Rattle.std.proofs.Common.{◌≡◌, ◌∙◌, inl, inr, ℕ, ◌/◌, ◌≤◌, [], length, reverse, slice_get, zero, suc, refl, sym, ap, subst, arith, rules}
 use Rattle.wh_model.specs.declared.memory.Need.{Need}
 use Rattle.wh_model.specs.Format.{nothing}
 use Rattle.wh_model.specs.Execution.Store.{Instance}
 use Rattle.wh_model.specs.Execution.{Term, code, Config, config, trapped, After, IsNext, Asks, Call, Takes, took_all, took}
 use Rattle.wh_model.proofs.Asked.{one_need}
 use Rattle.wh_host_model.specs.Host.{StepsAlone, Opens, as_it_was, Computes, Upshot, Proceeds, returns, traps, writes_all, uses_fuel, waits, waits_to_write, has_had_its_turn, Rest, Doing, computing, store_with}
-use Rattle.wh_space_model.specs.{Occupant, Space, claim_of, need_of, promised_to, view, IsAtHand, IsSound, page_at}
+use Rattle.wh_space_model.specs.{Space, view, IsAtHand, IsSound, page_at}
 use Rattle.wh_space_model.specs.Ready.{Ready}
-use Rattle.wh_space.specs.Steps.{limit_by, page_limit}
 use Rattle.wh_overlay.specs.LaidPages.{UpperState, with_upper}
 use Rattle.wh_overlay.specs.LaidBack.{ComesThere, IsLaid, LiesOver, LooksSame}
-use Rattle.wh_overlay.specs.Over.{CanRead, CanStepOver, CanWrite, IsOverSame, IsReadyOver, IsThereToRead, IsWholeOver, OverlayState, sees}
-use Rattle.wh_overlay.proofs.Apart.{hand_beside, lacking_beside}
+use Rattle.wh_overlay.specs.Over.{CanRead, CanStepOver, IsOverSame, IsReadyOver, IsThereToRead, IsWholeOver, OverlayState, sees}
 use Rattle.wh_overlay.proofs.SomeLaid.{laid_ready, some_laid}
 
 -- ---- another memory that is as good
@@ -25,20 +23,7 @@ there_still s s2 i u p looks (inl hand) = inl (subst IsAtHand (sym (page_same s 
 there_still s s2 i u p looks (inr come) = let long = ap length looks.table in inr (omega (arith, long, come.0), omega (arith, long, come.1))
 
 pub whole_there : (s s2 : Space) (i : ℕ) (u : UpperState) → LooksSame i s s2 → IsWholeOver s i u → IsWholeOver s2 i u
-whole_there s s2 i u looks (over, whole) =
-    let seen : length (view s2 i) ≡ length (view s i) = ap length looks.sees in
-    let limit : page_limit s2 i ≡ page_limit s i = ap limit_by looks.claim in
-    let counted = over.counted in (
-      record {
-        at_hand = hand_beside s s2 i u.pages looks.table over.at_hand;
-        there = λ p is. there_still s s2 i u p looks (over.there p is);
-        frames = rw (lacking_beside s s2 i u.pages looks.table) over.frames;
-        lent = over.lent;
-        counted = rw seen counted;
-        limited = λ some. rw (seen, limit) (over.limited some);
-      },
-      whole,
-    )
+whole_there s s2 i u looks (over, whole) = search rules
 
 read_there : (s s2 : Space) (i : ℕ) (u : UpperState) (p : ℕ) → LooksSame i s s2 → CanRead s i u p → CanRead s2 i u p
 read_there s s2 i u p looks (inl among) = inl among
@@ -46,57 +31,23 @@ read_there s s2 i u p looks (inr (less, there)) = inr (less, there_still s s2 i 
 
 step_there : (s s2 : Space) (i : ℕ) (u : UpperState) (need : Need) → LooksSame i s s2 → CanStepOver s i u need → CanStepOver s2 i u need
 step_there s s2 i u need looks (inl none) = inl none
-step_there s s2 i u need looks (inr (within, can)) = inr (within, by need.writes can)
-  where
-    by : (writes : Bool) → cond writes (CanWrite s i u (need.at / 4096)) (CanRead s i u (need.at / 4096)) → cond writes (CanWrite s2 i u (need.at / 4096)) (CanRead s2 i u (need.at / 4096))
-    by false it = read_there s s2 i u (need.at / 4096) looks it
-    by true (inl among) = inl among
-    by true (inr (inl own, less, room)) = inr (inl (own.0, page_same s s2 i (need.at / 4096) looks ∙ own.1), less, room)
-    by true (inr (inr (hand, left), less, room)) = inr (inr (subst IsAtHand (sym (page_same s s2 i (need.at / 4096) looks)) hand, left), less, room)
+step_there s s2 i u need looks (inr (within, can)) = search rules
 
 -- ---- between two memories in which it is written back
 
 steps_between : (s a b : Space) (i : ℕ) (u v : UpperState) → IsSound s → IsLaid s i u a → IsLaid s i v b → StepsAlone i a b
-steps_between s a b i u v sound first second =
-    let one = first.keeps in
-    let two = second.keeps in
-    let who : b.occupants ≡ a.occupants = two.occupants ∙ sym one.occupants in
-    record {
-      others = λ j other. record {
-        view = two.views j other ∙ sym (one.views j other);
-        wants = ap (λ (xs : List (Option Occupant)). need_of (get_or xs j None)) who;
-        claim = ap (λ (xs : List (Option Occupant)). claim_of (get_or xs j None)) who;
-        promise = inl (ap (λ (xs : List (Option Occupant)). promised_to (get_or xs j None)) who);
-      };
-      places = λ j other. ap (λ (xs : List (Option Occupant)). promised_to (get_or xs j None)) who;
-      claim = ap (λ (xs : List (Option Occupant)). claim_of (get_or xs i None)) who;
-      sound = two.sound sound;
-    }
+steps_between s a b i u v sound first second = search rules
 
 -- ---- over the memory
 
 over_next : (s : Space) (i : ℕ) {frames : ℕ} (o p : OverlayState) → LiesOver s i frames o → IsOverSame o p → LiesOver s i frames p
-over_next s i o p lies same =
-    let lower : p.lower ≡ s = same.lower ∙ lies.lower in
-    let place : p.place ≡ i = same.place ∙ lies.place in
-    let was = subst (λ z. IsWholeOver z o.place o.upper) (sym lies.lower) (subst (λ z. IsWholeOver s z o.upper) (sym lies.place) lies.whole) in
-    let lent = same.lent in
-    record {
-      lower = lower;
-      place = place;
-      lent = omega (arith, lent, lies.lent);
-      whole = subst (λ z. IsWholeOver s z p.upper) place (subst (λ z. IsWholeOver z p.place p.upper) lower (same.stays was));
-    }
+over_next s i o p lies same = search rules
 
 over_sees : (s base : Space) (i : ℕ) {frames : ℕ} (o : OverlayState) → LooksSame i s base → LiesOver s i frames o → sees o ≡ with_upper (view base i) o.upper
-over_sees s base i o looks lies =
-    ap (λ z. with_upper (view z o.place) o.upper) lies.lower ∙ ap (λ z. with_upper (view s z) o.upper) lies.place ∙ ap (λ z. with_upper z o.upper) (sym looks.sees)
+over_sees s base i o looks lies = search rules
 
 over_ready : (s base : Space) (i : ℕ) (o : OverlayState) (s2 : Space) (need : Need) → LooksSame i s base → IsSound base → LiesOver s i (length base.pool.free) o → IsLaid base i o.upper s2 → IsReadyOver o need → Ready s2 i need
-over_ready s base i o s2 need looks sound lies laid ready =
-    let here = subst (λ z. CanStepOver s z o.upper need) lies.place (subst (λ z. CanStepOver z o.place o.upper need) lies.lower ready) in
-    let whole = whole_there s base i o.upper looks lies.whole in
-    laid_ready base i o.upper s2 need sound whole.0 lies.lent laid (step_there s base i o.upper need looks here)
+over_ready s base i o s2 need looks sound lies laid ready = search (rules, whole_there, laid_ready, step_there)
 
 -- ---- charges
 
@@ -162,10 +113,7 @@ computes_laid s base i start end {inst = inst} {m = m} h x =
 -- ---- a turn without charges
 
 computes_none : {inst : Instance} {q k n : ℕ} {call : Call} {m m2 : OverlayState} {r : Rest} {term : Term} {c : Config} → n ≡ 0 → Computes sees IsReadyOver IsOverSame inst q call m r (computing term) k n m2 c → m2 ≡ m
-computes_none none x = no_takes x.takes none ∙ opens_none x.opens
-  where
-    opens_none : {inst : Instance} {call : Call} {m m1 : OverlayState} {r : Rest} {term : Term} {k : ℕ} {c : Config} → Opens sees IsReadyOver IsOverSame inst call m r (computing term) k m1 c → m1 ≡ m
-    opens_none (as_it_was after) = refl
+computes_none none x = search rules
 
 pub proceeds_none : {inst : Instance} {q k n : ℕ} {call : Call} {m m2 : OverlayState} {r r2 : Rest} {term : Term} {d2 : Doing} {to : Upshot} → n ≡ 0 → Proceeds sees IsReadyOver IsOverSame inst q call m r (computing term) to k n m2 r2 d2 → m2 ≡ m
 proceeds_none none (returns x typed) = computes_none none x

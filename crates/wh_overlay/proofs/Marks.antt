@@ -1,5 +1,5 @@
 -- The marks of pages that were read and written.
-use Rattle.std.proofs.Common.{◌≡◌, ◌≢◌, ◌∙◌, ◌⊎◌, inl, inr, ℕ, ◌+◌, ◌<◌, ◌≤◌, List, [], ◌∷◌, ◌++◌, Some, length, length-append, get_or, slice_get, slice_set, take, zero, suc, refl, sym, ap, subst, arith}
+use Rattle.std.proofs.Common.{◌≡◌, ◌≢◌, ◌∙◌, ◌⊎◌, inl, inr, ℕ, ◌+◌, ◌<◌, ◌≤◌, List, [], ◌∷◌, ◌++◌, Some, length, length-append, get_or, slice_get, slice_set, take, zero, suc, refl, sym, ap, subst, arith, rules}
 use Rattle.std.proofs.lemmas.Bool.{cases_eq, cases_lt}
 use Rattle.wh_space_model.proofs.Putting.{set_other, there_of}
 use Rattle.wh_overlay.specs.declared.upper.WrittenPage.{WrittenPage}
@@ -48,27 +48,14 @@ was_there (z ∷ xs) y x (suc i) e = further (was_there xs y x i e)
 -- ---- a page is read for the first time
 
 pub marked_read : (pages : List WrittenPage) (marks : List ℕ) (number : ℕ) → IsMarked pages marks → number < length marks → get_or marks number 0 ≡ 0 → IsMarked pages (slice_set marks number 1)
-marked_read pages marks number is less none = record {
-  each = λ k x there. elim (cases_eq x.number number) [
-    | inl same ↦ absurd (let had = is.each k x there in let at : get_or marks x.number 0 ≡ 0 = ap (λ z. get_or marks z 0) same ∙ none in omega (arith, had, at))
-    | inr other ↦ got_elsewhere marks number x.number 1 0 other ∙ is.each k x there
-  ];
-  only = λ n k mark. elim (cases_eq n number) [
-    | inl same ↦ absurd (let now : get_or (slice_set marks number 1) n 0 ≡ 1 = ap (λ z. get_or (slice_set marks number 1) z 0) same ∙ got_there marks number 1 0 less in omega (arith, now, mark))
-    | inr other ↦ is.only n k (sym (got_elsewhere marks number n 1 0 other) ∙ mark)
-  ];
-  whole = is.whole;
-}
+marked_read pages marks number is less none = search rules
 
 -- ---- a page is written for the first time
 
 pub marked_new : (pages : List WrittenPage) (marks : List ℕ) (x : WrittenPage) (mark : ℕ) → IsMarked pages marks → x.number < length marks → ¬ (IsAmong pages x.number) → length x.bytes ≡ 4096 → mark ≡ length pages + 2
     → IsMarked (pages ++ x ∷ []) (slice_set marks x.number mark)
 marked_new pages marks x mark is less new long last = record {
-  each = λ k y there. elim (was_there pages x y k there) [
-    | inl before ↦ got_elsewhere marks x.number y.number mark 0 (λ e. new (k, (y, before, e))) ∙ is.each k y before
-    | inr end ↦ ap (λ (z : WrittenPage). get_or (slice_set marks x.number mark) z.number 0) (sym end.0) ∙ got_there marks x.number mark 0 less ∙ last ∙ ap (λ z. z + 2) (sym end.1)
-  ];
+  each = search (rules, was_there, got_elsewhere, got_there);
   only = λ n k has. elim (cases_eq n x.number) [
     | inl same ↦ (
         let now : get_or (slice_set marks x.number mark) n 0 ≡ mark = ap (λ z. get_or (slice_set marks x.number mark) z 0) same ∙ got_there marks x.number mark 0 less in
@@ -78,39 +65,21 @@ marked_new pages marks x mark is less new long last = record {
         let had = is.only n k (sym (got_elsewhere marks x.number n mark 0 other) ∙ has) in
         (had.0, still_there pages x had.0 k had.1, had.2))
   ];
-  whole = λ k y there. elim (was_there pages x y k there) [
-    | inl before ↦ is.whole k y before
-    | inr end ↦ ap (λ (z : WrittenPage). length z.bytes) (sym end.0) ∙ long
-  ];
+  whole = search (rules, was_there);
 }
 
 -- ---- a written page is written again
 
 pub marked_again : (pages : List WrittenPage) (marks : List ℕ) (at : ℕ) (x y : WrittenPage) → IsMarked pages marks → slice_get pages at ≡ Some x → y.number ≡ x.number → length y.bytes ≡ 4096 → IsMarked (slice_set pages at y) marks
 marked_again pages marks at x y is there same long = record {
-  each = λ k z now. elim (cases_eq k at) [
-    | inl here ↦ (
-        let both : Some y ≡ Some z = sym (set_there pages at y x there) ∙ ap (slice_get (slice_set pages at y)) (sym here) ∙ now in
-        let is_y : y ≡ z = cc both in
-        ap (λ (w : WrittenPage). get_or marks w.number 0) (sym is_y) ∙ ap (λ n. get_or marks n 0) same ∙ is.each at x there ∙ ap (λ n. n + 2) (sym here))
-    | inr other ↦ is.each k z (sym (set_other pages at k y other) ∙ now)
-  ];
+  each = search (rules, cases_eq, set_there, set_other);
   only = λ n k mark. (
       let had = is.only n k mark in
       elim (cases_eq k at) [
-        | inl here ↦ (
-            let both : Some x ≡ Some had.0 = sym there ∙ ap (slice_get pages) (sym here) ∙ had.1 in
-            let is_x : x ≡ had.0 = cc both in
-            (y, ap (slice_get (slice_set pages at y)) here ∙ set_there pages at y x there, same ∙ ap (λ (w : WrittenPage). w.number) is_x ∙ had.2))
+        | inl here ↦ search (rules, set_there)
         | inr other ↦ (had.0, set_other pages at k y other ∙ had.1, had.2)
       ]);
-  whole = λ k z now. elim (cases_eq k at) [
-    | inl here ↦ (
-        let both : Some y ≡ Some z = sym (set_there pages at y x there) ∙ ap (slice_get (slice_set pages at y)) (sym here) ∙ now in
-        let is_y : y ≡ z = cc both in
-        ap (λ (w : WrittenPage). length w.bytes) (sym is_y) ∙ long)
-    | inr other ↦ is.whole k z (sym (set_other pages at k y other) ∙ now)
-  ];
+  whole = search (rules, cases_eq, set_there, set_other);
 }
 
 -- ---- marks are taken away
@@ -148,20 +117,11 @@ next_unmarked pages marks marks2 i x left there none was n k mark =
     let at = had.1 in
     elim (cases_lt i k) [
       | inl less ↦ (omega (arith, less), at)
-      | inr most ↦ absurd (
-          let same : k ≡ i = omega (arith, most, had.0) in
-          let both : Some at.0 ≡ Some x = sym at.1 ∙ ap (slice_get pages) same ∙ there in
-          let one : at.0 ≡ x = cc both in
-          let here : n ≡ x.number = sym at.2 ∙ ap (λ (z : WrittenPage). z.number) one in
-          let zero : get_or marks2 n 0 ≡ 0 = ap (λ z. get_or marks2 z 0) here ∙ none in
-          omega (arith, zero, mark))
+      | inr most ↦ search rules
     ]
 
 pub was_marked : (marks : List ℕ) (number n k : ℕ) → get_or (slice_set marks number 0) n 0 ≡ k + 2 → get_or marks n 0 ≡ k + 2
-was_marked marks number n k mark = elim (zero_or_same marks number n) [
-  | inl none ↦ absurd (omega (arith, none, mark))
-  | inr same ↦ sym same ∙ mark
-]
+was_marked marks number n k mark = search (rules, zero_or_same)
 
 pub none_left : (pages : List WrittenPage) (marks : List ℕ) (i : ℕ) → length pages ≤ i → AreLeft pages marks i → IsMarked [] marks
 none_left pages marks i all left = record {
@@ -231,10 +191,7 @@ read_before_end reads number p (k, there) = (k, in_front_of reads k p there)
     in_front_of xs k x there = still_there xs number x k there
 
 pub read_or_last : (reads : List ℕ) (number p : ℕ) → IsNoted (reads ++ number ∷ []) p → IsNoted reads p ⊎ (p ≡ number)
-read_or_last reads number p (k, there) = elim (was_there reads number p k there) [
-  | inl before ↦ inl (k, before)
-  | inr end ↦ inr (sym end.0)
-]
+read_or_last reads number p (k, there) = search (rules, was_there)
 
 pub noted_read : (reads marks : List ℕ) (number : ℕ) → AreNoted reads marks → number < length marks → get_or marks number 0 ≡ 0 → AreNoted (reads ++ number ∷ []) (slice_set marks number 1)
 noted_read reads marks number is less none = record {
@@ -242,22 +199,11 @@ noted_read reads marks number is less none = record {
     | inl same ↦ (length reads, last_there reads number ∙ ap Some (sym same))
     | inr other ↦ read_before_end reads number p (is.each p (sym (got_elsewhere marks number p 1 0 other) ∙ one))
   ];
-  many =
-      (let more = marks_more marks number 1 less none (omega arith) in
-      let long = length-append reads (number ∷ []) in
-      omega (arith, more, is.many, long));
+  many = search (rules, marks_more, length-append);
 }
 
 pub noted_new : (reads marks : List ℕ) (number mark : ℕ) → AreNoted reads marks → number < length marks → 2 ≤ mark → AreNoted reads (slice_set marks number mark)
-noted_new reads marks number mark is less large = record {
-  each = λ p one. elim (cases_eq p number) [
-    | inl same ↦ absurd (
-        let now : get_or (slice_set marks number mark) p 0 ≡ mark = ap (λ z. get_or (slice_set marks number mark) z 0) same ∙ got_there marks number mark 0 less in
-        omega (arith, now, one, large))
-    | inr other ↦ is.each p (sym (got_elsewhere marks number p mark 0 other) ∙ one)
-  ];
-  many = (let more = marks_no_fewer marks number mark less (omega (arith, large)) in let had = is.many in omega (arith, more, had));
-}
+noted_new reads marks number mark is less large = search (rules, cases_eq, got_there, got_elsewhere, marks_no_fewer)
 
 -- of the pages that were read only those from this one on have the mark
 abbrev pub ReadsLeft : List ℕ → List ℕ → ℕ → Type 0
@@ -265,32 +211,13 @@ ReadsLeft reads marks i = (p : ℕ) → get_or marks p 0 ≡ 1 → (k : ℕ) × 
 
 pub next_read : (reads marks marks2 : List ℕ) (i x : ℕ) → ReadsLeft reads marks i → slice_get reads i ≡ Some x → get_or marks2 x 0 ≡ 0
     → ((p : ℕ) → get_or marks2 p 0 ≡ 1 → get_or marks p 0 ≡ 1) → ReadsLeft reads marks2 (i + 1)
-next_read reads marks marks2 i x left there none was p one =
-    let had = left p (was p one) in
-    elim (cases_lt i had.0) [
-      | inl less ↦ (had.0, omega (arith, less), had.2)
-      | inr most ↦ absurd (
-          let same : had.0 ≡ i = omega (arith, most, had.1) in
-          let both : Some p ≡ Some x = sym had.2 ∙ ap (slice_get reads) same ∙ there in
-          let here : p ≡ x = cc both in
-          let zero : get_or marks2 p 0 ≡ 0 = ap (λ z. get_or marks2 z 0) here ∙ none in
-          omega (arith, zero, one))
-    ]
+next_read reads marks marks2 i x left there none was p one = search rules
 
 pub was_one : (marks : List ℕ) (number p : ℕ) → get_or (slice_set marks number 0) p 0 ≡ 1 → get_or marks p 0 ≡ 1
-was_one marks number p one = elim (zero_or_same marks number p) [
-  | inl none ↦ absurd (omega (arith, none, one))
-  | inr same ↦ sym same ∙ one
-]
+was_one marks number p one = search (rules, zero_or_same)
 
 pub no_reads_left : (reads marks : List ℕ) (i : ℕ) → length reads ≤ i → ReadsLeft reads marks i → AreNoted [] marks
-no_reads_left reads marks i all left = record {
-  each = λ p one. absurd (
-      let had = left p one in
-      let less = there_of reads had.0 p had.2 in
-      omega (arith, less, all, had.1));
-  many = omega arith;
-}
+no_reads_left reads marks i all left = search (rules, there_of)
 
 -- the first ones with the next one
 pub taken_next : (xs : List ℕ) (i x : ℕ) → slice_get xs i ≡ Some x → (p : ℕ) → IsNoted (take (i + 1) xs) p → IsNoted (take i xs) p ⊎ IsNoted (x ∷ []) p

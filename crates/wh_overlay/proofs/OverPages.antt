@@ -1,5 +1,5 @@
 -- What is read of a memory with pages over it, and what is written there.
-use Rattle.std.proofs.Common.{◌≡◌, ◌≢◌, ◌∙◌, inl, inr, ℕ, ◌+◌, ◌*◌, ◌≤◌, ◌<◌, List, [], ◌∷◌, ◌++◌, Some, length, slice_get, slice_set, zero, suc, refl, sym, ap, subst, arith}
+use Rattle.std.proofs.Common.{◌≡◌, ◌≢◌, ◌∙◌, ℕ, ◌+◌, ◌*◌, ◌≤◌, ◌<◌, List, [], ◌∷◌, ◌++◌, Some, length, slice_get, slice_set, zero, suc, refl, sym, ap, subst, arith, rules}
 use Rattle.std.proofs.lemmas.Bool.{cases_lt}
 use Rattle.wh_model.specs.Execution.{bytes_at, written}
 use Rattle.wh_overlay.specs.declared.upper.WrittenPage.{WrittenPage}
@@ -10,10 +10,8 @@ use Rattle.wh_overlay.proofs.Bytes.{read_before, read_behind, read_written, writ
 pub rest_fits : (v : List ℕ) (x : WrittenPage) (xs : List WrittenPage) → FitIn (length v) (x ∷ xs) → FitIn (length (written v (4096 * x.number) x.bytes)) xs
 rest_fits v x xs fit k y there =
     let first = fit 0 x refl in
-    let one = first.0 in
-    let same = written_length v x.bytes (4096 * x.number) (omega (arith, one, first.1)) in
     let it = fit (suc k) y there in
-    (it.0, omega (arith, same, it.1))
+    (it.0, omega (arith, written_length v x.bytes (4096 * x.number) (omega (arith, first.0, first.1)), it.1))
 
 rest_once : (x : WrittenPage) (xs : List WrittenPage) → AreWrittenOnce (x ∷ xs) → AreWrittenOnce xs
 rest_once x xs once j k y z here there same = let e : suc j ≡ suc k = once (suc j) (suc k) y z here there same in omega (arith, e)
@@ -37,18 +35,7 @@ laid_length v (x ∷ xs) fit =
 
 -- a page that is written changes no other
 page_apart : (v b : List ℕ) (q p k n : ℕ) → length b ≡ 4096 → 4096 * q + 4096 ≤ length v → q ≢ p → k + n ≤ 4096 → bytes_at (written v (4096 * q) b) (4096 * p + k) n ≡ bytes_at v (4096 * p + k) n
-page_apart v b q p k n long within other inside = elim (cases_lt p q) [
-  | inl before ↦ read_before v b (4096 * q) (4096 * p + k) n (omega (arith, long, within)) (omega (arith, before, inside))
-  | inr behind ↦ (
-      let less : q < p = apart q p behind other in
-      read_behind v b (4096 * q) (4096 * p + k) n (omega (arith, long, within)) (omega (arith, long, less)))
-]
-  where
-    apart : (q p : ℕ) → q ≤ p → q ≢ p → q < p
-    apart zero zero least never = absurd (never refl)
-    apart zero (suc p) least never = omega arith
-    apart (suc q) zero least never = absurd (omega (arith, least))
-    apart (suc q) (suc p) least never = let e : q < p = apart q p (omega (arith, least)) (λ same. never (ap suc same)) in omega (arith, e)
+page_apart v b q p k n long within other inside = search (rules, cases_lt, read_before, read_behind, ℕ)
 
 pub read_other : (v : List ℕ) (xs : List WrittenPage) (p k n : ℕ) → FitIn (length v) xs → ¬ (IsAmong xs p) → k + n ≤ 4096 → bytes_at (laid_over v xs) (4096 * p + k) n ≡ bytes_at v (4096 * p + k) n
 read_other v [] p k n fit never inside = refl
@@ -60,18 +47,7 @@ read_other v (x ∷ xs) p k n fit never inside =
 -- bytes written below to another page
 write_apart : (v b g : List ℕ) (q p k : ℕ) → length b ≡ 4096 → 4096 * q + 4096 ≤ length v → 4096 * p + 4096 ≤ length v → q ≢ p → k + length g ≤ 4096
     → written (written v (4096 * p + k) g) (4096 * q) b ≡ written (written v (4096 * q) b) (4096 * p + k) g
-write_apart v b g q p k long within also other inside = elim (cases_lt p q) [
-  | inl before ↦ written_apart v g b (4096 * p + k) (4096 * q) (omega (arith, before, inside)) (omega (arith, long, within))
-  | inr behind ↦ (
-      let less : q < p = apart q p behind other in
-      sym (written_apart v b g (4096 * q) (4096 * p + k) (omega (arith, long, less)) (omega (arith, also, inside))))
-]
-  where
-    apart : (q p : ℕ) → q ≤ p → q ≢ p → q < p
-    apart zero zero least never = absurd (never refl)
-    apart zero (suc p) least never = omega arith
-    apart (suc q) zero least never = absurd (omega (arith, least))
-    apart (suc q) (suc p) least never = let e : q < p = apart q p (omega (arith, least)) (λ same. never (ap suc same)) in omega (arith, e)
+write_apart v b g q p k long within also other inside = search (rules, cases_lt, written_apart, ℕ)
 
 write_other : (v g : List ℕ) (xs : List WrittenPage) (p k : ℕ) → FitIn (length v) xs → ¬ (IsAmong xs p) → 4096 * p + 4096 ≤ length v → k + length g ≤ 4096
     → laid_over (written v (4096 * p + k) g) xs ≡ written (laid_over v xs) (4096 * p + k) g

@@ -1,5 +1,5 @@
 -- What an instance sees of a memory with what is written beside it.
-use Rattle.std.proofs.Common.{◌≡◌, ◌∙◌, inl, inr, ℕ, ◌+◌, ◌-◌, ◌*◌, ◌<◌, ◌≤◌, List, [], ◌∷◌, ◌++◌, Some, length, get_or, replicate, slice_get, slice_set, refl, sym, ap, subst, zero, suc, arith, length-append, append_assoc}
+use Rattle.std.proofs.Common.{◌≡◌, ◌∙◌, inl, inr, ℕ, ◌+◌, ◌-◌, ◌*◌, ◌<◌, ◌≤◌, List, [], ◌∷◌, ◌++◌, Some, length, get_or, replicate, slice_get, slice_set, refl, sym, ap, subst, zero, suc, arith, length-append, append_assoc, rules}
 use Rattle.std.proofs.lemmas.List.{length-replicate}
 use Rattle.wh_model.specs.Execution.{bytes_at, written}
 use Rattle.wh_space_model.specs.declared.states.Page.TheVariants.{Private}
@@ -25,10 +25,8 @@ grown_length bytes n = length-append bytes (replicate (n * 65536) 0) ∙ ap (λ 
 pub all_fit : (s : Space) (i : ℕ) (u : UpperState) → IsSound s → AreAtHand s i u.pages → AreWhole u.pages → FitIn (length (grown_by (view s i) u.grown)) u.pages
 all_fit s i u sound hand whole k x there =
     let on = at_hand (page_at s.tables i x.number) (hand k x there) in
-    let less = (is_page s.tables i x.number on.0 on.1).1 in
-    let long = view_length s i sound in
     let grown = grown_length (view s i) u.grown in
-    (whole k x there, omega (arith, less, long, grown))
+    (whole k x there, omega (arith, (is_page s.tables i x.number on.0 on.1).1, view_length s i sound, grown))
 
 pub seen_length : (s : Space) (i : ℕ) (u : UpperState) → IsSound s → AreAtHand s i u.pages → AreWhole u.pages → length (with_upper (view s i) u) ≡ length (view s i) + u.grown * 65536
 seen_length s i u sound hand whole = laid_length (grown_by (view s i) u.grown) u.pages (all_fit s i u sound hand whole) ∙ grown_length (view s i) u.grown
@@ -48,19 +46,17 @@ read_written_page s i u p at k n bytes sound hand whole once (x, there, same) (y
 pub read_lower_page : (s : Space) (i : ℕ) (u : UpperState) (p k n : ℕ) → IsSound s → AreAtHand s i u.pages → AreWhole u.pages → ¬ (IsAmong u.pages p) → p < length (get_or s.tables i []) → k + n ≤ 4096
     → bytes_at (with_upper (view s i) u) (4096 * p + k) n ≡ bytes_at (view s i) (4096 * p + k) n
 read_lower_page s i u p k n sound hand whole never less inside =
-    let long = view_length s i sound in
     read_other (grown_by (view s i) u.grown) u.pages p k n (all_fit s i u sound hand whole) never inside
-    ∙ read_first (view s i) (replicate (u.grown * 65536) 0) (4096 * p + k) n (omega (arith, long, less, inside))
+    ∙ read_first (view s i) (replicate (u.grown * 65536) 0) (4096 * p + k) n (omega (arith, view_length s i sound, less, inside))
 
 -- one by which the memory has grown
 pub read_grown_page : (s : Space) (i : ℕ) (u : UpperState) (p k n : ℕ) → IsSound s → AreAtHand s i u.pages → AreWhole u.pages → ¬ (IsAmong u.pages p) → length (get_or s.tables i []) ≤ p → k + n ≤ 4096
     → 4096 * p + k + n ≤ length (with_upper (view s i) u) → bytes_at (with_upper (view s i) u) (4096 * p + k) n ≡ replicate n 0
 read_grown_page s i u p k n sound hand whole never more inside within =
-    let long = view_length s i sound in
     let all = seen_length s i u sound hand whole in
     let m = u.grown * 65536 in
     let j = (4096 * p + k) - length (view s i) in
-    let at : 4096 * p + k ≡ length (view s i) + j = omega (arith, long, more) in
+    let at : 4096 * p + k ≡ length (view s i) + j = omega (arith, view_length s i sound, more) in
     read_other (grown_by (view s i) u.grown) u.pages p k n (all_fit s i u sound hand whole) never inside
     ∙ ap (λ z. bytes_at (grown_by (view s i) u.grown) z n) at ∙ read_past (view s i) (replicate m 0) j n ∙ read_zeros m j n (omega (arith, at, all, within))
 
@@ -117,10 +113,7 @@ added_over s i u v p n bytes over there some left pages reads grown taken lent =
     let sum = tally-append (λ (x : WrittenPage). at lacks_frame (page_at s.tables i x.number)) u.pages (record { number = p; bytes = bytes } ∷ []) in
     let all : frames_lacking s i v.pages ≡ frames_lacking s i (u.pages ++ record { number = p; bytes = bytes } ∷ []) = ap (frames_lacking s i) pages in
     record {
-      at_hand = subst (AreAtHand s i) (sym pages) (λ k x is. elim (was_there u.pages (record { number = p; bytes = bytes }) x k is) [
-        | inl before ↦ over.at_hand k x before
-        | inr last ↦ subst (λ (z : WrittenPage). IsAtHand (page_at s.tables i z.number)) last.0 there
-      ]);
+      at_hand = search (rules, was_there);
       there = there_with s i u v grown (λ q is. subst (λ rs. IsNoted rs q) reads is) over.there;
       frames = omega (arith, frames, sum, all, some, taken);
       lent = omega (arith, left, taken, lent);
@@ -141,19 +134,15 @@ write_page s i u v p at k given sound hand whole once (x, there, same) (y, also,
 
 pub still_at_hand : (s : Space) (i at : ℕ) (pages : List WrittenPage) (x y : WrittenPage) → AreAtHand s i pages → slice_get pages at ≡ Some x → y.number ≡ x.number → AreAtHand s i (slice_set pages at y)
 still_at_hand s i at pages x y hand there same k z now = elim (cases_eq k at) [
-  | inl here ↦ (
-      let both : Some y ≡ Some z = sym (set_there pages at y x there) ∙ ap (slice_get (slice_set pages at y)) (sym here) ∙ now in
-      let is : y ≡ z = cc both in
-      subst (λ n. IsAtHand (page_at s.tables i n)) (sym same ∙ ap (λ (w : WrittenPage). w.number) is) (hand at x there))
+  | inl here ↦ search (rules, set_there)
   | inr other ↦ hand k z (sym (set_other pages at k y other) ∙ now)
 ]
 
 pub still_lacking : (s : Space) (i k : ℕ) (pages : List WrittenPage) (x y : WrittenPage) → slice_get pages k ≡ Some x → y.number ≡ x.number → frames_lacking s i (slice_set pages k y) ≡ frames_lacking s i pages
 still_lacking s i k pages x y there same =
     let w : WrittenPage → ℕ = λ (z : WrittenPage). at lacks_frame (page_at s.tables i z.number) in
-    let sum = set_tally w pages k x y there in
     let one : w y ≡ w x = ap (λ n. at lacks_frame (page_at s.tables i n)) same in
-    omega (arith, sum, one)
+    omega (arith, set_tally w pages k x y there, one)
 
 -- what can be written is a page of the memory below
 pub written_within : (s : Space) (i : ℕ) (u : UpperState) (p : ℕ) → AreAtHand s i u.pages → CanWrite s i u p → p < length (get_or s.tables i [])
@@ -183,8 +172,7 @@ laid_longer : (v more : List ℕ) (xs : List WrittenPage) → FitIn (length v) x
 laid_longer v more [] fit = refl
 laid_longer v more (x ∷ xs) fit =
     let first = fit 0 x refl in
-    let one = first.0 in
-    ap (λ z. laid_over z xs) (written_before v more (4096 * x.number) x.bytes (omega (arith, one, first.1)))
+    ap (λ z. laid_over z xs) (written_before v more (4096 * x.number) x.bytes (omega (arith, first.0, first.1)))
     ∙ laid_longer (written v (4096 * x.number) x.bytes) more xs (rest_fits v x xs fit)
 
 pub grow_page : (s : Space) (i : ℕ) (u v : UpperState) (n : ℕ) → IsSound s → AreAtHand s i u.pages → AreWhole u.pages → v ≡ record u { grown = u.grown + n } → with_upper (view s i) v ≡ grown_by (with_upper (view s i) u) n
@@ -201,9 +189,7 @@ there_longer s i u n there p is = elim (there p is) [
 -- a page behind those of the memory below has come
 pub come : (s : Space) (i : ℕ) (u : UpperState) (p k n : ℕ) → IsSound s → AreAtHand s i u.pages → AreWhole u.pages → 1 ≤ n → length (get_or s.tables i []) ≤ p → 4096 * p + k + n ≤ length (with_upper (view s i) u) → HasCome s i u p
 come s i u p k n sound hand whole some least within =
-    let seen = seen_length s i u sound hand whole in
-    let long = view_length s i sound in
-    (least, omega (arith, seen, long, within, some))
+    (least, omega (arith, seen_length s i u sound hand whole, view_length s i sound, within, some))
 
 pub noted_same : (s : Space) (i limit : ℕ) (u v : UpperState) (p : ℕ) → NotesRead u p v → (IsWholeOver s i u → IsWholeOver s i v) → IsOverSame (record { lower = s; place = i; page_limit = limit; upper = u }) (record { lower = s; place = i; page_limit = limit; upper = v })
 noted_same s i limit u v p notes stays = record {

@@ -161,9 +161,7 @@ pub is_loaded : (s : Space) (i p k : ℕ) (got : Got) (into into2 : List ℕ) (s
 is_loaded s i p k Value into into2 s2 sound hand at one loads leaves = subst (λ n. Touches s i n 1 s2) at (subst (λ n. Touches s i k n s2) one leaves)
 is_loaded s i p k Trap into into2 s2 sound hand at one loads leaves = absurd (
     let on = at_hand (page_at s.tables i p) hand in
-    let less = (is_page s.tables i p on.0 on.1).1 in
-    let long = view_length s i sound in
-    omega (arith, long, loads.0, less, one, at))
+    omega (arith, view_length s i sound, loads.0, (is_page s.tables i p on.0 on.1).1, one, at))
 is_loaded s i p k (NotReady need) into into2 s2 sound hand at one loads leaves =
     let number : k / 4096 ≡ p = omega (arith, at) in
     let start : k % 4096 ≡ 0 = omega (arith, at) in

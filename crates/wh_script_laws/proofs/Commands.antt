@@ -1,12 +1,12 @@
 -- Commands, and what a script knows of its host behind them.
-use Rattle.std.proofs.Common.{◌≡◌, ℕ, true, List, [], ◌∷◌, ◌++◌, length, Option, Some, None, refl, sym, subst, arith}
+use Rattle.std.proofs.Common.{◌≡◌, ℕ, true, List, [], ◌∷◌, ◌++◌, length, Option, Some, None, refl, sym, subst, arith, rules}
 use Rattle.std.specs.List.{AllZip}
 use Rattle.wh_host_model.specs.Host.{Loaded, World, LoadFault, broken, invalid, unlinked, modules_full, LoadOutOfMemory, decoder_out_of_memory, validator_out_of_memory, linker_out_of_memory, host_out_of_memory, RefusesLoad, MayRunOut, LoadsModule, module_count, is_loaded, isnt_loaded, no_memory_to_load}
 use Rattle.wh_script_model.specs.Settings.{Settings}
 use Rattle.wh_script_model.specs.{Refusal, module_ok, module_refused, NamedModule, ReceivesModule}
 use Rattle.wh_script_model.specs.ScriptState.{ScriptState}
 use Rattle.wh_script_model.specs.Receiving as receiving
-use Rattle.wh_script_laws.specs.Following.{AreSame, IsFollowed, IsModuleKept, Knows, StandsSame}
+use Rattle.wh_script_laws.specs.Following.{IsModuleKept, Knows}
 use Rattle.wh_script_laws.specs.Replies.{SaysWhy, SaysOutOfMemory}
 use Rattle.wh_script_laws.specs.Laws.{ModulesFollow}
 use Rattle.wh_script_laws.proofs.CommandsKnown.{zip_map, zip_last, last_holds, followed_there}
@@ -17,21 +17,7 @@ use Rattle.wh_script_laws.proofs.CommandsKnown.{zip_map, zip_last, last_holds, f
 module_came : {settings : Settings} {w : World} {m : ScriptState} {places : List ℕ} (named : NamedModule) (loaded : Loaded)
     → named.m ≡ loaded.m → Knows settings w m places
     → Knows settings (record w { modules = w.modules ++ Some loaded ∷ [] }) (record m { modules = m.modules ++ named ∷ [] }) places
-module_came {w = w} {m = m} named loaded same known =
-    let w2 : World = record w { modules = w.modules ++ Some loaded ∷ [] } in
-    record {
-      frames = known.frames;
-      slots = known.slots;
-      tax_num = known.tax_num;
-      tax_den = known.tax_den;
-      none_out = known.none_out;
-      minima = known.minima;
-      spreads = known.spreads;
-      modules = zip_last IsModuleKept m.modules w.modules named (Some loaded) known.modules same;
-      instances = zip_map (IsFollowed AreSame StandsSame w) (IsFollowed AreSame StandsSame w2) m.instances w.tenants
-          (λ g o. followed_there w w2 g o (λ k l. last_holds w.modules (Some loaded) k l)) known.instances;
-      placed = known.placed;
-    }
+module_came {w = w} {m = m} named loaded same known = search (rules, zip_last, zip_map, followed_there, last_holds)
 
 all_there : (names : List NamedModule) (ls : List (Option Loaded)) → AllZip IsModuleKept names ls → length names ≡ module_count ls
 all_there [] [] h = refl

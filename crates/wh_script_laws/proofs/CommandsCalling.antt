@@ -1,5 +1,5 @@
 -- A call that is asked of an instance.
-use Rattle.std.proofs.Common.{inr, ◌≡◌, ℕ, ℤ, true, List, [], ◌∷◌, ◌++◌, length, slice_get, Some, None, refl, sym, ap, subst, ◌∙◌, arith}
+use Rattle.std.proofs.Common.{inr, ◌≡◌, ℕ, ℤ, true, List, [], ◌∷◌, ◌++◌, length, slice_get, Some, None, refl, sym, ap, subst, ◌∙◌, arith, rules}
 use Rattle.std.proofs.lemmas.Option.{same_Some}
 use Rattle.wh_model.specs.Format.{FuncType, Body, Module}
 use Rattle.wh_space_model.specs.{Space}
@@ -30,28 +30,15 @@ record IsAlike (m : Module) (t : Tenant) (g : NamedInstance) : Type 0 where
 
 alike : (w : World) (t : Tenant) (g : NamedInstance) (l : Loaded) → HasJournal w t → IsTenantOf w t g
     → g.calls ≡ journal_calls (journal t) → loaded_of w t.of ≡ Some l → IsAlike l.m t g
-alike w t g l j of_one same is_loaded =
-    let order = ordered w t j in
-    let loaded : of_one.loaded ≡ l = same_Some of_one.loaded l (sym of_one.is_loaded ∙ is_loaded) in
-    record {
-      modules = of_one.of_one ∙ ap (λ x. x.m) loaded;
-      insts = of_one.inst;
-      opens = ap open_behind same ∙ open_behind_is order.1;
-      fails = ap start_failed same ∙ start_failed_is order.1;
-      long = ap length same ∙ calls_long (journal t);
-    }
+alike w t g l j of_one same is_loaded = search (rules, ordered, same_Some, open_behind_is, start_failed_is, calls_long)
 
 exported : {m : Module} {t : Tenant} {g : NamedInstance} {name : List ℕ} {x : ℕ} {type : FuncType} {body : Body} → IsAlike m t g
     → ExportsOwn m t.inst name x type body → ExportsOwn g.m g.inst name x type body
-exported {m} {t} {g} {name} {x} {type} {body} both own =
-    subst (λ q. ExportsOwn q g.inst name x type body) (sym both.modules)
-    (subst (λ i. ExportsOwn m i name x type body) (sym both.insts) own)
+exported {m} {t} {g} {name} {x} {type} {body} both own = search rules
 
 exported_there : {m : Module} {t : Tenant} {g : NamedInstance} {name : List ℕ} {x : ℕ} {type : FuncType} {body : Body}
     → IsAlike m t g → ExportsOwn g.m g.inst name x type body → ExportsOwn m t.inst name x type body
-exported_there {m} {t} {g} {name} {x} {type} {body} both own =
-    subst (λ q. ExportsOwn q t.inst name x type body) both.modules
-    (subst (λ i. ExportsOwn g.m i name x type body) both.insts own)
+exported_there {m} {t} {g} {name} {x} {type} {body} both own = search rules
 
 bar_of_met : {m : Module} {t : Tenant} {g : NamedInstance} (name : List ℕ) (given : List ℤ) (fault : InvokeFault) → IsAlike m t g
     → Meets m t name given fault → MeetsBar g name given fault
@@ -71,8 +58,7 @@ met_of_bar name given journal_full both met = let long = both.long in omega (ari
 
 first_bar : {m : Module} {t : Tenant} {g : NamedInstance} (name : List ℕ) (given : List ℤ) (fault : InvokeFault) → IsAlike m t g
     → IsFirst m t name given fault → IsFirstBar g name given fault
-first_bar name given fault both first =
-    (bar_of_met name given fault both first.0, λ other less met. first.1 other less (met_of_bar name given other both met))
+first_bar name given fault both first = search (rules, bar_of_met, met_of_bar)
 
 -- where it is taken on, none is met
 takes_unmet : {m : Module} {t t2 : Tenant} (s : Space) (name : List ℕ) (given : List ℤ) {fuel at : ℕ} (fault : InvokeFault)
@@ -94,18 +80,7 @@ Receives settings m places i g name given fuel answer w2 =
 -- calls with a number are another matter
 still_known : {settings : Settings} {w : World} {m : ScriptState} {places : List ℕ} (outcome : InvokeOutcome) → Knows settings w m places
     → Knows settings w (with_invoked m outcome) places
-still_known outcome known = record {
-  frames = known.frames;
-  slots = known.slots;
-  tax_num = known.tax_num;
-  tax_den = known.tax_den;
-  none_out = known.none_out;
-  minima = known.minima;
-  spreads = known.spreads;
-  modules = known.modules;
-  instances = known.instances;
-  placed = known.placed;
-}
+still_known outcome known = search rules
 
 -- the calls with the new one
 called : {w : World} {m : Module} (t t2 : Tenant) (g : NamedInstance) (name : List ℕ) (given : List ℤ) (fuel at place : ℕ)

@@ -1,13 +1,12 @@
 -- What ends a call or an instance: it is cancelled, or released.
-use Rattle.std.proofs.Common.{◌≡◌, ℕ, ◌+◌, ◌-◌, true, false, List, [], ◌∷◌, ◌++◌, slice_get, Option, Some, None, refl, sym, ap, subst, ◌∙◌, arith}
-use Rattle.std.proofs.lemmas.Option.{same_Some}
+use Rattle.std.proofs.Common.{◌≡◌, ℕ, ◌+◌, ◌-◌, true, false, List, [], ◌∷◌, ◌++◌, slice_get, Option, Some, None, refl, sym, ap, subst, ◌∙◌, rules}
 use Rattle.wh_model.specs.Format.{Module}
 use Rattle.wh_model.specs.Execution.Replay.{Replay}
 use Rattle.wh_model.specs.Execution.{cancelled, store_at}
 use Rattle.wh_space_model.specs.declared.Tax.{Tax}
 use Rattle.wh_space_model.specs.{Space, minima, spreads, IsSound}
 use Rattle.wh_host_model.specs.Host.{Rest, Doing, resting, has_left, computing, Tenant, World, promised, journal, journal_calls, tenant, with_tenant, standing_with, standing_in, ended_by, Closes, faces_next, is_dead, Cancels, LetsGo, IsCancel, IsRelease, InOrder, HasJournal, IsReplayed, PlacesAreTenants}
-use Rattle.wh_host_model.specs.{Entry, first_open, Params, given_of}
+use Rattle.wh_host_model.specs.{Entry, first_open, given_of}
 use Rattle.wh_host_model.specs.Host.OwnerCalls.{ends}
 use Rattle.wh_host_model.specs.Host.Happens as happen
 use Rattle.wh_script_model.specs.Settings.{Settings}
@@ -29,26 +28,8 @@ closed_next : (w : World) {m : Module} (s2 : Space) (t t2 : Tenant) (g : NamedIn
     (place : ℕ) → IsTenantOf w t g → t.place ≡ place → g.calls ≡ journal_calls (t.ended ++ e ∷ es)
     → InOrder m t.inst t.dead t.ended (e ∷ es) → ((y : Entry) (ys : List Entry) → es ≡ y ∷ ys → MayUseFuel y.call) → Closes s2 t (ended_by e cancelled) es t.rest t2
     → IsNext w g (record g { calls = cancel_first g.calls; at_fault = None }) t2 place
-closed_next w s2 t t2 g e es place of_one at calls order begin (faces_next alive faces) =
-    let after = ap cancel_first calls ∙ cancelled_next order alive in
-    record {
-      params = refl;
-      gone = refl;
-      of_one = tenant_calls w t t2 g (cancel_first g.calls) None of_one refl refl refl after;
-      calls = after;
-      stands = (refl, λ y ys are none. begin y ys are);
-      lies = at;
-    }
-closed_next w s2 t t2 g e es place of_one at calls order begin (is_dead died) =
-    let after = ap cancel_first calls ∙ cancelled_start order died in
-    record {
-      params = refl;
-      gone = refl;
-      of_one = tenant_calls w t t2 g (cancel_first g.calls) None of_one refl refl refl after;
-      calls = after;
-      stands = (refl, λ y ys are none. absurd (cc are));
-      lies = at;
-    }
+closed_next w s2 t t2 g e es place of_one at calls order begin (faces_next alive faces) = search (rules, cancelled_next, tenant_calls)
+closed_next w s2 t t2 g e es place of_one at calls order begin (is_dead died) = search (rules, cancelled_start, tenant_calls)
 
 cancelled_so : {settings : Settings} {w : World} {m : ScriptState} {places : List ℕ} (files : Files) (number i place : ℕ)
     (name : List ℕ) (g : NamedInstance) (t t2 : Tenant) (s2 : Space) → IsSound w.space → Knows settings w m places
@@ -115,13 +96,7 @@ stands_at bytes r (computing term) = refl
 -- the journal of the one that goes is what the script knows
 pub replays_so : (w : World) (t : Tenant) (g : NamedInstance) → IsReplayed w t → IsTenantOf w t g
     → g.calls ≡ journal_calls (journal t) → Replay g.m (given_of g.params) g.calls (standing_in w.space t)
-replays_so w t g r of_one same =
-    let loaded : r.loaded ≡ of_one.loaded = same_Some r.loaded of_one.loaded (sym r.is_loaded ∙ of_one.is_loaded) in
-    let z = standing_in w.space t in
-    let modules : r.loaded.m ≡ g.m = ap (λ l. l.m) loaded ∙ sym of_one.of_one in
-    subst (λ cs. Replay g.m (given_of g.params) cs z) (sym same)
-    (subst (λ p. Replay g.m (given_of p) (journal_calls (journal t)) z) (sym of_one.params)
-    (subst (λ q. Replay q (given_of t.params) (journal_calls (journal t)) z) modules r.replay))
+replays_so w t g r of_one same = search rules
 
 released_known : {settings : Settings} {w : World} {m : ScriptState} {places : List ℕ} (i place : ℕ) (g : NamedInstance) (t : Tenant)
     (s2 : Space) → Knows settings w m places → slice_get m.instances i ≡ Some g → slice_get places i ≡ Some place
@@ -139,13 +114,8 @@ released_known {w = w} {m = m} {places = places} i place g t s2 known has lies l
       tax_num = ap (λ (tax : Tax). tax.num) whole.tax ∙ known.tax_num;
       tax_den = ap (λ (tax : Tax). tax.den) whole.tax ∙ known.tax_den;
       none_out = whole.none_out ∙ known.none_out;
-      minima =
-          let sum = sum_goes (λ p. p.min) m.instances i g has live in
-          let same = ap (λ (p : Params). p.min) params in let before = known.minima in omega (arith, sum, same, before, least);
-      spreads =
-          let sum = sum_goes (λ p. (p.max - p.min) + 1) m.instances i g has live in
-          let same = ap (λ (p : Params). (p.max - p.min) + 1) params in
-          let before = known.spreads in omega (arith, sum, same, before, most);
+      minima = search (rules, sum_goes);
+      spreads = search (rules, sum_goes);
       modules = known.modules;
       instances = zip_set (IsFollowed AreSame StandsSame w2) m.instances w.tenants i g2 None stay (is_gone refl);
       placed = zip_over IsPlaced places w.tenants i place None known.placed lies tt;

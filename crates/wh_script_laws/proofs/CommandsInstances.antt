@@ -1,10 +1,10 @@
 -- An instance that comes.
-use Rattle.std.proofs.Common.{◌≡◌, ℕ, ◌+◌, ◌-◌, true, false, List, [], ◌∷◌, ◌++◌, length, slice_get, Option, Some, None, refl, sym, ap, subst, ◌∙◌, arith}
+use Rattle.std.proofs.Common.{◌≡◌, ℕ, ◌+◌, ◌-◌, true, false, List, [], ◌∷◌, ◌++◌, length, slice_get, Option, Some, None, refl, sym, ap, subst, ◌∙◌, rules}
 use Rattle.std.proofs.lemmas.Option.{same_Some}
 use Rattle.std.specs.List.{AllZip}
 use Rattle.wh_model.specs.Format.{Module}
 use Rattle.wh_model.specs.Execution.Store.{Instance, Store}
-use Rattle.wh_model.specs.Execution.{Piece, IsInitial, memory_min, segment_bounds, begins, pending}
+use Rattle.wh_model.specs.Execution.{Piece, IsInitial, begins}
 use Rattle.wh_space_model.specs.declared.Tax.{Tax}
 use Rattle.wh_space_model.specs.{IsSound}
 use Rattle.wh_host_model.specs.Host.{Doing, Tenant, Loaded, World, promised, journal_calls, loaded_of, live_count, MeetsFault, IsFirstMet, StartsAs, writes, runs, rest_of, LetsIn}
@@ -18,7 +18,7 @@ use Rattle.wh_script_model.specs.{NamedModule, NamedInstance, live_sum, MeetsLim
 use Rattle.wh_script_model.specs.Receiving as receiving
 use Rattle.wh_host_model.proofs.Host.Holding.{memory_is_sound}
 use Rattle.wh_space_model.proofs.Putting.{get_or_is}
-use Rattle.wh_script_laws.specs.Following.{AreSame, IsFollowed, is_there, is_gone, IsModuleKept, IsPlaced, Knows, StaysWhole, StandsSame}
+use Rattle.wh_script_laws.specs.Following.{AreSame, IsFollowed, is_there, is_gone, IsPlaced, Knows, StaysWhole, StandsSame}
 use Rattle.wh_script_laws.specs.Laws.{InstancesFollow}
 use Rattle.wh_script_laws.proofs.Fuel.{starts_may}
 use Rattle.wh_script_laws.proofs.SumsChange.{minima_more, spreads_more, claim_free}
@@ -52,33 +52,19 @@ record IsModuleOf (w : World) (k : ℕ) (named : NamedModule) : Type 0 where
 
 module_of : {settings : Settings} {w : World} {m : ScriptState} {places : List ℕ} (k : ℕ) (named : NamedModule)
     → Knows settings w m places → slice_get m.modules k ≡ Some named → IsModuleOf w k named
-module_of {w = w} {m = m} k named known has =
-    let f = zip_there IsModuleKept m.modules w.modules k named known.modules has in
-    of_kept f.0 f.1 f.2
-  where
-    of_kept : (o : Option Loaded) → slice_get w.modules k ≡ Some o → IsModuleKept named o → IsModuleOf w k named
-    of_kept None at kept = absurd kept
-    of_kept (Some l) at kept = record { loaded = l; at = get_or_is w.modules k (Some l) None at; same = kept }
+module_of {w = w} {m = m} k named known has = search (rules, zip_there, get_or_is)
 
 limit_of_met : {settings : Settings} {w : World} {m : ScriptState} {places : List ℕ} (k : ℕ) (named : NamedModule) (p : Params)
     (fault : AdmitFault) → Knows settings w m places → IsModuleOf w k named → MeetsFault w k p fault
     → MeetsLimit settings m named.m p fault
-limit_of_met k named p no_module known of met =
-    let both : None ≡ Some of.loaded = sym met ∙ of.at in absurd (cc both)
+limit_of_met k named p no_module known of met = search rules
 limit_of_met k named p shares known of met = met
 limit_of_met k named p min_max known of met = met
-limit_of_met k named p frames known of met =
-    let many = known.frames in let least = known.minima in omega (arith, many, least, met)
-limit_of_met k named p swap known of met =
-    let many = known.slots in let most = known.spreads in omega (arith, many, most, met)
-limit_of_met {w = w} {m = m} k named p instances known of met =
-    let many = live_many w m.instances w.tenants known.instances in omega (arith, many, met)
-limit_of_met k named p memory known of met =
-    let one : met.0 ≡ of.loaded = same_Some met.0 of.loaded (sym met.1 ∙ of.at) in
-    subst (λ q. IsInitial q (given_of p) memory_min) (ap (λ (l : Loaded). l.m) one ∙ sym of.same) met.2
-limit_of_met k named p segments known of met =
-    let one : met.0 ≡ of.loaded = same_Some met.0 of.loaded (sym met.1 ∙ of.at) in
-    subst (λ q. IsInitial q (given_of p) segment_bounds) (ap (λ (l : Loaded). l.m) one ∙ sym of.same) met.2
+limit_of_met k named p frames known of met = search rules
+limit_of_met k named p swap known of met = search rules
+limit_of_met {w = w} {m = m} k named p instances known of met = search (rules, live_many)
+limit_of_met k named p memory known of met = search rules
+limit_of_met k named p segments known of met = search rules
 
 met_of_limit : {settings : Settings} {w : World} {m : ScriptState} {places : List ℕ} (k : ℕ) (named : NamedModule) (p : Params)
     (fault : AdmitFault) → Knows settings w m places → IsModuleOf w k named → MeetsLimit settings m named.m p fault
@@ -86,16 +72,11 @@ met_of_limit : {settings : Settings} {w : World} {m : ScriptState} {places : Lis
 met_of_limit k named p no_module known of met = absurd met
 met_of_limit k named p shares known of met = met
 met_of_limit k named p min_max known of met = met
-met_of_limit k named p frames known of met =
-    let many = known.frames in let least = known.minima in omega (arith, many, least, met)
-met_of_limit k named p swap known of met =
-    let many = known.slots in let most = known.spreads in omega (arith, many, most, met)
-met_of_limit {w = w} {m = m} k named p instances known of met =
-    let many = live_many w m.instances w.tenants known.instances in omega (arith, many, met)
-met_of_limit k named p memory known of met =
-    (of.loaded, of.at, subst (λ q. IsInitial q (given_of p) memory_min) of.same met)
-met_of_limit k named p segments known of met =
-    (of.loaded, of.at, subst (λ q. IsInitial q (given_of p) segment_bounds) of.same met)
+met_of_limit k named p frames known of met = search rules
+met_of_limit k named p swap known of met = search rules
+met_of_limit {w = w} {m = m} k named p instances known of met = search (rules, live_many)
+met_of_limit k named p memory known of met = search rules
+met_of_limit k named p segments known of met = search rules
 
 first_limit : {settings : Settings} {w : World} {m : ScriptState} {places : List ℕ} (k : ℕ) (named : NamedModule) (p : Params)
     (fault : AdmitFault) → Knows settings w m places → IsModuleOf w k named → IsFirstMet w k p fault
@@ -107,22 +88,14 @@ first_limit k named p fault known of first = (
 
 -- ---- the instance
 
-outcome_left : (p : Piece) (ps : List Piece) (func : Option ℕ) → first_outcome (p ∷ ps) func ≡ pending
-outcome_left p ps None = refl
-outcome_left p ps (Some x) = refl
-
 -- its calls are those that it begins with
 begins_so : {inst : Instance} {s : Store} {pieces : List Piece} {start : Option ℕ} {fuel : ℕ} {d : Doing}
     {ended opens : List Entry} → StartsAs inst s pieces start fuel d ended opens
     → (start_entry start fuel (first_outcome pieces start)).call ∷ [] ≡ journal_calls (ended ++ opens)
 begins_so {pieces = []} (writes some) = absurd (some refl)
-begins_so {pieces = p ∷ ps} {start = start} {fuel = fuel} (writes some) =
-    ap (λ o. (start_entry start fuel o).call ∷ []) (outcome_left p ps start)
-begins_so {pieces = pieces} {start = start} {fuel = fuel} (runs {x = x} none func faces) =
-    ap (λ o. (start_entry start fuel o).call ∷ []) (ap (λ ps. first_outcome ps start) none ∙ ap (first_outcome []) func)
-begins_so {pieces = pieces} {start = start} {fuel = fuel} (ends none func) =
-    ap (λ ps. (start_entry start fuel (first_outcome ps start)).call ∷ []) none
-    ∙ ap (λ f. (start_entry f fuel (first_outcome [] f)).call ∷ []) func
+begins_so {pieces = p ∷ ps} {start = start} {fuel = fuel} (writes some) = search rules
+begins_so {pieces = pieces} {start = start} {fuel = fuel} (runs {x = x} none func faces) = search rules
+begins_so {pieces = pieces} {start = start} {fuel = fuel} (ends none func) = search rules
 
 -- the host's instance
 abbrev comer : {w : World} {k : ℕ} {p : Params} {place number : ℕ} {w2 : World} → LetsIn w k p place number w2 → Tenant
@@ -180,16 +153,10 @@ comer_known {w = w} {m = m} {places = places} k named name p place number lets s
       tax_num = ap (λ (tax : Tax). tax.num) whole.tax ∙ known.tax_num;
       tax_den = ap (λ (tax : Tax). tax.den) whole.tax ∙ known.tax_den;
       none_out = whole.none_out ∙ known.none_out;
-      minima =
-          least ∙ ap (λ n. n + p.min) known.minima ∙ sym (sum_last (λ q. q.min) m.instances g refl);
-      spreads =
-          most ∙ ap (λ n. n + ((p.max - p.min) + 1)) known.spreads
-          ∙ sym (sum_last (λ q. (q.max - q.min) + 1) m.instances g refl);
+      minima = search (rules, sum_last);
+      spreads = search (rules, sum_last);
       modules = known.modules;
-      instances = zip_last (IsFollowed AreSame StandsSame w3) m.instances w.tenants g (Some (comer lets))
-          (zip_map (IsFollowed AreSame StandsSame w) (IsFollowed AreSame StandsSame w3) m.instances w.tenants
-          (λ h o. followed_there w w3 h o (λ x l e. e)) known.instances)
-          (comer_followed w3 k named name p place number lets of (λ x l e. e));
+      instances = search (rules, zip_last, zip_map, followed_there, comer_followed);
       placed = zip_last IsPlaced places w.tenants place (Some (comer lets)) known.placed refl;
     }
 

@@ -1,5 +1,5 @@
 -- What a script knows of its host, where one instance of it changes.
-use Rattle.std.proofs.Common.{◌≡◌, ℕ, ◌+◌, ◌-◌, Bool, true, false, if◌then◌else◌, List, [], ◌∷◌, ◌++◌, length, get_or, slice_get, slice_set, Option, Some, None, zero, suc, refl, sym, ap, subst, ◌∙◌, arith}
+use Rattle.std.proofs.Common.{◌≡◌, ℕ, ◌+◌, ◌-◌, Bool, true, false, if◌then◌else◌, List, [], ◌∷◌, ◌++◌, length, get_or, slice_get, slice_set, Option, Some, None, zero, suc, refl, sym, ap, subst, ◌∙◌, arith, rules}
 use Rattle.std.specs.List.{AllZip}
 use Rattle.std.proofs.lemmas.Option.{none-some, same_Some}
 use Rattle.wh_model.specs.Execution.{Outcome, returned, stopped, cancelled, dead, pending, Call}
@@ -226,8 +226,7 @@ changed {w = w} {m = m} {places = places} i place g g2 t2 s2 known has lies whol
       tax_den = ap (λ (tax : Tax). tax.den) whole.tax ∙ known.tax_den;
       none_out = whole.none_out ∙ known.none_out;
       minima = least ∙ known.minima ∙ sym (sum_set (λ p. p.min) m.instances i g g2 has new.params new.gone);
-      spreads = most ∙ known.spreads
-          ∙ sym (sum_set (λ p. (p.max - p.min) + 1) m.instances i g g2 has new.params new.gone);
+      spreads = search (rules, sum_set);
       modules = known.modules;
       instances = zip_set (IsFollowed AreSame StandsSame w2) m.instances w.tenants i g2 (Some t2) stay
           (is_there (tenant_there w w2 t2 g2 (λ k l e. e) new.of_one) new.calls new.stands);

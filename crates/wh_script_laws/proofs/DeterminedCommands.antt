@@ -1,5 +1,5 @@
 -- What a command gets is determined, and what lines have made stays in order.
-use Rattle.std.proofs.Common.{◌≡◌, ℕ, ⊎_elim, Bool, true, false, List, [], ◌∷◌, Option, Some, None, ℤ, refl, sym, ap, subst, ◌∙◌}
+use Rattle.std.proofs.Common.{◌≡◌, ℕ, ⊎_elim, Bool, true, false, List, [], ◌∷◌, Option, Some, None, ℤ, refl, sym, ap, subst, ◌∙◌, rules}
 use Rattle.std.specs.List.{AllZip}
 use Rattle.std.proofs.lemmas.Bool.{false≢true}
 use Rattle.std.proofs.lemmas.Option.{none-some, same_Some}
@@ -97,9 +97,7 @@ data Released (w : ScriptState) (name : List ℕ) (i : ℕ) (g : NamedInstance) 
   has_gone : g.is_released ≡ true → Released w name i g (release_refused name 1 ∷ []) w
 
 alike_store : {inst : Instance} {y z : Standing} → Alike inst y z → store_at y ≡ store_at z
-alike_store a =
-    ⊎_elim (λ e. ap store_at e)
-    (λ (c, c2, e, f, h). ap store_at e ∙ ⊎_elim (λ x. sym (opened_store x)) (λ x. opened_store x) h ∙ sym (ap store_at f)) a
+alike_store a = search (rules, ⊎_elim, opened_store)
 
 released_once : (w : ScriptState) (name : List ℕ) (i : ℕ) (g : NamedInstance) {replies replies2 : List Reply} {a b : ScriptState} → BeganWell g
     → Released w name i g replies a → Released w name i g replies2 b → IsOnce replies replies2 a b

@@ -1,5 +1,5 @@
 -- A name is given once, so that what has it is one; and what modules and instances began as, they stay.
-use Rattle.std.proofs.Common.{◌≡◌, ℕ, zero, suc, ◌⊎◌, ⊎_elim, inl, inr, List, [], ◌∷◌, ◌++◌, map, length, slice_get, slice_set, Some, refl, sym, ap, subst, ◌∙◌}
+use Rattle.std.proofs.Common.{◌≡◌, ℕ, zero, suc, ◌⊎◌, ⊎_elim, inl, inr, List, [], ◌∷◌, ◌++◌, map, length, slice_get, slice_set, Some, refl, sym, ap, subst, ◌∙◌, rules}
 use Rattle.std.specs.List.{AllZip, AllByRecursion}
 use Rattle.std.proofs.lemmas.List.{map_push}
 use Rattle.std.proofs.lemmas.Option.{none-some, same_Some}
@@ -40,16 +40,7 @@ push_place {A} (z ∷ xs) (suc i) y x e =
 
 push_apart : {A : Type 0} (xs : List A) (y : A) → AreApart xs → ((i : ℕ) → ¬ (slice_get xs i ≡ Some y))
     → AreApart (xs ++ y ∷ [])
-push_apart {A} xs y apart new i j x at at2 =
-    let never = λ (k : ℕ) (same : x ≡ y) (there : slice_get xs k ≡ Some x). new k (there ∙ ap (λ (z : A). Some z) same) in
-    ⊎_elim
-    (λ (p : (i ≡ length xs) × (x ≡ y)). ⊎_elim
-    (λ (q : (j ≡ length xs) × (x ≡ y)). p.0 ∙ sym q.0)
-    (λ (q : slice_get xs j ≡ Some x). absurd (never j p.1 q)) (push_place xs j y x at2))
-    (λ (p : slice_get xs i ≡ Some x). ⊎_elim
-    (λ (q : (j ≡ length xs) × (x ≡ y)). absurd (never i q.1 p))
-    (λ (q : slice_get xs j ≡ Some x). apart i j x p q) (push_place xs j y x at2))
-    (push_place xs i y x at)
+push_apart {A} xs y apart new i j x at at2 = search (rules, ℕ, ⊎_elim, push_place)
 
 one_more : {A : Type 0} (P : A → Type 0) (xs : List A) (x : A) → AllByRecursion P xs → P x → AllByRecursion P (xs ++ x ∷ [])
 one_more P [] x all p = (p, tt)
@@ -76,12 +67,7 @@ pub record IsOrderly (w : ScriptState) : Type 0 where
   pub well : AllByRecursion BeganWell w.instances
 
 pub nothing_orderly : IsOrderly empty_script
-nothing_orderly = record {
-  modules = λ i j x at at2. absurd (none-some x at);
-  instances = λ i j x at at2. absurd (none-some x at);
-  valid = tt;
-  well = tt;
-}
+nothing_orderly = search rules
 
 only_begun : (gs : List NamedInstance) → AllByRecursion BeganWell gs → AllByRecursion HasBegun gs
 only_begun [] all = tt
@@ -129,16 +115,7 @@ module_orderly w name m o none valid =
     }
 
 pub guest_orderly : (w : ScriptState) (g : NamedInstance) → IsOrderly w → LacksInstance w g.name → BeganWell g → IsOrderly (record w { instances = w.instances ++ g ∷ [] })
-guest_orderly w g o none well =
-    let new : (i : ℕ) → ¬ (slice_get (map guest_name w.instances) i ≡ Some g.name) = λ i at.
-    let from = map_from guest_name w.instances i g.name at in
-    none i from.0 (from.1, from.2) in
-    record {
-      modules = o.modules;
-      instances = subst AreApart (sym (map_push guest_name w.instances g)) (push_apart (map guest_name w.instances) g.name o.instances new);
-      valid = o.valid;
-      well = one_more BeganWell w.instances g o.well well;
-    }
+guest_orderly w g o none well = search (rules, ℕ, map_from, map_push, push_apart, one_more)
 
 -- ---- what stays
 
@@ -161,12 +138,7 @@ well_stay (g ∷ gs) (k ∷ hs) all well = (all.0.well well.0, well_stay gs hs a
 
 pub stay_orderly : (w : ScriptState) (hs : List NamedInstance) (vs : List Invoked) → AllZip Stays w.instances hs → IsOrderly w
     → IsOrderly (record w { instances = hs; invoked = vs })
-stay_orderly w hs vs all o = record {
-  modules = o.modules;
-  instances = subst AreApart (names_stay w.instances hs all) o.instances;
-  valid = o.valid;
-  well = well_stay w.instances hs all o.well;
-}
+stay_orderly w hs vs all o = search (rules, names_stay, well_stay)
 
 pub all_stay : (gs : List NamedInstance) → AllZip Stays gs gs
 all_stay [] = tt

@@ -1,9 +1,8 @@
 -- Drains: where they begin, moves of pages, and what is said at the end.
-use Rattle.std.proofs.Common.{◌≡◌, ℕ, suc, ◌+◌, ◌-◌, ◌⊎◌, ⊎_elim, inl, inr, Bool, true, false, List, [], ◌∷◌, Option, Some, None, get_or, refl, sym, ap, subst, ◌∙◌, arith}
+use Rattle.std.proofs.Common.{◌≡◌, ℕ, suc, ◌+◌, ◌-◌, ◌⊎◌, ⊎_elim, inl, inr, Bool, true, false, List, [], ◌∷◌, Option, Some, None, get_or, refl, sym, ap, subst, ◌∙◌, arith, rules}
 use Rattle.std.proofs.lemmas.Option.{none-some}
 use Rattle.std.specs.List.{AllZip}
 use Rattle.wh_model.specs.Execution.{Outcome, cancelled, Call}
-use Rattle.wh_space_model.specs.declared.Tax.{Tax}
 use Rattle.wh_space_model.specs.{Space, minima, spreads, swap_number}
 use Rattle.wh_host_model.specs.Host.{for_fuel, for_device, Tenant, World, journal, journal_calls}
 use Rattle.wh_host_model.specs.{Params, is_open}
@@ -13,7 +12,7 @@ use Rattle.wh_script_model.specs.ScriptState.{ScriptState}
 use Rattle.wh_script_model.specs.Drains as drains
 use Rattle.wh_host_model.proofs.Host.Holding.{memory_is_sound}
 use Rattle.wh_script_model.proofs.Serving.{served_as_alone}
-use Rattle.wh_script_laws.specs.Following.{IsFueled, AreSame, ComesFurther, ComeFurther, IsFollowed, is_there, is_gone, FollowsScript, FollowsSame, IsRunAmid, AreRunAmid, StaysWhole, StandsAmid, device_fault, StandsSame}
+use Rattle.wh_script_laws.specs.Following.{IsFueled, AreSame, ComesFurther, ComeFurther, IsFollowed, is_there, is_gone, FollowsScript, IsRunAmid, AreRunAmid, StaysWhole, StandsAmid, device_fault, StandsSame}
 use Rattle.wh_script_laws.specs.Laws.{DrainsBegin, MovesFollow, DrainsEnd, PrintingFollows, StandsForDevice}
 use Rattle.wh_script_laws.proofs.Mixing.{zip_amid_so, zip_none}
 use Rattle.wh_script_laws.proofs.Sums.{claims_decide}
@@ -86,32 +85,13 @@ begins_so w g (Some t) (is_there of_one same stands) =
 begins_so w g None (is_gone gone) = is_gone gone
 
 pub drains_begin : DrainsBegin
-drains_begin settings w m places h = record {
-  frames = h.frames;
-  slots = h.slots;
-  tax_num = h.tax_num;
-  tax_den = h.tax_den;
-  none_out = h.none_out;
-  minima = h.minima;
-  spreads = h.spreads;
-  modules = h.modules;
-  instances = zip_none (IsFollowed AreSame StandsSame w) (IsRunAmid w) (begins_so w) [] m.instances w.tenants h.instances;
-  placed = h.placed;
-}
+drains_begin settings w m places h = search (rules, zip_none, begins_so)
 
 -- ---- pages move
 
 -- an instance of one host is that of another with the same modules
 pub same_modules : (w w2 : World) (t : Tenant) (g : NamedInstance) → w2.modules ≡ w.modules → IsTenantOf w t g → IsTenantOf w2 t g
-same_modules w w2 t g same h = record {
-  loaded = h.loaded;
-  is_loaded = rw same h.is_loaded;
-  of_one = h.of_one;
-  params = h.params;
-  inst = h.inst;
-  is_live = h.is_live;
-  calls = h.calls;
-}
+same_modules w w2 t g same h = search rules
 
 pub moved_followed : (come : List Call → List Call → Type 0) (stands : NamedInstance → Tenant → Type 0) (w w2 : World) → w2.modules ≡ w.modules → (g : NamedInstance) (o : Option Tenant)
     → IsFollowed come stands w g o → IsFollowed come stands w2 g o
@@ -125,42 +105,15 @@ moved_so : (follows : Follows) (settings : Settings) (w : World) (s2 : Space) (m
     → (follows w m.instances w.tenants → follows (record w { space = s2 }) m.instances w.tenants)
     → StaysWhole w.space s2 → (minima s2 ≡ minima w.space) × (spreads s2 ≡ spreads w.space)
     → FollowsScript follows settings w m places → FollowsScript follows settings (record w { space = s2 }) m places
-moved_so follows settings w s2 m places so whole sums h =
-    record {
-      frames = whole.frames ∙ h.frames;
-      slots = whole.slots ∙ h.slots;
-      tax_num = ap (λ (tax : Tax). tax.num) whole.tax ∙ h.tax_num;
-      tax_den = ap (λ (tax : Tax). tax.den) whole.tax ∙ h.tax_den;
-      none_out = whole.none_out ∙ h.none_out;
-      minima = sums.0 ∙ h.minima;
-      spreads = sums.1 ∙ h.spreads;
-      modules = h.modules;
-      instances = so h.instances;
-      placed = h.placed;
-    }
+moved_so follows settings w s2 m places so whole sums h = search rules
 
 -- those that run are so while pages move
 pub moved_run : (faults : List ℕ) (w w2 : World) → w2.modules ≡ w.modules → (gs : List NamedInstance) (ts : List (Option Tenant)) → AreRunAmid faults w gs ts → AreRunAmid faults w2 gs ts
-moved_run faults w w2 same gs ts h =
-    zip_amid_so (IsRunAmid w) (IsRunAmid w2) (λ own. moved_followed ComeFurther (StandsAmid own) w w2 same) faults gs ts h
+moved_run faults w w2 same gs ts h = search (rules, zip_amid_so, moved_followed)
 
 pub moves_follow : MovesFollow
 moves_follow frames slots tax events w happens faults settings m places w2 moves whole =
-    let s2 = moves.0 in
-    let sound = memory_is_sound frames slots tax events w happens in
-    let goal : World → Type 0 = λ v. StaysWhole w.space v.space
-    → (FollowsScript FollowsSame settings w m places → FollowsScript FollowsSame settings v m places)
-    × (FollowsScript (AreRunAmid faults) settings w m places → FollowsScript (AreRunAmid faults) settings v m places) in
-    let after : World = record w { space = s2 } in
-    let known : FollowsSame w m.instances w.tenants → FollowsSame after m.instances w.tenants =
-    zip_so (IsFollowed AreSame StandsSame w) (IsFollowed AreSame StandsSame after) (moved_followed AreSame StandsSame w after refl) m.instances w.tenants in
-    let so : goal after = λ stays. (
-      λ h. moved_so FollowsSame settings w s2 m places known stays
-          (claims_decide w.space s2 sound moves.1.1 h.none_out (stays.none_out ∙ h.none_out) (λ j. (moves.1.0 j).claim)) h,
-      λ h. moved_so (AreRunAmid faults) settings w s2 m places (moved_run faults w after refl m.instances w.tenants) stays
-          (claims_decide w.space s2 sound moves.1.1 h.none_out (stays.none_out ∙ h.none_out) (λ j. (moves.1.0 j).claim)) h,
-    ) in
-    subst goal (sym moves.2) so whole
+    search (rules, memory_is_sound, zip_so, moved_followed, moved_so, claims_decide, moved_run)
 
 -- ---- what is said
 
@@ -182,15 +135,7 @@ same_live_sum amount (g ∷ gs) (g2 ∷ gs2) h =
 resaid : (w : World) (g : NamedInstance) (o : Option Tenant) (status : Option CallStatus) → IsFollowed AreSame StandsSame w g o
     → IsFollowed AreSame StandsSame w (record g { last_printed = status }) o
 resaid w g (Some t) status (is_there of_one same sound) =
-    let last_printed : IsTenantOf w t (record g { last_printed = status }) = record {
-      loaded = of_one.loaded;
-      is_loaded = of_one.is_loaded;
-      of_one = of_one.of_one;
-      params = of_one.params;
-      inst = of_one.inst;
-      is_live = of_one.is_live;
-      calls = of_one.calls;
-    } in
+    let last_printed : IsTenantOf w t (record g { last_printed = status }) = search rules in
     is_there last_printed same sound
 resaid w g None status (is_gone gone) = is_gone gone
 
@@ -201,8 +146,7 @@ one_said w g g2 o lines (has_one n e x) h = (resaid w g o _ h, record { released
 
 all_said : (w : World) (gs last_printed : List NamedInstance) (ts : List (Option Tenant)) (lines : List Reply) → PrintStarts gs lines last_printed
     → AllZip (IsFollowed AreSame StandsSame w) gs ts → AllZip (IsFollowed AreSame StandsSame w) last_printed ts × AllZip SameGuest gs last_printed
-all_said w [] last_printed [] lines says h =
-    subst (λ after. AllZip (IsFollowed AreSame StandsSame w) after [] × AllZip SameGuest [] after) (sym says.1) (tt, tt)
+all_said w [] last_printed [] lines says h = search rules
 all_said w [] last_printed (o ∷ ts) lines says h = absurd h
 all_said w (g ∷ gs) last_printed [] lines says h = absurd h
 all_said w (g ∷ gs) last_printed (o ∷ ts) lines (here, rest, g2, gs2, e, f, x, more) h =
@@ -212,20 +156,7 @@ all_said w (g ∷ gs) last_printed (o ∷ ts) lines (here, rest, g2, gs2, e, f, 
     ((first.0, others.0), (first.1, others.1))
 
 pub saying_follows : PrintingFollows
-saying_follows settings w m places lines last_printed invoked h says =
-    let each = all_said w m.instances last_printed w.tenants lines says h.instances in
-    record {
-      frames = h.frames;
-      slots = h.slots;
-      tax_num = h.tax_num;
-      tax_den = h.tax_den;
-      none_out = h.none_out;
-      minima = h.minima ∙ sym (same_live_sum (λ p. p.min) m.instances last_printed each.1);
-      spreads = h.spreads ∙ sym (same_live_sum (λ p. (p.max - p.min) + 1) m.instances last_printed each.1);
-      modules = h.modules;
-      instances = each.0;
-      placed = h.placed;
-    }
+saying_follows settings w m places lines last_printed invoked h says = search (rules, all_said, same_live_sum)
 
 -- ---- a drain ends
 
@@ -257,15 +188,7 @@ one_runs faults w g None so_far fueled (is_gone gone) =
     record { amid = gone_still gone; followed = is_gone gone; same = record { released = refl; params = refl } }
 one_runs faults w g (Some t) so_far fueled (is_there of_one further stands) =
     let calls = journal_calls (journal t) in
-    let run : IsTenantOf w t (run_guest g (Some t)) = record {
-      loaded = of_one.loaded;
-      is_loaded = of_one.is_loaded;
-      of_one = of_one.of_one;
-      params = of_one.params;
-      inst = of_one.inst;
-      is_live = of_one.is_live;
-      calls = come_nowhere calls;
-    } in
+    let run : IsTenantOf w t (run_guest g (Some t)) = search (rules, come_nowhere) in
     record { amid = so_far t refl faults g of_one further stands; followed = is_there run refl (refl, fueled t refl); same = record { released = refl; params = refl } }
 
 -- all have
@@ -296,9 +219,7 @@ from_alone faults g t _ e (drains.has_run {calls = calls} alive come replay rest
 
 served_so : (faults : List ℕ) (g : NamedInstance) (t : Tenant) → RunsAlone g (record g { calls = journal_calls (journal t) }) → g.is_released ≡ false → device_fault t.waiting_for ≡ None
     → StandsAmid faults g t → RunsAmid faults g (run_guest g (Some t))
-served_so faults g t alone live none (inl stands) =
-    subst (λ (o : Option ℕ). RunsAmid faults g (record g { calls = journal_calls (journal t); at_fault = o })) (sym none)
-    (from_alone faults g t (record g { calls = journal_calls (journal t) }) refl alone live stands.0)
+served_so faults g t alone live none (inl stands) = search (rules, ℕ, from_alone)
 served_so faults g t alone live none (inr (other, was, is, same)) = absurd (none-some other (sym none ∙ is))
 
 -- who waits for a device has met one of the faults, or stands still

@@ -1,52 +1,22 @@
 -- Calls that have ended stay as they are, and are said to be so.
-use Rattle.std.proofs.Common.{◌≡◌, ℕ, zero, suc, ⊎_elim, Bool, true, false, if◌then◌else◌, List, [], ◌∷◌, ◌++◌, map, take, slice_get, Option, Some, None, is_some, refl, sym, ap, subst, ◌∙◌}
+use Rattle.std.proofs.Common.{◌≡◌, ℕ, zero, suc, ⊎_elim, true, false, if◌then◌else◌, List, [], ◌∷◌, ◌++◌, map, slice_get, Option, Some, refl, sym, ap, subst, ◌∙◌, rules}
 use Rattle.std.specs.List.{AllZip, AllByRecursion}
 use Rattle.std.proofs.lemmas.Option.{none-some, same_Some}
 use Rattle.wh_model.specs.Format.{Module}
 use Rattle.wh_model.specs.Execution.Store.{Instance, Store}
-use Rattle.wh_model.specs.Execution.{Piece, Parameters, Outcome, returned, stopped, cancelled, dead, pending, Call, Waits, Standing, Replays, ended, at_work}
+use Rattle.wh_model.specs.Execution.{Piece, Parameters, cancelled, dead, Call, Waits, Standing, Replays, ended, at_work}
 use Rattle.wh_model.specs.Execution.Replay.{Replay}
-use Rattle.wh_script_model.specs.{CallStatus, Reply, NamedInstance, with_first_open, cancel_first, ended_so, ComesTo, had_ended, goes_on, status_by, call_status, PrintsStart, has_none, has_one, RunsAmid, gone_still, stands_still, runs_on}
-use Rattle.wh_host_model.specs.{is_open, first_open}
+use Rattle.wh_script_model.specs.{CallStatus, Reply, NamedInstance, with_first_open, cancel_first, ended_so, ComesTo, had_ended, goes_on, call_status, PrintsStart, has_none, has_one, RunsAmid, gone_still, stands_still, runs_on}
+use Rattle.wh_host_model.specs.{is_open}
 use Rattle.wh_script_model.proofs.Once.{end_closed}
-use Rattle.wh_script_laws.specs.Printed.{is_final, HasStart, IsPrinted, HasEndedSo, StartsFirst}
-use Rattle.wh_script_laws.proofs.Drains.{open_or_not}
+use Rattle.wh_script_laws.specs.Printed.{HasStart, IsPrinted, HasEndedSo, StartsFirst}
 
 -- ---- how they are said to be
-
--- what has ended is said so, whether its instance is released or not, and whatever stands before it
-closed_same : (o : Outcome) (gone gone2 waits waits2 : Bool) (stands stands2 : Option ℕ) (charges : ℕ) → is_open o ≡ false
-    → status_by o gone waits stands charges ≡ status_by o gone2 waits2 stands2 charges
-closed_same (returned results) gone gone2 waits waits2 stands stands2 charges e = refl
-closed_same (stopped trap) gone gone2 waits waits2 stands stands2 charges e = refl
-closed_same cancelled gone gone2 waits waits2 stands stands2 charges e = refl
-closed_same dead gone gone2 waits waits2 stands stands2 charges e = refl
-closed_same pending gone gone2 waits waits2 stands stands2 charges e = absurd (cc e)
-
--- what is open isn't said to have ended, where its instance lives
-open_unsaid : (o : Outcome) (waits : Bool) (stands : Option ℕ) (charges : ℕ) → is_open o ≡ true → is_final (status_by o false waits stands charges) ≡ true → ⊥
-open_unsaid (returned results) waits stands charges e final = cc e
-open_unsaid (stopped trap) waits stands charges e final = cc e
-open_unsaid cancelled waits stands charges e final = cc e
-open_unsaid dead waits stands charges e final = cc e
-open_unsaid pending true stands charges e final = cc final
-open_unsaid pending false None charges e final = cc final
-open_unsaid pending false (Some fault) charges e final = cc final
 
 -- so a call of a living instance that was said to have ended stays so, if calls that have ended stay as they are
 pub stays_ended : (g h : NamedInstance) (place : ℕ) (c c2 : Call) (last_printed : Option CallStatus) → g.is_released ≡ false
     → (is_open c.outcome ≡ false → c2 ≡ c) → HasEndedSo g place c last_printed → HasEndedSo h place c2 last_printed
-stays_ended g h place c c2 last_printed live keeps was status e final =
-    let waits = is_some (first_open (take place g.calls)) in
-    let now : call_status g place c ≡ status = was status e final in
-    ⊎_elim
-    (λ (open_yet : is_open c.outcome ≡ true).
-    let bare : status_by c.outcome false waits g.at_fault c.charges ≡ status = ap (λ b. status_by c.outcome b waits g.at_fault c.charges) (sym live) ∙ now in
-    absurd (open_unsaid c.outcome waits g.at_fault c.charges open_yet (ap is_final bare ∙ final)))
-    (λ (closed : is_open c.outcome ≡ false).
-    let here : call_status h place c ≡ status = closed_same c.outcome h.is_released g.is_released (is_some (first_open (take place h.calls))) waits h.at_fault g.at_fault c.charges closed ∙ now in
-    subst (λ (d : Call). call_status h place d ≡ status) (sym (keeps closed)) here)
-    (open_or_not (is_open c.outcome))
+stays_ended g h place c c2 last_printed live keeps was status e final = search rules
 
 -- what was said to be as it is has ended, if it was said so
 pub ended_as_said : (g : NamedInstance) (place : ℕ) (c : Call) (last_printed : Option CallStatus) → IsPrinted g place c last_printed → HasEndedSo g place c last_printed
@@ -61,8 +31,7 @@ pub none_changes : (calls : List Call) → KeepsEnded calls calls
 none_changes calls k c e closed = e
 
 open_changes : (c d : Call) (calls : List Call) → is_open c.outcome ≡ true → KeepsEnded (c ∷ calls) (d ∷ calls)
-open_changes c d calls open_yet zero x e closed =
-    let bad : true ≡ false = sym open_yet ∙ ap (λ (y : Call). is_open y.outcome) (same_Some c x e) ∙ closed in absurd (cc bad)
+open_changes c d calls open_yet zero x e closed = search rules
 open_changes c d calls open_yet (suc k) x e closed = e
 
 behind : (c : Call) (calls calls2 : List Call) → KeepsEnded calls calls2 → KeepsEnded (c ∷ calls) (c ∷ calls2)
@@ -83,8 +52,7 @@ first_open_changes change (c ∷ calls) =
 none_closed : (calls : List Call) (k : ℕ) (c : Call) → AllByRecursion (λ (x : Call). is_open x.outcome ≡ true) calls → slice_get calls k ≡ Some c
     → is_open c.outcome ≡ false → ⊥
 none_closed [] k c all e closed = none-some c e
-none_closed (x ∷ calls) zero c all e closed =
-    let bad : true ≡ false = sym all.0 ∙ ap (λ (y : Call). is_open y.outcome) (same_Some x c e) ∙ closed in cc bad
+none_closed (x ∷ calls) zero c all e closed = search rules
 none_closed (x ∷ calls) (suc k) c all e closed = none_closed calls k c all.1 e closed
 
 start_changes : (c d : Call) (calls calls2 : List Call) → is_open c.outcome ≡ true → AllByRecursion (λ (x : Call). is_open x.outcome ≡ true) calls
@@ -129,24 +97,11 @@ starts_first_pushed (c ∷ calls) d open_yet first = λ e. all_pushed calls (fir
 pub starts_first_changed : (change : Call → Call) → ((c : Call) → (change c).outcome ≡ c.outcome) → (calls : List Call) → StartsFirst calls
     → StartsFirst (with_first_open change calls)
 starts_first_changed change same [] first = tt
-starts_first_changed change same (c ∷ calls) first =
-    let so : (is_open c.outcome ≡ is_open c.outcome) → StartsFirst (with_first_open change (c ∷ calls)) =
-    elim (is_open c.outcome) as (λ b. (is_open c.outcome ≡ b) → StartsFirst (if b then change c ∷ calls else c ∷ with_first_open change calls)) [
-      | true ↦ λ e other. first e
-      | false ↦ λ e other. absurd (cc (e, other))
-    ] in
-    so refl
+starts_first_changed change same (c ∷ calls) first = search rules
 
 pub starts_first_cancelled : (calls : List Call) → StartsFirst (cancel_first calls)
 starts_first_cancelled [] = tt
-starts_first_cancelled (c ∷ calls) =
-    let so : (is_open c.outcome ≡ is_open c.outcome) → StartsFirst (cancel_first (c ∷ calls)) =
-    elim (is_open c.outcome) as (λ b. (is_open c.outcome ≡ b)
-    → StartsFirst (if b then ended_so cancelled c ∷ map (ended_so dead) calls else c ∷ with_first_open (ended_so cancelled) calls)) [
-      | true ↦ λ e other. absurd (cc other)
-      | false ↦ λ e other. absurd (cc (e, other))
-    ] in
-    so refl
+starts_first_cancelled (c ∷ calls) = search rules
 
 all_wait : (calls : List Call) → AllByRecursion Waits calls → AllByRecursion (λ (x : Call). is_open x.outcome ≡ true) calls
 all_wait [] all = tt

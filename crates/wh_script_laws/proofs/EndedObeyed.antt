@@ -1,5 +1,5 @@
 -- Calls that were said to have ended stay so where a line is obeyed, and nothing is said of them again.
-use Rattle.std.proofs.Common.{◌≡◌, ℕ, ◌⊎◌, ⊎_elim, inl, inr, true, false, List, [], ◌∷◌, ◌++◌, slice_get, slice_set, Option, Some, None, refl, sym, ap, subst, ◌∙◌}
+use Rattle.std.proofs.Common.{◌≡◌, ℕ, ◌⊎◌, ⊎_elim, inl, inr, true, false, List, [], ◌∷◌, ◌++◌, slice_get, slice_set, Option, Some, None, refl, sym, ap, subst, ◌∙◌, rules}
 use Rattle.std.proofs.lemmas.Option.{none-some, same_Some}
 use Rattle.wh_model.specs.Execution.{Piece, Call}
 use Rattle.wh_script_model.specs.Texts as texts
@@ -11,16 +11,6 @@ use Rattle.wh_script_laws.proofs.Ended.{KeepsEnded, stays_ended}
 use Rattle.wh_script_laws.proofs.Printed.{set_cases, push_cases, push_there}
 
 -- ---- what lines make
-
-pub none_ended : EndedAsPrinted [] []
-none_ended = record {
-  taken = record {
-    starts = λ j g c e anyone has first. absurd (none-some g e);
-    calls = λ n i place v g c at outcome e anyone first. absurd (none-some v at);
-  };
-  refused = λ n fault v status at outcome last_printed. absurd (none-some v at);
-  starts_first = λ i g e. absurd (none-some g e);
-}
 
 -- a call is asked at the end of the journal
 pub push_changes : (calls : List Call) (d : Call) → KeepsEnded calls (calls ++ d ∷ [])
@@ -56,9 +46,7 @@ ended_with instances invoked i g h at live starts last_printed keeps first_of th
         ⊎_elim here (λ (q : slice_get instances j ≡ Some k). was.taken.calls n j place v k c2 at_v outcome q tt first) (set_cases instances i j h k e);
   };
   refused = was.refused;
-  starts_first = λ j k e.
-      let here : (j ≡ i) × (k ≡ h) → StartsFirst k.calls = λ p. subst (λ (x : NamedInstance). StartsFirst x.calls) (sym p.1) first_of in
-      ⊎_elim here (λ (q : slice_get instances j ≡ Some k). was.starts_first j k q) (set_cases instances i j h k e);
+  starts_first = search (rules, ⊎_elim, set_cases);
 }
 
 -- one more instance, of which nothing was said
@@ -66,39 +54,20 @@ pub ended_guest : (instances : List NamedInstance) (invoked : List Invoked) (h :
     → EndedAsPrinted instances invoked → EndedAsPrinted (instances ++ h ∷ []) invoked
 ended_guest instances invoked h unsaid first_of there was = record {
   taken = record {
-    starts = λ j k c e anyone has first.
-        let here : k ≡ h → HasEndedSo k 0 c k.last_printed = λ p status last_printed final.
-        absurd (none-some status (sym unsaid ∙ ap (λ (x : NamedInstance). x.last_printed) (sym p) ∙ last_printed)) in
-        ⊎_elim here (λ (q : slice_get instances j ≡ Some k). was.taken.starts j k c q tt has first) (push_cases instances j h k e);
+    starts = search (rules, none-some, ⊎_elim, push_cases);
     calls = λ n j place v k c at outcome e anyone first.
         let d = there.calls n j place v at outcome in
         let same : d.0 ≡ k = same_Some d.0 k (sym (push_there instances j h d.0 d.2) ∙ e) in
         was.taken.calls n j place v k c at outcome (d.2 ∙ ap Some same) tt first;
   };
   refused = was.refused;
-  starts_first = λ j k e.
-      let here : k ≡ h → StartsFirst k.calls = λ p. subst (λ (x : NamedInstance). StartsFirst x.calls) (sym p) first_of in
-      ⊎_elim here (λ (q : slice_get instances j ≡ Some k). was.starts_first j k q) (push_cases instances j h k e);
+  starts_first = search (rules, ⊎_elim, push_cases);
 }
 
 -- one more `invoke`, of which nothing was said
 pub ended_call : (instances : List NamedInstance) (invoked : List Invoked) (outcome : InvokeOutcome) → EndedAsPrinted instances invoked
     → EndedAsPrinted instances (invoked ++ record { outcome = outcome; last_printed = None } ∷ [])
-ended_call instances invoked outcome was =
-    let new : Invoked = record { outcome = outcome; last_printed = None } in
-    let unsaid : (v : Invoked) (status : CallStatus) → v ≡ new → v.last_printed ≡ Some status → ⊥ =
-    λ v status p last_printed. none-some status (ap (λ (x : Invoked). x.last_printed) (sym p) ∙ last_printed) in
-    record {
-      taken = record {
-        starts = was.taken.starts;
-        calls = λ n i place v g c at is e anyone first.
-            let here : v ≡ new → HasEndedSo g place c v.last_printed = λ p status last_printed final. absurd (unsaid v status p last_printed) in
-            ⊎_elim here (λ (q : slice_get invoked n ≡ Some v). was.taken.calls n i place v g c q is e tt first) (push_cases invoked n new v at);
-      };
-      refused = λ n fault v status at is last_printed.
-          ⊎_elim (λ (p : v ≡ new). absurd (unsaid v status p last_printed)) (λ (q : slice_get invoked n ≡ Some v). was.refused n fault v status q is last_printed) (push_cases invoked n new v at);
-      starts_first = was.starts_first;
-    }
+ended_call instances invoked outcome was = search (rules, none-some, ⊎_elim, push_cases)
 
 -- ---- nothing is said of them again
 

@@ -1,5 +1,5 @@
 -- Where no call of a device fails, nobody is blocked on a fault, and lines get the same.
-use Rattle.std.proofs.Common.{◌≡◌, ℕ, ◌+◌, Bool, List, [], ◌∷◌, ◌++◌, slice_get, Option, Some, None, ℤ, refl, sym, ap, subst, ◌∙◌, arith}
+use Rattle.std.proofs.Common.{◌≡◌, ℕ, ◌+◌, Bool, List, [], ◌∷◌, ◌++◌, slice_get, Option, Some, None, ℤ, refl, sym, ap, subst, ◌∙◌, arith, rules}
 use Rattle.std.proofs.lemmas.Option.{none-some}
 use Rattle.std.specs.List.{AllZip, AllByRecursion}
 use Rattle.wh_model.specs.Format.{Module}
@@ -68,18 +68,7 @@ said_for_none (g ∷ gs) hs lines (here, rest, k, ks, e, f, x, more) none =
 -- the calls run in another way
 drained_so : (P Q : List NamedInstance → List NamedInstance → Type 0) (faults : List ℕ) (w w2 : ScriptState) (lines : List Reply)
     → ((run : List NamedInstance) → P w.instances run → Q w.instances run) → DrainsBy P faults w lines w2 → DrainsBy Q faults w lines w2
-drained_so P Q faults w w2 lines so x = record {
-  run = x.run;
-  instances = x.instances;
-  invoked = x.invoked;
-  starts = x.starts;
-  calls = x.calls;
-  each_runs = so x.run x.each_runs;
-  print_starts = x.print_starts;
-  print_calls = x.print_calls;
-  lines_are = x.lines_are;
-  after = x.after;
-}
+drained_so P Q faults w w2 lines so x = search rules
 
 -- ---- nothing more is met, and nobody comes to be blocked on a fault
 
@@ -114,8 +103,7 @@ pub call_none : (may_run_out : Bool) (w w2 : ScriptState) (i : ℕ) (g : NamedIn
     → slice_get w.instances i ≡ Some g → ReceivesCall may_run_out w i g name fuel given w2 → AddsNone w w2
 call_none may_run_out w w2 i g name fuel given e (instance_is_gone r) = (refl, λ h. h)
 call_none may_run_out w w2 i g name fuel given e (isnt_invoked fault l f) = (refl, λ h. h)
-call_none may_run_out w w2 i g name fuel given e (is_invoked vs l n x a) =
-    (refl, λ h. with_one IsAtNoFault w.instances i _ h (is_one IsAtNoFault w.instances i g h e))
+call_none may_run_out w w2 i g name fuel given e (is_invoked vs l n x a) = search (rules, with_one, is_one)
 call_none may_run_out w w2 i g name fuel given e (call_out_of_memory s l n) = (refl, λ h. h)
 
 pub obeyed_none : (may_run_out : Bool) (settings : Settings) (files : Files) (w w2 : ScriptState) (number : ℕ) (command : Command)
@@ -132,8 +120,7 @@ obeyed_none may_run_out settings files w w2 number command replies (no_such_inst
 obeyed_none may_run_out settings files w w2 number command replies is_drained = same w
 obeyed_none may_run_out settings files w w2 number command replies is_scanned = same w
 obeyed_none may_run_out settings files w w2 number command replies is_reported = same w
-obeyed_none may_run_out settings files w w2 number command replies (is_refueled i {g = g} n l f) =
-    (refl, λ h. with_one IsAtNoFault w.instances i _ h (is_one IsAtNoFault w.instances i g h n.0))
+obeyed_none may_run_out settings files w w2 number command replies (is_refueled i {g = g} n l f) = search (rules, with_one, is_one)
 obeyed_none may_run_out settings files w w2 number command replies (no_one_to_refuel i n l) = same w
 obeyed_none may_run_out settings files w w2 number command replies (no_call_to_refuel i n l f) = same w
 obeyed_none may_run_out settings files w w2 number command replies (is_cancelled i n l f) = (refl, λ h. with_one IsAtNoFault w.instances i _ h refl)
@@ -142,8 +129,7 @@ obeyed_none may_run_out settings files w w2 number command replies (no_call_to_c
 obeyed_none may_run_out settings files w w2 number command replies (is_retried i n l f) = (refl, λ h. with_one IsAtNoFault w.instances i _ h refl)
 obeyed_none may_run_out settings files w w2 number command replies (no_one_to_retry i n l) = same w
 obeyed_none may_run_out settings files w w2 number command replies (no_fault_to_retry i n l f) = same w
-obeyed_none may_run_out settings files w w2 number command replies (is_released i {g = g} z n l r) =
-    (refl, λ h. with_one IsAtNoFault w.instances i _ h (is_one IsAtNoFault w.instances i g h n.0))
+obeyed_none may_run_out settings files w w2 number command replies (is_released i {g = g} z n l r) = search (rules, with_one, is_one)
 obeyed_none may_run_out settings files w w2 number command replies (no_one_to_release i n l) = same w
 
 -- ---- where none was met, none was before, and each instance's calls run alone
@@ -154,17 +140,10 @@ both_none (x ∷ later) now e = absurd (cc e)
 
 pub drained_alone : (w w2 : ScriptState) (lines : List Reply) → DrainsAmidFaults w lines w2 → w2.faults_met ≡ []
     → (w.faults_met ≡ []) × (NobodyStands w → Drains w lines w2)
-drained_alone w w2 lines d none =
-    let nothing = both_none d.0 w.faults_met (sym (ap (λ (k : ScriptState). k.faults_met) d.1.after) ∙ none) in (
-      nothing.1,
-      λ nobody.
-          drained_so (ZipAmid RunsAmid []) (AllZip RunsAlone) [] w w2 lines (λ run x. all_alone [] w.instances run refl nobody x)
-          (subst (λ faults. DrainsBy (ZipAmid RunsAmid faults) faults w lines w2) nothing.0 d.1),
-    )
+drained_alone w w2 lines d none = search (rules, both_none, drained_so, all_alone)
 
 drained_amid : (w w2 : ScriptState) (lines : List Reply) → NobodyStands w → Drains w lines w2 → DrainsAmidFaults w lines w2
-drained_amid w w2 lines nobody d =
-    ([], drained_so (AllZip RunsAlone) (ZipAmid RunsAmid []) [] w w2 lines (λ run x. all_amid w.instances run nobody x) d)
+drained_amid w w2 lines nobody d = search (rules, drained_so, all_amid)
 
 -- ---- lines
 

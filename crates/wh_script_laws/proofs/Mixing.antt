@@ -1,5 +1,5 @@
 -- Faults that are split among pairs.
-use Rattle.std.proofs.Common.{◌≡◌, ℕ, zero, suc, List, [], ◌∷◌, Option, Some, None, get_or, slice_set, refl, subst}
+use Rattle.std.proofs.Common.{◌≡◌, ℕ, zero, suc, List, [], ◌∷◌, Option, Some, None, get_or, slice_set, refl, subst, rules}
 use Rattle.std.specs.List.{AllZip}
 use Rattle.wh_script_model.specs.{AreMixed, none_left, one_own, one_other, ZipAmid}
 
@@ -40,8 +40,7 @@ pub zip_amid_set : {A B : Type 0} (R S : List ℕ → A → Option B → Type 0)
 zip_amid_set R S t t2 so changed faults [] [] i there h = tt
 zip_amid_set R S t t2 so changed faults [] (y ∷ ys) i there h = absurd h
 zip_amid_set R S t t2 so changed faults (x ∷ xs) [] i there h = absurd h
-zip_amid_set R S t t2 so changed faults (x ∷ xs) (y ∷ ys) zero there h =
-    (h.0, h.1, h.2, changed h.0 x (subst (R h.0 x) there h.3), zip_amid_so R S so h.1 xs ys h.4)
+zip_amid_set R S t t2 so changed faults (x ∷ xs) (y ∷ ys) zero there h = search (rules, zip_amid_so)
 zip_amid_set R S t t2 so changed faults (x ∷ xs) (y ∷ ys) (suc i) there h =
     (h.0, h.1, h.2, so h.0 x y h.3, zip_amid_set R S t t2 so changed h.1 xs ys i there h.4)
 

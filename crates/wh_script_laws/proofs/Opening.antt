@@ -1,5 +1,5 @@
 -- Where an instance of the host has an open call, the script knows one.
-use Rattle.std.proofs.Common.{◌≡◌, ◌≢◌, ◌∙◌, ◌⊎◌, ⊎_elim, inl, inr, ℕ, zero, suc, List, [], ◌∷◌, ◌++◌, get_or, slice_get, Option, Some, None, false, refl, sym, ap, subst}
+use Rattle.std.proofs.Common.{◌≡◌, ◌≢◌, ◌∙◌, ◌⊎◌, ⊎_elim, inl, inr, ℕ, zero, suc, List, [], ◌∷◌, ◌++◌, get_or, slice_get, Option, Some, None, false, refl, sym, ap, subst, rules}
 use Rattle.std.proofs.lemmas.Option.{same_Some}
 use Rattle.std.specs.List.{AllZip}
 use Rattle.wh_model.specs.Execution.{Call}
@@ -35,10 +35,7 @@ known_so w g t j some (is_there of_one same faultless) =
     (first.0, of_one.is_live, ap first_open same ∙ first.1)
 
 pub open_is_known : OpenIsKnown
-open_is_known frames slots tax events w happens settings m places i t known there some =
-    let g = there_at w m.instances w.tenants i t known.instances there in
-    let c = known_so w g.0 t (journals_are_in_order frames slots tax events w happens i t there) some g.2 in
-    (i, g.0, c.0, g.1, c.1, c.2)
+open_is_known frames slots tax events w happens settings m places i t known there some = search (rules, there_at, known_so, journals_are_in_order)
 
 faultless_so : (w : World) (g : NamedInstance) (t : Tenant) → IsFollowed AreSame StandsSame w g (Some t) → device_fault t.waiting_for ≡ None → g.at_fault ≡ None
 faultless_so w g t (is_there of_one same stands) none = stands.0 ∙ none

@@ -1,5 +1,5 @@
 -- What has been said of calls stays true of what the lines of a script make.
-use Rattle.std.proofs.Common.{◌≡◌, ℕ, zero, suc, ◌+◌, ◌⊎◌, ⊎_elim, inl, inr, Bool, true, false, if◌then◌else◌, List, [], ◌∷◌, ◌++◌, map, length, take, slice_get, slice_set, Option, Some, is_some, refl, sym, ap, subst, ◌∙◌, None}
+use Rattle.std.proofs.Common.{◌≡◌, ℕ, zero, suc, ◌+◌, ◌⊎◌, ⊎_elim, inl, inr, Bool, true, false, if◌then◌else◌, List, [], ◌∷◌, ◌++◌, map, length, take, slice_get, slice_set, Option, Some, is_some, refl, sym, ap, subst, ◌∙◌, None, rules}
 use Rattle.std.specs.List.{AllZip, AllByRecursion}
 use Rattle.std.proofs.lemmas.Option.{none-some, same_Some}
 use Rattle.wh_model.specs.Execution.Store.{Instance, Store}
@@ -7,7 +7,7 @@ use Rattle.wh_model.specs.Execution.{Piece, Parameters, Outcome, returned, stopp
 use Rattle.wh_model.specs.Execution.Replay.{Replay}
 use Rattle.wh_model.specs.Format.{Module}
 use Rattle.wh_script_model.specs.Texts as texts
-use Rattle.wh_script_model.specs.{CallStatus, Reply, NamedInstance, Invoked, call_rejected, call_accepted, InvokeOutcome, with_first_open, cancel_first, ended_so, ComesTo, status_by, call_status, PrintsStart, has_none, has_one, PrintStarts, PrintsCall, is_refused, is_taken, PrintCalls, DrainsAmid, RunsAmid, ZipAmid, gone_still, stands_still, runs_on}
+use Rattle.wh_script_model.specs.{CallStatus, Reply, NamedInstance, Invoked, call_rejected, call_accepted, InvokeOutcome, with_first_open, cancel_first, ended_so, ComesTo, status_by, PrintsStart, has_none, has_one, PrintStarts, PrintsCall, is_refused, is_taken, PrintCalls, DrainsAmid, RunsAmid, ZipAmid, gone_still, stands_still, runs_on}
 use Rattle.wh_script_model.specs.ScriptState.{ScriptState}
 use Rattle.wh_host_model.specs.{is_open, first_open}
 use Rattle.wh_script_model.proofs.Once.{end_closed}
@@ -123,14 +123,6 @@ waiting_has_none m p (d ∷ calls) z place c r e w = unbegun (d ∷ calls) place
 
 -- ---- how it is said
 
--- of a released instance it is said so for ever
-gone_stays : (o : Outcome) (waits : Bool) (stands : Option ℕ) (charges : ℕ) → status_by o true waits stands charges ≡ when_released (status_by o true waits stands charges)
-gone_stays (returned results) waits stands charges = refl
-gone_stays (stopped trap) waits stands charges = refl
-gone_stays cancelled waits stands charges = refl
-gone_stays dead waits stands charges = refl
-gone_stays pending waits stands charges = refl
-
 -- and where it is released now
 pub goes_so : (o : Outcome) (waits : Bool) (stands : Option ℕ) (charges : ℕ) → (waits ≡ true → charges ≡ 0)
     → status_by o true waits stands charges ≡ when_released (status_by o false waits stands charges)
@@ -143,11 +135,7 @@ goes_so pending false None charges none = refl
 goes_so pending false (Some fault) charges none = refl
 
 said_gone : (g : NamedInstance) (place : ℕ) (c : Call) (last_printed : Option CallStatus) → IsReleased g → IsPrinted g place c last_printed → WasPrinted g place c last_printed
-said_gone g place c last_printed gone is =
-    let waits = is_some (first_open (take place g.calls)) in
-    let stays : call_status g place c ≡ when_released (call_status g place c) =
-    subst (λ b. status_by c.outcome b waits g.at_fault c.charges ≡ when_released (status_by c.outcome b waits g.at_fault c.charges)) (sym gone) (gone_stays c.outcome waits g.at_fault c.charges) in
-    (call_status g place c, is, stays)
+said_gone g place c last_printed gone is = search rules
 
 -- ---- calls run
 
@@ -181,26 +169,14 @@ gone_before faults g _ (runs_on live faultless come replay rest) released = absu
 pub runs_well : (faults : List ℕ) (m : ScriptState) (run : List NamedInstance) → IsWellMade m → ZipAmid RunsAmid faults m.instances run → IsWellMade (record m { instances = run; faults_met = faults ++ m.faults_met })
 runs_well faults m run h all = record {
   there = record {
-    starts = λ j r e.
-        let d = run_at faults m.instances run j r all e in
-        let c = h.there.starts j d.1 d.2 in
-        run_places d.0 d.1 r d.3 0 c.0 c.1;
+    starts = search (rules, run_at, run_places);
     calls = λ n i place v at outcome.
         let d = h.there.calls n i place v at outcome in
         let r = ran_at faults m.instances run i d.0 all d.2 in
         let c = run_places r.0 d.0 r.1 r.3 place d.1 d.3 in
         (r.1, c.0, r.2, c.1);
   };
-  gone = record {
-    starts = λ j r c e released has first.
-        let d = run_at faults m.instances run j r all e in
-        let same = gone_before d.0 d.1 r d.3 released in
-        h.gone.starts j r c (d.2 ∙ ap Some (sym same)) released has first;
-    calls = λ n i place v r c at outcome e released first.
-        let d = run_at faults m.instances run i r all e in
-        let same = gone_before d.0 d.1 r d.3 released in
-        h.gone.calls n i place v r c at outcome (d.2 ∙ ap Some (sym same)) released first;
-  };
+  gone = search (rules, run_at, gone_before);
   ended = record {
     taken = record {
       starts = λ j r c e anyone has first.
@@ -226,17 +202,14 @@ runs_well faults m run h all = record {
 said_at : (gs gs2 : List NamedInstance) (lines : List Reply) (j : ℕ) (g2 : NamedInstance) → PrintStarts gs lines gs2 → slice_get gs2 j ≡ Some g2
     → (g : NamedInstance) × (here : List Reply) × (slice_get gs j ≡ Some g) × PrintsStart g here g2
 said_at [] gs2 lines j g2 says e = absurd (none-some g2 (ap (λ (xs : List NamedInstance). slice_get xs j) (sym says.1) ∙ e))
-said_at (g ∷ gs) gs2 lines zero g2 (here, rest, k, ks, l, f, x, more) e =
-    let same : Some k ≡ Some g2 = ap (λ (xs : List NamedInstance). slice_get xs 0) (sym f) ∙ e in
-    (g, here, refl, subst (PrintsStart g here) (same_Some k g2 same) x)
+said_at (g ∷ gs) gs2 lines zero g2 (here, rest, k, ks, l, f, x, more) e = search rules
 said_at (g ∷ gs) gs2 lines (suc j) g2 (here, rest, k, ks, l, f, x, more) e =
     said_at gs ks rest j g2 more (ap (λ (xs : List NamedInstance). slice_get xs (suc j)) (sym f) ∙ e)
 
 starts_at : (gs gs2 : List NamedInstance) (lines : List Reply) (j : ℕ) (g : NamedInstance) → PrintStarts gs lines gs2 → slice_get gs j ≡ Some g
     → (g2 : NamedInstance) × (here : List Reply) × (slice_get gs2 j ≡ Some g2) × PrintsStart g here g2
 starts_at [] gs2 lines j g says e = absurd (none-some g e)
-starts_at (y ∷ gs) gs2 lines zero g (here, rest, k, ks, l, f, x, more) e =
-    (k, here, ap (λ (xs : List NamedInstance). slice_get xs 0) f, subst (λ z. PrintsStart z here k) (same_Some y g e) x)
+starts_at (y ∷ gs) gs2 lines zero g (here, rest, k, ks, l, f, x, more) e = search rules
 starts_at (y ∷ gs) gs2 lines (suc j) g (here, rest, k, ks, l, f, x, more) e =
     let d = starts_at gs ks rest j g more e in
     (d.0, d.1, ap (λ (xs : List NamedInstance). slice_get xs (suc j)) f ∙ d.2, d.3)
@@ -254,15 +227,12 @@ still_said g _ here place c last_printed (has_one n e x) released first was = wa
 -- its start, if it has one, was said to be as it is
 start_said : (g g2 : NamedInstance) (here : List Reply) (c : Call) → PrintsStart g here g2 → HasStart g2 → slice_get g2.calls 0 ≡ Some c → IsPrinted g2 0 c g2.last_printed
 start_said g _ here c (has_none p q) has e = absurd (has (p, q))
-start_said g _ here c (has_one {first = first} n f x) has e =
-    ap (λ d. Some (call_status g 0 d)) (same_Some first c (sym f ∙ e))
+start_said g _ here c (has_one {first = first} n f x) has e = search rules
 
 calls_at : (instances : List NamedInstance) (n : ℕ) (vs vs2 : List Invoked) (lines : List Reply) (k : ℕ) (v2 : Invoked) → PrintCalls instances n vs lines vs2 → slice_get vs2 k ≡ Some v2
     → (v : Invoked) × (here : List Reply) × (number : ℕ) × (slice_get vs k ≡ Some v) × PrintsCall instances number v here v2
 calls_at instances n [] vs2 lines k v2 says e = absurd (none-some v2 (ap (λ (xs : List Invoked). slice_get xs k) (sym says.1) ∙ e))
-calls_at instances n (v ∷ vs) vs2 lines zero v2 (here, rest, u, us, l, f, x, more) e =
-    let same : Some u ≡ Some v2 = ap (λ (xs : List Invoked). slice_get xs 0) (sym f) ∙ e in
-    (v, here, n, refl, subst (PrintsCall instances n v here) (same_Some u v2 same) x)
+calls_at instances n (v ∷ vs) vs2 lines zero v2 (here, rest, u, us, l, f, x, more) e = search rules
 calls_at instances n (v ∷ vs) vs2 lines (suc k) v2 (here, rest, u, us, l, f, x, more) e =
     calls_at instances (n + 1) vs us rest k v2 more (ap (λ (xs : List Invoked). slice_get xs (suc k)) (sym f) ∙ e)
 
@@ -287,64 +257,40 @@ same_reception instances n v _ here (is_taken e f g x) = refl
 call_said : (instances : List NamedInstance) (n : ℕ) (v v2 : Invoked) (here : List Reply) (i place : ℕ) (g : NamedInstance) (c : Call) → PrintsCall instances n v here v2
     → v2.outcome ≡ call_accepted i place → slice_get instances i ≡ Some g → slice_get g.calls place ≡ Some c → IsPrinted g place c v2.last_printed
 call_said instances n v _ here i place g c (is_refused {fault = fault} outcome x) e f first = absurd (cc (outcome, e))
-call_said instances n v _ here i place g c (is_taken {i = j} {place = at} {g = k} {c = d} outcome there here_it x) e f first =
-    let same_i : j ≡ i = ap taken_guest (sym outcome ∙ e) in
-    let same_at : at ≡ place = ap taken_place (sym outcome ∙ e) in
-    let same_g : k ≡ g = same_Some k g (sym there ∙ ap (slice_get instances) same_i ∙ f) in
-    let same_c : d ≡ c = same_Some d c (sym here_it ∙ ap (λ (y : NamedInstance). slice_get y.calls at) same_g ∙ ap (slice_get g.calls) same_at ∙ first) in
-    ap Some (ap (λ (y : NamedInstance). call_status y at d) same_g ∙ ap (λ (q : ℕ). call_status g q d) same_at ∙ ap (call_status g place) same_c)
+call_said instances n v _ here i place g c (is_taken {i = j} {place = at} {g = k} {c = d} outcome there here_it x) e f first = search rules
 
 pub all_said : (m : ScriptState) (starts calls : List Reply) (instances : List NamedInstance) (invoked : List Invoked) → PrintStarts m.instances starts instances
     → PrintCalls instances 1 m.invoked calls invoked → AllArePrinted (record m { instances = instances; invoked = invoked })
-all_said m starts calls instances invoked print_starts print_calls = record {
-  starts = λ j g2 c e anyone has first.
-      let d = said_at m.instances instances starts j g2 print_starts e in
-      start_said d.0 g2 d.1 c d.3 has first;
-  calls = λ n i place v g c at outcome e anyone first.
-      let d = calls_at instances 1 m.invoked invoked calls n v print_calls at in
-      call_said instances d.2 d.0 v d.1 i place g c d.4 outcome e first;
-}
+all_said m starts calls instances invoked print_starts print_calls = search (rules, said_at, start_said, calls_at, call_said)
 
 -- a call that was refused was said to be so
 refused_so : (instances : List NamedInstance) (n fault : ℕ) (v v2 : Invoked) (here : List Reply) (status : CallStatus) → PrintsCall instances n v here v2
     → v2.outcome ≡ call_rejected fault → v2.last_printed ≡ Some status → status ≡ texts.refused fault
-refused_so instances n fault v _ here status (is_refused {fault = own} outcome x) turned last_printed =
-    sym (same_Some (texts.refused own) status last_printed) ∙ ap texts.refused (ap fault_of (sym outcome ∙ turned))
+refused_so instances n fault v _ here status (is_refused {fault = own} outcome x) turned last_printed = search rules
 refused_so instances n fault v _ here status (is_taken outcome f g x) turned last_printed = absurd (cc (outcome, turned))
 
 -- behind an open start its calls are as they were
 first_still : (m : ScriptState) (starts : List Reply) (instances : List NamedInstance) → IsWellMade m → PrintStarts m.instances starts instances
     → (i : ℕ) (g2 : NamedInstance) → slice_get instances i ≡ Some g2 → StartsFirst g2.calls
-first_still m starts instances h print_starts i g2 e =
-    let d = said_at m.instances instances starts i g2 print_starts e in
-    subst StartsFirst (sym (same_calls d.0 g2 d.1 d.3)) (h.ended.starts_first i d.0 d.2)
+first_still m starts instances h print_starts i g2 e = search (rules, said_at, same_calls)
 
 -- where only starts were said, too
 pub starts_well : (m : ScriptState) (starts : List Reply) (instances : List NamedInstance) → IsWellMade m → PrintStarts m.instances starts instances → IsWellMade (record m { instances = instances })
 starts_well m starts instances h print_starts = record {
   there = record {
-    starts = λ j g2 e.
-        let d = said_at m.instances instances starts j g2 print_starts e in
-        let c = h.there.starts j d.0 d.2 in
-        (c.0, ap (λ (xs : List Call). slice_get xs 0) (same_calls d.0 g2 d.1 d.3) ∙ c.1);
+    starts = search (rules, said_at, same_calls);
     calls = λ n i place v at outcome.
         let d = h.there.calls n i place v at outcome in
         let r = starts_at m.instances instances starts i d.0 print_starts d.2 in
         (r.0, d.1, r.2, ap (λ (xs : List Call). slice_get xs place) (same_calls d.0 r.0 r.1 r.3) ∙ d.3);
   };
   gone = record {
-    starts = λ j g2 c e released has first.
-        let d = said_at m.instances instances starts j g2 print_starts e in
-        said_gone g2 0 c g2.last_printed released (start_said d.0 g2 d.1 c d.3 has first);
-    calls = λ n i place v g2 c at outcome e released first.
-        let d = said_at m.instances instances starts i g2 print_starts e in
-        still_said d.0 g2 d.1 place c v.last_printed d.3 released first (λ gone first_of. h.gone.calls n i place v d.0 c at outcome d.2 gone first_of);
+    starts = search (rules, said_at, said_gone, start_said);
+    calls = search (rules, said_at, still_said);
   };
   ended = record {
     taken = record {
-      starts = λ j g2 c e anyone has first.
-          let d = said_at m.instances instances starts j g2 print_starts e in
-          ended_as_said g2 0 c g2.last_printed (start_said d.0 g2 d.1 c d.3 has first);
+      starts = search (rules, said_at, ended_as_said, start_said);
       calls = λ n i place v g2 c at outcome e anyone first.
           let d = said_at m.instances instances starts i g2 print_starts e in
           start_still_ended d.0 g2 d.1 place c v.last_printed d.3 first (λ first_of. h.ended.taken.calls n i place v d.0 c at outcome d.2 tt first_of);
@@ -360,10 +306,7 @@ says_well m starts calls instances invoked h print_starts print_calls =
     let all = all_said m starts calls instances invoked print_starts print_calls in
     record {
       there = record {
-        starts = λ j g2 e.
-            let d = said_at m.instances instances starts j g2 print_starts e in
-            let c = h.there.starts j d.0 d.2 in
-            (c.0, ap (λ (xs : List Call). slice_get xs 0) (same_calls d.0 g2 d.1 d.3) ∙ c.1);
+        starts = search (rules, said_at, same_calls);
         calls = λ n i place v at outcome.
             let u = calls_at instances 1 m.invoked invoked calls n v print_calls at in
             let d = h.there.calls n i place u.0 u.3 (sym (same_reception instances u.2 u.0 v u.1 u.4) ∙ outcome) in
@@ -374,16 +317,7 @@ says_well m starts calls instances invoked h print_starts print_calls =
         starts = λ j g c e released has first. said_gone g 0 c g.last_printed released (all.starts j g c e tt has first);
         calls = λ n i place v g c at outcome e released first. said_gone g place c v.last_printed released (all.calls n i place v g c at outcome e tt first);
       };
-      ended = record {
-        taken = record {
-          starts = λ j g c e anyone has first. ended_as_said g 0 c g.last_printed (all.starts j g c e tt has first);
-          calls = λ n i place v g c at outcome e anyone first. ended_as_said g place c v.last_printed (all.calls n i place v g c at outcome e tt first);
-        };
-        refused = λ n fault v status at outcome last_printed.
-            let u = calls_at instances 1 m.invoked invoked calls n v print_calls at in
-            refused_so instances u.2 fault u.0 v u.1 status u.4 outcome last_printed;
-        starts_first = first_still m starts instances h print_starts;
-      };
+      ended = search (rules, ended_as_said, calls_at, refused_so, first_still);
     }
 
 -- ---- who is there behind a drain was there before, under the same name
@@ -399,8 +333,4 @@ said_name g _ here (has_one n e x) = refl
 
 pub drained_guest : (faults : List ℕ) (m m2 : ScriptState) (lines : List Reply) (i : ℕ) (g2 : NamedInstance) → DrainsAmid faults m lines m2 → slice_get m2.instances i ≡ Some g2
     → (g : NamedInstance) × (slice_get m.instances i ≡ Some g) × (g2.name ≡ g.name)
-drained_guest faults m m2 lines i g2 drains at =
-    let there : slice_get drains.instances i ≡ Some g2 = ap (λ (x : ScriptState). slice_get x.instances i) (sym drains.after) ∙ at in
-    let last_printed = said_at drains.run drains.instances drains.starts i g2 drains.print_starts there in
-    let ran = run_at faults m.instances drains.run i last_printed.0 drains.each_runs last_printed.2 in
-    (ran.1, ran.2, said_name last_printed.0 g2 last_printed.1 last_printed.3 ∙ run_name ran.0 ran.1 last_printed.0 ran.3)
+drained_guest faults m m2 lines i g2 drains at = search (rules, said_at, run_at, said_name, run_name)

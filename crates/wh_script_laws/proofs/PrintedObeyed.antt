@@ -1,30 +1,20 @@
 -- What has been said of calls stays true where a line is obeyed.
-use Rattle.std.proofs.Common.{◌≡◌, ℕ, zero, suc, ⊎_elim, Bool, true, false, List, [], ◌∷◌, ◌++◌, length, take, slice_get, slice_set, Option, Some, None, is_some, ℤ, refl, sym, ap, subst, ◌∙◌}
+use Rattle.std.proofs.Common.{◌≡◌, ℕ, zero, suc, ⊎_elim, Bool, true, false, List, [], ◌∷◌, ◌++◌, length, slice_get, slice_set, Option, Some, None, is_some, ℤ, refl, sym, ap, subst, ◌∙◌, rules}
 use Rattle.std.proofs.lemmas.Option.{none-some, same_Some}
 use Rattle.wh_model.specs.Format.{Module}
 use Rattle.wh_model.specs.Execution.Replay.{Replay}
 use Rattle.wh_model.specs.Execution.{Call, Standing}
-use Rattle.wh_host_model.specs.{Params, given_of, first_open}
+use Rattle.wh_host_model.specs.{Params, given_of}
 use Rattle.wh_script_model.specs.Settings.{Settings}
-use Rattle.wh_script_model.specs.{Command, CallStatus, Reply, NamedInstance, Invoked, call_rejected, call_accepted, InvokeOutcome, with_instance, with_invoked, empty_script, status_by, call_status, ReceivesModule, module_is_kept, module_isnt_kept, module_out_of_memory, ReceivesInstance, is_admitted, isnt_admitted, admission_out_of_memory, ReceivesCall, instance_is_gone, isnt_invoked, is_invoked, call_out_of_memory, Files, IsObeyed, module_name_is_taken, no_file, module_comes, no_such_module, instance_name_is_taken, instance_comes, no_such_instance, is_drained, is_scanned, is_reported, is_refueled, no_one_to_refuel, no_call_to_refuel, is_cancelled, no_one_to_cancel, no_call_to_cancel, is_retried, no_one_to_retry, no_fault_to_retry, is_released, no_one_to_release}
+use Rattle.wh_script_model.specs.{Command, CallStatus, Reply, NamedInstance, Invoked, call_rejected, call_accepted, InvokeOutcome, with_instance, with_invoked, empty_script, ReceivesModule, module_is_kept, module_isnt_kept, module_out_of_memory, ReceivesInstance, is_admitted, isnt_admitted, admission_out_of_memory, ReceivesCall, instance_is_gone, isnt_invoked, is_invoked, call_out_of_memory, Files, IsObeyed, module_name_is_taken, no_file, module_comes, no_such_module, instance_name_is_taken, instance_comes, no_such_instance, is_drained, is_scanned, is_reported, is_refueled, no_one_to_refuel, no_call_to_refuel, is_cancelled, no_one_to_cancel, no_call_to_cancel, is_retried, no_one_to_retry, no_fault_to_retry, is_released, no_one_to_release}
 use Rattle.wh_script_model.specs.ScriptState.{ScriptState}
 use Rattle.wh_script_laws.specs.Printed.{StartsFirst, HasStart, IsPrinted, WasPrinted, ArePrinted, IsReleased, AllArePrinted, CallsAreThere, IsWellMade}
 use Rattle.wh_script_laws.proofs.Ended.{KeepsEnded, none_changes, first_open_changes, cancel_changes, starts_first_pushed, starts_first_changed, starts_first_cancelled}
-use Rattle.wh_script_laws.proofs.EndedObeyed.{none_ended, push_changes, ended_with, ended_guest, ended_call}
+use Rattle.wh_script_laws.proofs.EndedObeyed.{push_changes, ended_with, ended_guest, ended_call}
 use Rattle.wh_script_laws.proofs.Printed.{set_cases, set_there, push_cases, push_there, push_last, KeepsPlaces, places_stay, first_open_places, cancel_places, push_places, waiting_has_none, goes_so}
 
 pub nothing_well : IsWellMade empty_script
-nothing_well = record {
-  there = record {
-    starts = λ j g e. absurd (none-some g e);
-    calls = λ n i place v at outcome. absurd (none-some v at);
-  };
-  gone = record {
-    starts = λ j g c e released has first. absurd (none-some g e);
-    calls = λ n i place v g c at outcome e released first. absurd (none-some v at);
-  };
-  ended = none_ended;
-}
+nothing_well = search rules
 
 -- ---- an instance has other calls, or is released
 
@@ -35,40 +25,19 @@ not_released g live gone = cc (live, gone)
 there_with : (instances : List NamedInstance) (invoked : List Invoked) (i : ℕ) (g h : NamedInstance) → slice_get instances i ≡ Some g → KeepsPlaces g.calls h.calls
     → CallsAreThere instances invoked → CallsAreThere (slice_set instances i h) invoked
 there_with instances invoked i g h at keeps there = record {
-  starts = λ j k e.
-      ⊎_elim
-      (λ (p : (j ≡ i) × (k ≡ h)).
-      let c = there.starts i g at in
-      let c2 = keeps 0 c.0 c.1 in
-      (c2.0, ap (λ (x : NamedInstance). slice_get x.calls 0) p.1 ∙ c2.1))
-      (λ (q : slice_get instances j ≡ Some k). there.starts j k q)
-      (set_cases instances i j h k e);
+  starts = search (rules, ⊎_elim, set_cases);
   calls = λ n j place v e outcome.
       let d = there.calls n j place v e outcome in
       let T : Type 0 = (k : NamedInstance) × (c : Call) × (slice_get (slice_set instances i h) j ≡ Some k) × (slice_get k.calls place ≡ Some c) in
       let stays : slice_get (slice_set instances i h) j ≡ Some d.0 → T = λ p. (d.0, d.1, p, d.3) in
-      let changes : (j ≡ i) × (slice_get (slice_set instances i h) j ≡ Some h) → T = λ q.
-      let same : d.0 ≡ g = same_Some d.0 g (sym d.2 ∙ ap (slice_get instances) q.0 ∙ at) in
-      let c2 = keeps place d.1 (ap (λ (x : NamedInstance). slice_get x.calls place) (sym same) ∙ d.3) in
-      (h, c2.0, q.1, c2.1) in
+      let changes : (j ≡ i) × (slice_get (slice_set instances i h) j ≡ Some h) → T = search (rules, same_Some) in
       ⊎_elim stays changes (set_there instances i j h d.0 d.2);
 }
 
 -- and nobody else is released
 gone_with : (instances : List NamedInstance) (invoked : List Invoked) (i : ℕ) (h : NamedInstance) → h.is_released ≡ false
     → ArePrinted IsReleased WasPrinted instances invoked → ArePrinted IsReleased WasPrinted (slice_set instances i h) invoked
-gone_with instances invoked i h live gone = record {
-  starts = λ j k c e released has first.
-      ⊎_elim
-      (λ (p : (j ≡ i) × (k ≡ h)). absurd (not_released h live (ap (λ (x : NamedInstance). x.is_released) (sym p.1) ∙ released)))
-      (λ (q : slice_get instances j ≡ Some k). gone.starts j k c q released has first)
-      (set_cases instances i j h k e);
-  calls = λ n j place v k c at outcome e released first.
-      ⊎_elim
-      (λ (p : (j ≡ i) × (k ≡ h)). absurd (not_released h live (ap (λ (x : NamedInstance). x.is_released) (sym p.1) ∙ released)))
-      (λ (q : slice_get instances j ≡ Some k). gone.calls n j place v k c at outcome q released first)
-      (set_cases instances i j h k e);
-}
+gone_with instances invoked i h live gone = search (rules, ⊎_elim, not_released, set_cases)
 
 with_well : (m : ScriptState) (i : ℕ) (g : NamedInstance) (calls : List Call) (stands : Option ℕ) → slice_get m.instances i ≡ Some g → g.is_released ≡ false → KeepsPlaces g.calls calls
     → KeepsEnded g.calls calls → (StartsFirst g.calls → StartsFirst calls) → IsWellMade m → IsWellMade (with_instance m i (record g { calls = calls; at_fault = stands }))
@@ -83,11 +52,7 @@ with_well m i g calls stands at live places keeps first well =
 -- it goes, and was said to be so before
 was_said : (g : NamedInstance) (z : Standing) (place : ℕ) (c : Call) (last_printed : Option CallStatus) → g.is_released ≡ false → Replay g.m (given_of g.params) g.calls z
     → slice_get g.calls place ≡ Some c → IsPrinted g place c last_printed → WasPrinted (record g { is_released = true }) place c last_printed
-was_said g z place c last_printed live replay at is =
-    let waits = is_some (first_open (take place g.calls)) in
-    let none = λ (w : waits ≡ true). waiting_has_none g.m (given_of g.params) g.calls z place c replay at w in
-    let now : call_status g place c ≡ status_by c.outcome false waits g.at_fault c.charges = ap (λ b. status_by c.outcome b waits g.at_fault c.charges) live in
-    (status_by c.outcome false waits g.at_fault c.charges, is ∙ ap Some now, goes_so c.outcome waits g.at_fault c.charges none)
+was_said g z place c last_printed live replay at is = search (rules, is_some, waiting_has_none, goes_so)
 
 released_well : (m : ScriptState) (i : ℕ) (g : NamedInstance) (z : Standing) → slice_get m.instances i ≡ Some g → g.is_released ≡ false → Replay g.m (given_of g.params) g.calls z
     → IsWellMade m → AllArePrinted m → IsWellMade (with_instance m i (record g { is_released = true }))
@@ -134,18 +99,7 @@ one_more_guest m h c first_of live unsaid starts_first well = record {
         let d = well.there.calls n j place v e outcome in
         (d.0, d.1, push_there m.instances j h d.0 d.2, d.3);
   };
-  gone = record {
-    starts = λ j k c2 e released has first.
-        ⊎_elim
-        (λ (p : k ≡ h). absurd (not_released h live (ap (λ (x : NamedInstance). x.is_released) (sym p) ∙ released)))
-        (λ (q : slice_get m.instances j ≡ Some k). well.gone.starts j k c2 q released has first)
-        (push_cases m.instances j h k e);
-    calls = λ n j place v k c2 at outcome e released first.
-        ⊎_elim
-        (λ (p : k ≡ h). absurd (not_released h live (ap (λ (x : NamedInstance). x.is_released) (sym p) ∙ released)))
-        (λ (q : slice_get m.instances j ≡ Some k). well.gone.calls n j place v k c2 at outcome q released first)
-        (push_cases m.instances j h k e);
-  };
+  gone = search (rules, ⊎_elim, not_released, push_cases);
   ended = ended_guest m.instances m.invoked h unsaid starts_first well.there well.ended;
 }
 
@@ -166,20 +120,10 @@ one_more_call m outcome there_of well =
         starts = well.there.starts;
         calls = λ n i place v e is.
             let T : Type 0 = (g : NamedInstance) × (c : Call) × (slice_get m.instances i ≡ Some g) × (slice_get g.calls place ≡ Some c) in
-            let here : v ≡ new → T = λ p.
-            let d = there_of i place (ap (λ (x : Invoked). x.outcome) (sym p) ∙ is) in
-            (d.0, d.1, d.2, d.3) in
+            let here : v ≡ new → T = search rules in
             ⊎_elim here (λ (q : slice_get m.invoked n ≡ Some v). well.there.calls n i place v q is) (push_cases m.invoked n new v e);
       };
-      gone = record {
-        starts = well.gone.starts;
-        calls = λ n i place v g c at is e released first.
-            let here : v ≡ new → WasPrinted g place c v.last_printed = λ p.
-            let d = there_of i place (ap (λ (x : Invoked). x.outcome) (sym p) ∙ is) in
-            let same : d.0 ≡ g = same_Some d.0 g (sym d.2 ∙ e) in
-            absurd (not_released g (ap (λ (x : NamedInstance). x.is_released) (sym same) ∙ d.4) released) in
-            ⊎_elim here (λ (q : slice_get m.invoked n ≡ Some v). well.gone.calls n i place v g c q is e released first) (push_cases m.invoked n new v at);
-      };
+      gone = search (rules, same_Some, not_released, ⊎_elim, push_cases);
       ended = ended_call m.instances m.invoked outcome well.ended;
     }
 
@@ -242,6 +186,5 @@ obeys_well may_run_out settings files m m2 number command replies (no_one_to_ret
 obeys_well may_run_out settings files m _ number command replies (is_retried i {g = g} n live f) h all =
     with_well m i g g.calls None n.0 live (places_stay g.calls) (none_changes g.calls) (λ first. first) h
 obeys_well may_run_out settings files m m2 number command replies (no_fault_to_retry i n l f) h all = h
-obeys_well may_run_out settings files m _ number command replies (is_released i {g = g} z n live r) h all =
-    released_well m i g z n.0 live r h all
+obeys_well may_run_out settings files m _ number command replies (is_released i {g = g} z n live r) h all = search (rules, released_well)
 obeys_well may_run_out settings files m m2 number command replies (no_one_to_release i n l) h all = h

@@ -1,5 +1,5 @@
 -- Where no reply names out of memory, no memory ran out.
-use Rattle.std.proofs.Common.{◌≡◌, ℕ, ◌+◌, true, false, List, [], ◌∷◌, ◌++◌, slice_get, Some, None, zero, suc, refl, sym, subst}
+use Rattle.std.proofs.Common.{◌≡◌, ℕ, ◌+◌, true, false, List, [], ◌∷◌, ◌++◌, slice_get, Some, None, zero, suc, refl, sym, subst, rules}
 use Rattle.wh_script_model.specs.Settings.{Settings}
 use Rattle.wh_script_model.specs.{Command, Reply, NamedInstance, Invoked, empty_script, call_rejected, as_before, anew, PrintsCall, is_refused, is_taken, PrintCalls, ReceivesModule, module_is_kept, module_isnt_kept, module_out_of_memory, decoder_out_of_memory, validator_out_of_memory, linker_out_of_memory, host_out_of_memory, ReceivesInstance, is_admitted, isnt_admitted, admission_out_of_memory, ReceivesCall, instance_is_gone, isnt_invoked, is_invoked, call_out_of_memory, Files, IsObeyed, module_name_is_taken, no_file, module_comes, no_such_module, instance_name_is_taken, instance_comes, no_such_instance, is_drained, is_scanned, is_reported, is_refueled, no_one_to_refuel, no_call_to_refuel, is_cancelled, no_one_to_cancel, no_call_to_cancel, is_retried, no_one_to_retry, no_fault_to_retry, is_released, no_one_to_release, AnswersLine, skipped, invoked, obeyed, too_long, no_command, line_out_of_memory, AnswersLines, AnswersScript}
 use Rattle.wh_script_model.specs.ScriptState.{ScriptState}
@@ -33,10 +33,7 @@ line_says instances number v v2 lines outcome last_printed (is_taken e g c says)
 calls_say : (instances : List NamedInstance) (number : ℕ) (vs after : List Invoked) (lines : List Reply) → PrintCalls instances number vs lines after
     → IsUnsaid vs → NoneIsOutOfMemory lines → ⊥
 calls_say instances number [] after lines says (i, v, at, outcome, last_printed) plenty = absurd (cc)
-calls_say instances number (x ∷ vs) after lines says (zero, v, at, outcome, last_printed) plenty =
-    let same : x ≡ v = cc in
-    line_says instances number v says.2 says.0 outcome last_printed (subst (λ (y : Invoked). PrintsCall instances number y says.0 says.2) same says.6)
-    (first_part says.0 says.1 (subst NoneIsOutOfMemory says.4 plenty))
+calls_say instances number (x ∷ vs) after lines says (zero, v, at, outcome, last_printed) plenty = search (rules, line_says, first_part)
 calls_say instances number (x ∷ vs) after lines says (suc i, v, at, outcome, last_printed) plenty =
     calls_say instances (number + 1) vs says.3 says.1 says.7 (i, v, at, outcome, last_printed) (last_part says.0 says.1 (subst NoneIsOutOfMemory says.4 plenty))
 

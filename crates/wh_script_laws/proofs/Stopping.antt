@@ -1,5 +1,5 @@
 -- Faults stop few, and bring no call back; and who represents one goes on only where it is tried again.
-use Rattle.std.proofs.Common.{◌≡◌, ◌≤◌, ◌∙◌, ℕ, ◌+◌, List, [], ◌∷◌, length, Option, Some, None, refl, sym, arith}
+use Rattle.std.proofs.Common.{◌≡◌, ◌≤◌, ◌∙◌, ℕ, ◌+◌, List, [], ◌∷◌, length, Option, Some, None, refl, sym, arith, rules}
 use Rattle.std.proofs.lemmas.Option.{none-some}
 use Rattle.std.specs.List.{AllZip}
 use Rattle.wh_model.specs.Execution.{Call, Standing}
@@ -43,9 +43,7 @@ one_at_most (Some other) fault = omega arith
 rest_stops : (faults : List ℕ) (inst : Instance) (before calls : List Call) (z : Standing) (was o : Option ℕ) → RestsAmid faults inst before calls z o
     → newly_stopped was o ≤ length faults
 rest_stops faults inst before calls z was _ (rests_alone rest) = let none = not_stopped was in omega (arith, none)
-rest_stops faults inst before calls z was _ (meets_fault {fault = fault} c first needs lost met) =
-    let one = one_at_most was fault in
-    omega (arith, met.1, one)
+rest_stops faults inst before calls z was _ (meets_fault {fault = fault} c first needs lost met) = search rules
 
 run_stops : (own : List ℕ) (g g2 : NamedInstance) → RunsAmid own g g2 → newly_stopped g.at_fault g2.at_fault ≤ length own
 run_stops own g _ (gone_still gone) = let none = not_newly g.at_fault in omega (arith, none)

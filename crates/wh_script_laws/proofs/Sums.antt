@@ -1,5 +1,5 @@
 -- Where no ticket is out, what was promised at each place decides how much is promised in all.
-use Rattle.std.proofs.Common.{◌≡◌, ℕ, zero, suc, ◌+◌, ◌-◌, ◌≤◌, Bool, true, false, List, [], ◌∷◌, Option, Some, None, get_or, slice_get, refl, sym, ap, ◌∙◌, arith}
+use Rattle.std.proofs.Common.{◌≡◌, ℕ, zero, suc, ◌+◌, ◌-◌, ◌≤◌, Bool, true, false, List, [], ◌∷◌, Option, Some, None, get_or, slice_get, refl, sym, ap, ◌∙◌, arith, rules}
 use Rattle.std.proofs.lemmas.Bool.Decides.{nat_tests}
 use Rattle.wh_space_model.specs.{tally, one_if, is_ticket, ticket_of, tickets, Space, Occupant, Claimed, claim, claim_of, of_occupant, minima, spreads, IsSound}
 use Rattle.wh_space_model.specs.declared.states.Slot.{Slot}
@@ -47,11 +47,7 @@ live_or_not true never = refl
 live_or_not false never = absurd (never refl)
 
 all_live : (s : Space) → IsSound s → tickets s ≡ 0 → (i : ℕ) (t : Occupant) → get_or s.occupants i None ≡ Some t → t.live ≡ true
-all_live s sound none i t there =
-    live_or_not t.live (λ gone.
-    let out = sound.occupants.released i t (some_there s.occupants i t there) gone in
-    let few = tally_le (ticket_of i) is_ticket s.slots.uses (ticket_counts i) in
-    absurd (omega (arith, out, few, none)))
+all_live s sound none i t there = search (rules, live_or_not, some_there, tally_le, ticket_counts)
 
 -- ---- what is promised at a place
 

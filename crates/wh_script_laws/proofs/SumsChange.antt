@@ -1,5 +1,5 @@
 -- The sums of what instances were promised, where the claim at one place is another.
-use Rattle.std.proofs.Common.{◌≡◌, ◌≢◌, ℕ, ◌+◌, ◌-◌, ◌≤◌, inl, inr, cond, Bool, true, false, List, [], ◌∷◌, length, get_or, slice_get, Option, Some, None, zero, suc, refl, sym, ap, ◌∙◌, arith}
+use Rattle.std.proofs.Common.{◌≡◌, ◌≢◌, ℕ, ◌+◌, ◌-◌, ◌≤◌, inl, inr, true, List, [], ◌∷◌, length, get_or, slice_get, Option, Some, None, zero, suc, refl, ap, ◌∙◌, arith, rules}
 use Rattle.std.proofs.lemmas.Bool.Decides.{nat_tests}
 use Rattle.wh_space_model.specs.{tally, one_if, Space, Occupant, Claimed, occupant_at, claim_of, claim, of_occupant, minima, spreads, tickets, is_ticket, ticket_of, IsSound, IsFreePlace}
 use Rattle.wh_space_model.specs.declared.states.Slot.{Slot}
@@ -22,13 +22,7 @@ ticket_counts i (Fetching j p f) = one_at_most i j
 ticket_counts i (FetchVoid j f) = one_at_most i j
 
 all_live : (s : Space) → IsSound s → tickets s ≡ 0 → (i : ℕ) (t : Occupant) → occupant_at s i t → t.live ≡ true
-all_live s sound none i t at = go t.live refl where
-  go : (b : Bool) → t.live ≡ b → b ≡ true
-  go true e = refl
-  go false e =
-      let one = sound.occupants.released i t at e in
-      let most = tally_le (ticket_of i) is_ticket s.slots.uses (ticket_counts i) in
-      absurd (omega (arith, one, most, none))
+all_live s sound none i t at = search (rules, tally_le, ticket_counts)
 
 -- ---- what a claim gives
 
@@ -47,10 +41,7 @@ occupant_claim t = record { number = t.number; shares = t.shares; min = t.min; m
 by_claim_of : (f : Claimed → ℕ) (o : Option Occupant) → IsLiveThere o
     → of_occupant (λ t. f (occupant_claim t)) o ≡ by_claim f (claim_of o)
 by_claim_of f None live = refl
-by_claim_of f (Some t) live = go t.live live where
-  go : (b : Bool) → b ≡ true → f (occupant_claim t) ≡ by_claim f (cond b (Some (occupant_claim t)) None)
-  go true e = refl
-  go false e = absurd (cc e)
+by_claim_of f (Some t) live = search rules
 
 live_there : (s : Space) → IsSound s → tickets s ≡ 0 → (i : ℕ) → IsLiveThere (get_or s.occupants i None)
 live_there s sound none i = go s.occupants i (λ t at. all_live s sound none i t at) where
@@ -109,29 +100,17 @@ pub record IsQuiet (s : Space) : Type 0 where
 claims_change : (f : Claimed → ℕ) (s s2 : Space) (i : ℕ) → IsQuiet s → IsQuiet s2 → OthersLeftAlone i s s2
     → tally (of_occupant (λ t. f (occupant_claim t))) s.occupants + by_claim f (claim s2 i)
     ≡ tally (of_occupant (λ t. f (occupant_claim t))) s2.occupants + by_claim f (claim s i)
-claims_change f s s2 i quiet quiet2 others =
-    let v : Option Occupant → ℕ = of_occupant (λ t. f (occupant_claim t)) in
-    let one = λ (k : ℕ). by_claim_of f (get_or s.occupants k None) (live_there s quiet.sound quiet.none_out k) in
-    let two = λ (k : ℕ). by_claim_of f (get_or s2.occupants k None) (live_there s2 quiet2.sound quiet2.none_out k) in
-    let sums = sums_change v s.occupants s2.occupants i refl
-    (λ k other. one k ∙ ap (by_claim f) (sym ((others k other).claim)) ∙ sym (two k)) in
-    let here = one i in
-    let here2 = two i in
-    omega (arith, sums, here, here2)
+claims_change f s s2 i quiet quiet2 others = search (rules, ℕ, by_claim_of, live_there, sums_change)
 
 pub minima_change : (s s2 : Space) (i : ℕ) (c c2 : Option Claimed) → IsQuiet s → IsQuiet s2 → OthersLeftAlone i s s2
     → claim s i ≡ c → claim s2 i ≡ c2
     → minima s + by_claim (λ x. x.min) c2 ≡ minima s2 + by_claim (λ x. x.min) c
-minima_change s s2 i c c2 quiet quiet2 others e e2 =
-    let sums = claims_change (λ x. x.min) s s2 i quiet quiet2 others in
-    rw (sym e, sym e2) sums
+minima_change s s2 i c c2 quiet quiet2 others e e2 = search (rules, claims_change)
 
 pub spreads_change : (s s2 : Space) (i : ℕ) (c c2 : Option Claimed) → IsQuiet s → IsQuiet s2 → OthersLeftAlone i s s2
     → claim s i ≡ c → claim s2 i ≡ c2
     → spreads s + by_claim (λ x. (x.max - x.min) + 1) c2 ≡ spreads s2 + by_claim (λ x. (x.max - x.min) + 1) c
-spreads_change s s2 i c c2 quiet quiet2 others e e2 =
-    let sums = claims_change (λ x. (x.max - x.min) + 1) s s2 i quiet quiet2 others in
-    rw (sym e, sym e2) sums
+spreads_change s s2 i c c2 quiet quiet2 others e e2 = search (rules, claims_change)
 
 -- the claim there is the same
 pub minima_same : (s s2 : Space) (i : ℕ) → IsQuiet s → IsQuiet s2 → OthersLeftAlone i s s2 → claim s2 i ≡ claim s i

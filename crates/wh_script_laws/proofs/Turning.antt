@@ -1,5 +1,5 @@
 -- Turns bring the calls of an instance further.
-use Rattle.std.proofs.Common.{◌≡◌, ◌≢◌, ℕ, zero, suc, ◌+◌, ◌⊎◌, ⊎_elim, inl, inr, Bool, true, List, [], ◌∷◌, ◌++◌, map, Option, Some, None, get_or, slice_set, refl, sym, ap, subst, ◌∙◌, arith, append_assoc}
+use Rattle.std.proofs.Common.{◌≡◌, ◌≢◌, ℕ, zero, suc, ◌+◌, ◌⊎◌, ⊎_elim, inl, inr, Bool, true, List, [], ◌∷◌, ◌++◌, map, Option, Some, None, get_or, slice_set, refl, sym, ap, subst, ◌∙◌, arith, append_assoc, rules}
 use Rattle.std.proofs.lemmas.Option.{none-some, same_Some}
 use Rattle.std.specs.List.{AllZip, AllByRecursion}
 use Rattle.wh_model.specs.declared.memory.Need.{Need}
@@ -10,9 +10,8 @@ use Rattle.wh_space_model.specs.declared.Tax.{Tax}
 use Rattle.wh_space_model.specs.declared.plain.InstId.{InstId}
 use Rattle.wh_host_model.specs.declared.plain.TurnEnd.{TurnEnd}
 use Rattle.wh_space_model.specs.{Space, claim, IsSound}
-use Rattle.wh_host_model.specs.Host.{Rest, Doing, Suspension, for_frame, for_device, Tenant, World, journal, journal_calls, with_tenant, to_end, Proceeds, returns, traps, writes_all, ended_by, gone_further, Closes, faces_next, is_dead, at_frame, Turn, is_idle, has_ended, has_no_fuel, has_no_frame, can_go_on, keeps_its_fault, IsOpenCall, InOrder, is_starting, has_started, has_died, IsLive, IsTurn, of_none, of_one, AfterEvents, CanGoOn}
+use Rattle.wh_host_model.specs.Host.{Rest, Doing, Suspension, for_frame, Tenant, World, journal, journal_calls, with_tenant, to_end, Proceeds, returns, traps, writes_all, ended_by, gone_further, Closes, faces_next, is_dead, at_frame, Turn, is_idle, has_ended, has_no_fuel, has_no_frame, can_go_on, keeps_its_fault, IsOpenCall, InOrder, is_starting, has_started, has_died, IsLive, IsTurn, of_none, of_one, AfterEvents, CanGoOn}
 use Rattle.wh_host_model.specs.{Entry, is_open}
-use Rattle.wh_space_model.specs.declared.plain.SwapError.{SwapError}
 use Rattle.wh_script_model.specs.ScriptState.{ScriptState}
 use Rattle.wh_script_model.specs.{NamedInstance, ComesTo, had_ended, goes_on, IsTenantOf, LosesNothing}
 use Rattle.wh_host_model.proofs.Host.Holding.{memory_is_sound, journals_are_in_order}
@@ -31,8 +30,7 @@ comes_then a b c (goes_on open_yet alive) (had_ended closed) = goes_on open_yet 
 comes_then a b c (goes_on open_yet alive) (goes_on open_then alive_then) = goes_on open_yet alive_then
 
 loses_then : (a b c : Call) → LosesNothing a b → LosesNothing b c → LosesNothing a c
-loses_then a b c x y =
-    record { fragments = omega arith; charges = omega arith }
+loses_then a b c x y = search rules
 
 come_then : (xs ys zs : List Call) → ComeFurther xs ys → ComeFurther ys zs → ComeFurther xs zs
 come_then [] [] zs x y = y
@@ -60,8 +58,7 @@ open_ones (has_died a b c d) = tt
 behind : (before os : List Entry) (e e2 : Entry) (es es2 : List Entry) → os ≡ e ∷ es → ComesFurther e.call e2.call
     → ComeFurther (journal_calls es) (journal_calls es2)
     → ComeFurther (journal_calls (before ++ os)) (journal_calls (before ++ e2 ∷ es2))
-behind [] os e e2 es es2 are first others =
-    subst (λ xs. ComeFurther (journal_calls xs) (journal_calls (e2 ∷ es2))) (sym are) (first, others)
+behind [] os e e2 es es2 are first others = search rules
 behind (b ∷ before) os e e2 es es2 are first others =
     let rest = behind before os e e2 es es2 are first others in (goes_nowhere b.call, rest)
 
@@ -80,14 +77,8 @@ never_cancelled (writes_all x y z) e = absurd (cc e)
 
 -- who was blocked on nothing, or waited for a frame, is blocked on no fault of a device where it waits for a frame then
 no_fault_at_frame : (steps : ℕ) (o : Option Suspension) → (o ≡ None) ⊎ (o ≡ Some for_frame) → device_fault (at_frame steps o) ≡ None
-no_fault_at_frame steps o (inl none) = subst (λ x. device_fault (at_frame steps x) ≡ None) (sym none) (of_none steps) where
-  of_none : (n : ℕ) → device_fault (at_frame n None) ≡ None
-  of_none zero = refl
-  of_none (suc n) = refl
-no_fault_at_frame steps o (inr frame) = subst (λ x. device_fault (at_frame steps x) ≡ None) (sym frame) (of_frame steps) where
-  of_frame : (n : ℕ) → device_fault (at_frame n (Some for_frame)) ≡ None
-  of_frame zero = refl
-  of_frame (suc n) = refl
+no_fault_at_frame steps o (inl none) = search rules
+no_fault_at_frame steps o (inr frame) = search rules
 
 -- the same instance, of which calls have come further, and which is blocked on no fault of a device
 record TurnLeaves (s s2 : Space) (t t2 : Tenant) : Type 0 where
@@ -118,30 +109,8 @@ further_behind t e e2 es are first = behind t.ended t.open_calls e e2 es es are 
 closed_leaves : (s0 s : Space) (t t2 : Tenant) (e e2 : Entry) (es : List Entry) (r : Rest) → t.open_calls ≡ e ∷ es
     → AllByRecursion IsOpenYet t.open_calls → ComesFurther e.call e2.call → Apart t.place s0 s → IsSound s → Closes s t e2 es r t2
     → TurnLeaves s0 s t t2
-closed_leaves s0 s t t2 e e2 es r are open_ones first apart sound (faces_next lives faces) = record {
-  place = refl;
-  of = refl;
-  params = refl;
-  inst = refl;
-  further = rw append_assoc (further_behind t e e2 es are first);
-  faultless = refl;
-  apart = apart;
-  sound = sound;
-}
-closed_leaves s0 s t t2 e e2 es r are open_ones first apart sound (is_dead died) = record {
-  place = refl;
-  of = refl;
-  params = refl;
-  inst = refl;
-  further = rw append_assoc (behind t.ended t.open_calls e e2 es (map (λ w. ended_by w dead) es ++ []) are first (all_dead es (subst (AllByRecursion IsOpenYet) are open_ones).1));
-  faultless = refl;
-  apart = apart;
-  sound = sound;
-}
-
-no_device_fault : (o : Option Suspension) (fault : SwapError) → (o ≡ None) ⊎ (o ≡ Some for_frame) → o ≡ Some (for_device fault) → ⊥
-no_device_fault o fault (inl none) is = none-some (for_device fault) (sym none ∙ is)
-no_device_fault o fault (inr frame) is = let bad : Some for_frame ≡ Some (for_device fault) = sym frame ∙ is in cc bad
+closed_leaves s0 s t t2 e e2 es r are open_ones first apart sound (faces_next lives faces) = search (rules, append_assoc, further_behind)
+closed_leaves s0 s t t2 e e2 es r are open_ones first apart sound (is_dead died) = search (rules, append_assoc, behind, all_dead, open_ones)
 
 turn_leaves : (q : ℕ) (s s2 : Space) (t t2 : Tenant) (answer : TurnEnd) → CanGoOn t → IsSound s → AllByRecursion IsOpenYet t.open_calls
     → Turn q s t answer s2 t2 → TurnLeaves s s2 t t2
@@ -189,8 +158,7 @@ turn_leaves q s s2 t t2 answer going sound open_ones (can_go_on {e = e} {es = es
       apart = apart_then (proceeds_apart t e goes) (apart_steps steps);
       sound = steps.sound;
     }
-turn_leaves q s s2 t t2 answer going sound open_ones (keeps_its_fault {fault = fault} are stands a b c d e) =
-    absurd (no_device_fault t.waiting_for fault going.1 stands)
+turn_leaves q s s2 t t2 answer going sound open_ones (keeps_its_fault {fault = fault} are stands a b c d e) = search rules
 
 -- ---- the host behind a turn
 
@@ -221,15 +189,7 @@ turned_followed : (w w2 : World) (s s2 : Space) (t t2 : Tenant) → w2.modules �
     → (faults : List ℕ) (g : NamedInstance) → IsRunAmid w faults g (Some t) → IsRunAmid w2 faults g (Some t2)
 turned_followed w w2 s s2 t t2 same going leaves faults g (is_there same_one further stands) =
     let on = come_then g.calls (journal_calls (journal t)) (journal_calls (journal t2)) further leaves.further in
-    let of_one2 : IsTenantOf w2 t2 g = record {
-      loaded = same_one.loaded;
-      is_loaded = rw (same, leaves.of) same_one.is_loaded;
-      of_one = same_one.of_one;
-      params = same_one.params ∙ sym leaves.params;
-      inst = same_one.inst ∙ sym leaves.inst;
-      is_live = same_one.is_live;
-      calls = (both_further g.calls (journal_calls (journal t2)) on).0;
-    } in
+    let of_one2 : IsTenantOf w2 t2 g = search (rules, both_further) in
     is_there of_one2 on (stands_on faults g t t2 going.1 leaves.faultless stands)
 
 -- each instance of a script is that of the host, and lies at its place
@@ -264,11 +224,7 @@ turn_followed frames slots tax events w happens faults m places id q u answer w2
         instances = zip_amid_set (IsRunAmid w) (IsRunAmid after) t t2 (λ own. moved_followed ComeFurther (StandsAmid own) w after refl) (turned_followed w after w.space s2 t t2 refl can leaves) faults m.instances w.tenants id.number there.0 h.instances;
         placed = zip_set IsPlaced IsPlaced t t2 (λ place o at. at) (λ place at. leaves.place ∙ at) places w.tenants id.number there.0 h.placed;
       };
-      claims = λ j.
-          ⊎_elim
-          (λ (here : j ≡ t.place). ap (claim s2) here ∙ apart.claim ∙ ap (claim w.space) (sym here))
-          (λ (other : j ≢ t.place). (apart.others j other).claim)
-          (same_or_not j t.place);
+      claims = search (rules, ⊎_elim, same_or_not);
       sound = leaves.sound;
     }
 

@@ -1,5 +1,5 @@
 -- A call that stores a byte, and for which a call of a device fails.
-use Rattle.std.proofs.Common.{◌≡◌, ◌≤◌, ℕ, ◌+◌, ◌*◌, inl, inr, Bool, true, false, List, [], ◌∷◌, length, replicate, slice_get, Option, Some, None, pos, codes, refl, sym, ap, ◌∙◌, arith}
+use Rattle.std.proofs.Common.{◌≡◌, ◌≤◌, ℕ, ◌+◌, ◌*◌, inl, inr, Bool, true, false, List, [], ◌∷◌, length, replicate, slice_get, Option, Some, None, pos, codes, refl, sym, ap, ◌∙◌, arith, rules}
 use Rattle.std.proofs.lemmas.Bool.{false≢true}
 use Rattle.std.proofs.lemmas.List.{length-replicate}
 use Rattle.std.proofs.lemmas.Option.{none-some}
@@ -15,7 +15,6 @@ use Rattle.wh_model.specs.Execution.Replay.{Replay}
 use Rattle.wh_model.specs.Focus.Focused.{Focused}
 use Rattle.wh_model.specs.Focus.{running, finished, activation, plug, Steps, steps, rests}
 use Rattle.wh_model.proofs.Agrees.{after_agrees}
-use Rattle.wh_model.proofs.Instance.{one_beginning}
 use Rattle.wh_model.proofs.Journals.{done_replays}
 use Rattle.wh_model.proofs.StepsReduce.{steps_reduce}
 use Rattle.wh_host_model.specs.{given_of, no_module, shares, min_max, frames, swap, instances, memory, segments, no_export, arguments, queue_full, instance_dead, journal_full, is_open, ExportsOwn}
@@ -60,9 +59,7 @@ begins_so segment_bounds = false
 begins_so (begins inst s pieces) = true
 
 isnt_refused : (b : Beginning) → begins_so b ≡ false → IsInitial (with_one_page one_at_zero) (given_of some_params) b → ⊥
-isnt_refused b e h =
-    let same : begins the_instance at_first [] ≡ b = one_beginning (with_one_page one_at_zero) (given_of some_params) _ _ initial h in
-    false≢true (sym (ap begins_so same ∙ e))
+isnt_refused b e h = search rules
 
 no_limit : MeetsNoLimit default_settings (only_module (with_one_page one_at_zero)) (with_one_page one_at_zero) some_params
 no_limit no_module h = h

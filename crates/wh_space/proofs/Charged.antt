@@ -1,11 +1,11 @@
 -- To whom frames are charged, by the numbers that the page tables know.
-use Rattle.std.proofs.Common.{◌≡◌, ◌≢◌, ℕ, ◌<◌, ◌≤◌, ◌==◌, ◌⊎◌, inl, inr, cond, min, nat_lt, true, false, List, [], ◌∷◌, Option, Some, None, length, map, slice_get, get_or, zero, suc, refl, sym, ap, ◌∙◌, subst, arith}
+use Rattle.std.proofs.Common.{◌≡◌, ◌≢◌, ℕ, ◌<◌, ◌≤◌, ◌==◌, ◌⊎◌, inl, inr, cond, min, nat_lt, true, false, List, [], ◌∷◌, Option, Some, None, length, map, slice_get, get_or, zero, suc, refl, sym, ap, ◌∙◌, subst, arith, rules}
 use Rattle.std.specs.Prelude.{MatchBool}
 use Rattle.std.proofs.lemmas.Bool.Decides.{nat_tests}
 use Rattle.std.proofs.lemmas.Bool.{cases_lt}
 use Rattle.std.proofs.lemmas.List.{length-map}
 use Rattle.wh_space_model.specs.declared.states.Page.{Page}
-use Rattle.wh_space_model.specs.{IsChargedPage, IsChargedFor, frame_charge, IsFirstOn, IsOnFrame, active_in, active_of, before_in, charge_in, charged_in, charged_of, occupant_number, standing_at, stands_on, touchers_in, frame_of, Occupant, Space, occupant_at, page_at}
+use Rattle.wh_space_model.specs.{IsChargedPage, IsChargedFor, frame_charge, IsFirstOn, IsOnFrame, active_in, active_of, charge_in, charged_in, charged_of, occupant_number, standing_at, stands_on, touchers_in, frame_of, Occupant, Space, occupant_at, page_at}
 use Rattle.wh_space_model.proofs.Changing.{below_each}
 use Rattle.wh_space_model.proofs.Charging.{charged_alone, charged_page, charged_to, in_row, occupied, on_once, first_of}
 use Rattle.wh_space_model.proofs.Putting.{here_or, is_page}
@@ -78,14 +78,8 @@ term_empty a b c none = grind (arith, nat_tests)
 charge_numbers : (n m : ℕ → ℕ) (pages : List (List Page)) (k f : ℕ) → ((j : ℕ) → 1 ≤ standing_at pages j f → n j ≡ m j) → charge_in n pages k f ≡ charge_in m pages k f
 charge_numbers n m pages k f same =
     elim (cases_lt 0 (standing_at pages k f)) [
-      | inr most ↦
-          (let none : standing_at pages k f ≡ 0 = omega arith in
-          let a = charge_empty (before_in n pages k f) in
-          let b = charge_empty (before_in m pages k f) in
-          rw none (omega arith))
-      | inl some ↦
-          (let e = below_each (length pages) (λ j. cond (nat_lt (m j) (m k)) (standing_at pages j f) 0) (λ j. cond (nat_lt (n j) (n k)) (standing_at pages j f) 0) (λ j. term j (same k some)) in
-          ap (λ b. cond (b == 0) (min 1 (standing_at pages k f)) 0) e)
+      | inr most ↦ search (rules, charge_empty)
+      | inl some ↦ search (rules, below_each, min)
     ] where
       term : (j : ℕ) → n k ≡ m k → cond (nat_lt (n j) (n k)) (standing_at pages j f) 0 ≡ cond (nat_lt (m j) (m k)) (standing_at pages j f) 0
       term j mine =
@@ -111,11 +105,7 @@ active_now a i was =
 pub charged_for : (a : Inside) (i p f : ℕ) → IsWell a → IsFirstOn (number_in a.tables.numbers) a.tables.pages i p f → IsChargedFor (space_of a) i p f
 charged_for a i p f was first = record {
   on = first.on;
-  first = λ j q on. (
-      let mine = number_same a i was (has_row a.tables.pages i p f first.on) in
-      let its = number_same a j was (has_row a.tables.pages j q f on) in
-      let less = first.first j q on in
-      omega arith);
+  first = search (rules, number_same, has_row);
   lowest = first.lowest;
 }
 

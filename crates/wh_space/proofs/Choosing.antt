@@ -1,5 +1,5 @@
 -- What each instance brings to the choice of the page that leaves.
-use Rattle.std.proofs.Common.{◌≡◌, ◌∙◌, inl, inr, ℕ, ◌+◌, ◌<◌, ◌≤◌, ◌⊎◌, is_some, not, Bool, true, false, List, [], ◌∷◌, Option, Some, None, length, get_or, map, slice_get, zero, suc, refl, sym, ap, subst, arith}
+use Rattle.std.proofs.Common.{◌≡◌, ◌∙◌, inl, inr, ℕ, ◌+◌, ◌<◌, ◌≤◌, ◌⊎◌, is_some, not, Bool, true, List, [], ◌∷◌, Option, Some, None, length, get_or, map, slice_get, zero, suc, refl, sym, subst, arith, rules}
 use Rattle.std.specs.Prelude.{MatchBool}
 use Rattle.wh_space_model.specs.declared.states.Page.{Page}
 use Rattle.wh_space_model.specs.declared.states.Page.TheVariants.{Untouched, Private, Shared, Leaving, LeavingShared, Coming, Swapped}
@@ -34,29 +34,17 @@ same_occupant first second = let e : Some (Some _) ≡ Some (Some _) = sym secon
 -- whether no page of it is leaving
 pub no_leaver : (s : Space) (i : ℕ) (t : Occupant) (none : Bool) → is_some t.leaves ≡ not none → occupant_at s i t
     → MatchBool none ((u : Occupant) × occupant_at s i u × (u.leaves ≡ None)) (¬ ((u : Occupant) × occupant_at s i u × (u.leaves ≡ None)))
-no_leaver s i t none is there = go t.leaves none refl is where
-  go : (o : Option ℕ) (b : Bool) → t.leaves ≡ o → is_some o ≡ not b → MatchBool b ((u : Occupant) × occupant_at s i u × (u.leaves ≡ None)) (¬ ((u : Occupant) × occupant_at s i u × (u.leaves ≡ None)))
-  go None true e is = (t, there, e)
-  go None false e is = absurd (cc is)
-  go (Some k) true e is = absurd (cc is)
-  go (Some k) false e is = λ (u, here, lacks). absurd (let same : u ≡ t = same_occupant there here in let f : t.leaves ≡ None = ap (λ (z : Occupant). z.leaves) (sym same) ∙ lacks in cc (e, f))
+no_leaver s i t none is there = search rules
 
 -- ---- the page that is given
 
 -- what can leave is a page
 pub leaving_within : (s : Space) (i q : ℕ) → CanLeave s i q → q < length (get_or s.tables i [])
-leaving_within s i q can = go (page_at s.tables i q) refl can.0 where
-  go : (o : Option Page) → page_at s.tables i q ≡ o → at stays o ≡ 1 → q < length (get_or s.tables i [])
-  go None e one = absurd (omega arith)
-  go (Some x) e one = there_of (get_or s.tables i []) q x e
+leaving_within s i q can = search (rules, there_of)
 
 -- a page that was touched or not
 touched_or : (s : Space) (i q : ℕ) → IsTouched s i q ⊎ (¬ IsTouched s i q)
-touched_or s i q = go (page_at s.touched i q) where
-  go : (o : Option Bool) → (o ≡ Some true) ⊎ (¬ (o ≡ Some true))
-  go None = inr (λ e. cc e)
-  go (Some true) = inl refl
-  go (Some false) = inr (λ e. cc e)
+touched_or s i q = search rules
 
 all_touched : (s : Space) (i q : ℕ) → ¬ MightLeave s i true q → CanLeave s i q → IsTouched s i q
 all_touched s i q none can = elim (touched_or s i q) [ inl touched ↦ touched | inr idle ↦ absurd (none (can, λ so. idle)) ]
@@ -72,10 +60,7 @@ stays_resident (Coming k) e = absurd (omega (arith, e))
 stays_resident (Swapped k) e = absurd (omega (arith, e))
 
 pub sought_leaving : (s : Space) (i : ℕ) (idle : Bool) (q : ℕ) → MightLeave s i idle q → IsSoughtAt s.tables s.touched i idle q
-sought_leaving s i idle q might = go (page_at s.tables i q) refl might.0.0 where
-  go : (o : Option Page) → page_at s.tables i q ≡ o → at stays o ≡ 1 → IsSoughtAt s.tables s.touched i idle q
-  go None e one = absurd (omega (arith, one))
-  go (Some x) e one = record { page = x; there = e; stands = stays_resident x one; untouched = might.1 }
+sought_leaving s i idle q might = search rules
 
 pub sought_there : (s : Space) (i : ℕ) (idle : Bool) (q : ℕ) → IsSoughtAt s.tables s.touched i idle q → q < length (get_or s.tables i [])
 sought_there s i idle q sought = there_of (get_or s.tables i []) q sought.page sought.there
@@ -115,13 +100,7 @@ pub one_of : (P Q : ℕ → Type 0) → ((q : ℕ) → P q → Q q) → (from p 
 one_of P Q is from p passed next here = ((here, omega arith), λ q at below might. elim (either q from) [ inl lower ↦ passed q lower might | inr more ↦ next.1 q more below (is q might) ])
 
 pub passed_of : (P Q : ℕ → Type 0) → ((q : ℕ) → P q → Q q) → (from p : ℕ) → ((q : ℕ) → q < from → ¬ P q) → IsFirstFrom Q from (Some p) → ¬ P p → (q : ℕ) → q < p + 1 → ¬ P q
-passed_of P Q is from p passed next unable = λ q below might. elim (either q from) [
-  | inl lower ↦ passed q lower might
-  | inr more ↦ elim (either q p) [
-    | inl lower ↦ next.1 q more lower (is q might)
-    | inr same ↦ unable (subst P (omega arith) might)
-  ]
-]
+passed_of P Q is from p passed next unable = search rules
 
 -- a touched page stands on a frame that is touched
 touched_there : (s : Space) (i p f : ℕ) (page : Page) → page_at s.tables i p ≡ Some page → frame_of page ≡ Some f → IsTouched s i p → 1 ≤ touchers_in s.tables s.touched f
@@ -140,17 +119,7 @@ stays_on (Coming k) e = absurd (omega (arith, e))
 stays_on (Swapped k) e = absurd (omega (arith, e))
 
 pub sought_taking : (s : Space) (i : ℕ) (idle : Bool) (q : ℕ) → MightBeTaken s i idle q → IsSoughtAt s.tables s.touched i idle q
-sought_taking s i idle q might = go (page_at s.tables i q) refl might.0.0.0 where
-  go : (o : Option Page) → page_at s.tables i q ≡ o → at stays o ≡ 1 → IsSoughtAt s.tables s.touched i idle q
-  go None e one = absurd (omega (arith, one))
-  go (Some x) e one =
-      let on = stays_on x one in
-      record {
-        page = x;
-        there = e;
-        stands = stays_resident x one;
-        untouched = λ so touched. might.1 so (on.0, rw e (frame_stands on.0 x on.1), touched_there s i q on.0 x e on.1 touched);
-      }
+sought_taking s i idle q might = search (rules, stays_on, stays_resident, frame_stands, touched_there)
 
 pub taking_within : (s : Space) (i q : ℕ) → CanBeTaken s i q → q < length (get_or s.tables i [])
 taking_within s i q can = leaving_within s i q can.0

@@ -1,5 +1,5 @@
 -- Pages that are lent, one after the other.
-use Rattle.std.proofs.Common.{◌≡◌, ◌≢◌, ℕ, zero, suc, ◌+◌, ◌*◌, ◌/◌, ◌<◌, ◌≤◌, ◌^◌, inl, inr, List, [], ◌∷◌, replicate, Option, Some, None, length, get_or, slice_get, refl, sym, ap, subst, ◌∙◌, arith}
+use Rattle.std.proofs.Common.{◌≡◌, ◌≢◌, ℕ, zero, suc, ◌+◌, ◌*◌, ◌/◌, ◌<◌, ◌≤◌, ◌^◌, inl, inr, List, [], ◌∷◌, replicate, Option, Some, None, length, get_or, slice_get, refl, sym, ap, subst, ◌∙◌, arith, rules}
 use Rattle.std.proofs.lemmas.Bool.{cases_lt}
 use Rattle.wh_space_model.specs.declared.states.Page.{Page}
 use Rattle.wh_space_model.specs.declared.states.Page.TheVariants.{Untouched, Private, Shared, Leaving, LeavingShared, Coming, Swapped}
@@ -12,10 +12,7 @@ use Rattle.wh_space.specs.Lendable.{MayLend}
 use Rattle.wh_space.specs.Merges.{HasFewPages}
 
 put_apart : (t : List (List Page)) (i p k q : ℕ) (x : Page) → q ≢ p → page_at (put t i p x) k q ≡ page_at t k q
-put_apart t i p k q x other = elim (here_or i k) [
-  | inl same ↦ subst (λ z. page_at (put t i p x) z q ≡ page_at t z q) (sym same) (put_other t i p q x other)
-  | inr away ↦ ap (λ xs. slice_get xs q) (put_other_row t i p k x away)
-]
+put_apart t i p k q x other = search (rules, here_or, put_other, put_other_row)
 
 -- other pages stay, and frames and slots are as many
 pub record LendsOne (s : Space) (p : ℕ) (s2 : Space) : Type 0 where
@@ -24,10 +21,7 @@ pub record LendsOne (s : Space) (p : ℕ) (s2 : Space) : Type 0 where
 
 one_page : (s : Space) (i j p : ℕ) (page : Page) (s2 : Space) → LendsPage s i j p page s2 → LendsOne s p s2
 one_page s i j p Untouched s2 is = subst (LendsOne s p) (sym is) (record { pages = λ k q other. refl; few = λ h. h })
-one_page s i j p (Private f) s2 is = subst (LendsOne s p) (sym is) (record {
-  pages = λ k q other. put_apart (put s.tables i p (Shared f)) j p k q (Shared f) other ∙ put_apart s.tables i p k q (Shared f) other;
-  few = λ h. h;
-})
+one_page s i j p (Private f) s2 is = search (rules, put_apart)
 one_page s i j p (Shared f) s2 is = subst (LendsOne s p) (sym is) (record { pages = λ k q other. put_apart s.tables j p k q (Shared f) other; few = λ h. h })
 one_page s i j p (Leaving f) s2 is = absurd is
 one_page s i j p (LeavingShared f) s2 is = absurd is

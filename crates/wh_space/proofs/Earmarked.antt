@@ -1,5 +1,5 @@
 -- Frames that are earmarked, and pins that end.
-use Rattle.std.proofs.Common.{◌≡◌, ℕ, ◌+◌, ◌<◌, ◌≤◌, ◌++◌, ◌==◌, inl, inr, cond, Bool, true, false, List, [], ◌∷◌, Option, Some, None, length, slice_set, refl, sym, ◌∙◌, ap, arith, length-append}
+use Rattle.std.proofs.Common.{◌≡◌, ℕ, ◌+◌, ◌<◌, ◌≤◌, ◌++◌, ◌==◌, inl, inr, cond, Bool, true, false, List, [], ◌∷◌, Option, Some, None, length, slice_set, refl, sym, ◌∙◌, ap, arith, length-append, rules}
 use Rattle.std.proofs.lemmas.Bool.{cases_lt}
 use Rattle.std.proofs.lemmas.List.{append-nil}
 use Rattle.wh_space_model.specs.{IsTaken, Pool, one_if, tally, TakesFrame, Earmarks, has_pins, pinned, residents, unpinned_of, Pins, Space, kept, kept_by, pinned_by, may_take, pages_of_need, FramesAreSound}
@@ -72,8 +72,7 @@ goes_frames i g old was pool pins (inr (same, rest)) = ap (λ (p : Pool). p.fram
 pub takes_frame : (s : Space) (i g : ℕ) (bytes : List ℕ) (marks : List Mark) (taken pool : Pool) (pins : Option Pins) → FrameGoes i g s.pool s.pins taken pins
     → pool ≡ record taken { frames = slice_set taken.frames g bytes } → TakesFrame (record s { marks = marks }) i g bytes (record s { pool = pool; marks = marks; pins = pins })
 takes_frame s i g bytes marks taken pool pins (inl (takes, same)) is =
-    let now : pool ≡ record { frames = slice_set s.pool.frames g bytes; free = taken.free } =
-    is ∙ ap (λ (z : List (List ℕ)). record { frames = slice_set z g bytes; free = taken.free }) takes.frames in
+    let now : pool ≡ record { frames = slice_set s.pool.frames g bytes; free = taken.free } = search (rules, ℕ) in
     inl (taken.free, (taken.free, [], takes.free, sym (append-nil taken.free)), rw (now, same) refl)
 takes_frame s i g bytes marks taken pool pins (inr (same, (rest, kept, now))) is =
     let here : pool ≡ record s.pool { frames = slice_set s.pool.frames g bytes } = is ∙ ap (λ (z : Pool). record z { frames = slice_set z.frames g bytes }) same in
@@ -88,10 +87,7 @@ pub record MayEnd (s : Space) (i : ℕ) : Type 0 where
 
 pub may_end : (s : Space) (i : ℕ) → FramesAreSound s → MayEnd s i
 may_end s i sound = record {
-  once = λ f. elim (cases_lt f (length s.pool.frames)) [
-    | inl less ↦ (let one = sound.one f less in let k = kept_within s.pins i f in omega arith)
-    | inr past ↦ (let none = sound.none f past in let k = kept_within s.pins i f in omega arith)
-  ];
+  once = search (rules, cases_lt, kept_within);
   there = λ f some. (let k = kept_within s.pins i f in (kept_taken s f sound (omega arith)).0);
 }
 
@@ -101,10 +97,7 @@ pub record MayEndAll (s : Space) : Type 0 where
 
 pub may_end_all : (s : Space) → FramesAreSound s → MayEndAll s
 may_end_all s sound = record {
-  once = λ f. elim (cases_lt f (length s.pool.frames)) [
-    | inl less ↦ (let one = sound.one f less in omega arith)
-    | inr past ↦ (let none = sound.none f past in omega arith)
-  ];
+  once = search (rules, cases_lt);
   there = λ f some. (kept_taken s f sound some).0;
 }
 

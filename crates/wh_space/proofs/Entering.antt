@@ -1,5 +1,5 @@
 -- An instance that comes to a place.
-use Rattle.std.proofs.Common.{◌≡◌, ◌≢◌, ◌⊎◌, inl, inr, ℕ, ◌*◌, ◌^◌, ◌<◌, ◌≤◌, ◌++◌, cond, nat_lt, Bool, true, false, List, [], ◌∷◌, Option, Some, None, length, get_or, map, replicate, slice_get, slice_set, zero, suc, refl, sym, ◌∙◌, ap, subst, arith, length-set, length-append}
+use Rattle.std.proofs.Common.{◌≡◌, ◌≢◌, ◌⊎◌, inl, inr, ℕ, ◌*◌, ◌^◌, ◌<◌, ◌≤◌, ◌++◌, cond, nat_lt, Bool, true, false, List, [], ◌∷◌, Option, Some, None, length, get_or, map, replicate, slice_get, slice_set, zero, suc, refl, sym, ◌∙◌, ap, subst, arith, length-set, length-append, rules}
 use Rattle.std.proofs.lemmas.Bool.{cases_lt}
 use Rattle.std.proofs.lemmas.Bool.Decides.{nat_tests}
 use Rattle.std.proofs.lemmas.List.{length-map}
@@ -215,8 +215,7 @@ entered a b i p size was may occupant_entries tables limits_long numbers_long po
             let is2 : slice_get (with_row a.occupant_entries.items i (Some (guest_of p))) j ≡ Some (Some t) = ap (λ (z : List (Option OccupantEntry)). slice_get z j) (sym occupant_entries) ∙ is in
             elim (now_there a.occupant_entries.items i j p t there is2) [
               | inr (other, before) ↦ ap (λ (z : List ℕ). slice_get z j) now ∙ (row_other a.tables.limits i j p.max within (λ e. other e) ∙ was.limits j t before)
-              | inl (same, one) ↦
-                  ap (λ (z : List ℕ). slice_get z j) now ∙ (ap (λ (z : ℕ). slice_get (with_row a.tables.limits i p.max) z) same ∙ (row_same a.tables.limits i p.max within ∙ ap (λ (g : OccupantEntry). Some g.max) one))
+              | inl (same, one) ↦ search (rules, ℕ, row_same)
             ]);
         numbers = λ j t is.
             (let most = free_within s i may.free in

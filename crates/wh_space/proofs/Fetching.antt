@@ -1,5 +1,5 @@
 -- A page that comes in one go; how many pages there are.
-use Rattle.std.proofs.Common.{length-set, ◌≡◌, ◌∙◌, inl, inr, ℕ, ◌*◌, ◌<◌, ◌≤◌, ◌^◌, ◌++◌, List, [], ◌∷◌, Option, Some, None, length, get_or, slice_get, slice_set, zero, suc, refl, sym, ap, subst, arith}
+use Rattle.std.proofs.Common.{length-set, ◌≡◌, ◌∙◌, inl, inr, ℕ, ◌*◌, ◌<◌, ◌≤◌, ◌^◌, ◌++◌, List, [], ◌∷◌, Option, Some, None, length, get_or, slice_get, slice_set, zero, suc, refl, sym, ap, subst, arith, rules}
 use Rattle.std.proofs.lemmas.Bool.{cases_lt}
 use Rattle.wh_space_model.specs.{Pool, TakesFreeFrame, one_if, tally, Fetches, fetched, Occupant, Space, kept, pinned_by, HasTable, IsSound, IsUsed, count, page_at, put, resident}
 use Rattle.wh_space_model.specs.declared.states.Page.{Page}
@@ -55,10 +55,7 @@ each_few s sound i =
     ]
 
 pub few_resident : (s : Space) → IsSound s → length s.occupants ≤ 2 ^ 32 → count resident s.tables < 2 ^ 63
-few_resident s sound places =
-    let many = sound.occupants.tables in
-    let rows = rows_few s.tables (each_few s sound) in
-    omega arith
+few_resident s sound places = search (rules, rows_few, each_few)
 
 -- ---- a page that comes
 
@@ -83,8 +80,7 @@ pub fetched_now : (a b : Inside) (i p k f : ℕ) (bytes : List ℕ) (taken : Poo
 fetched_now a b i p k f bytes taken was there whole none takes pool slots pages marks limits pins occupant_entries content tax =
     let s : Space = space_of a in
     let lies = lies_there s i p k was.sound there in
-    let frames : b.pool ≡ record { frames = slice_set a.pool.frames f bytes; free = taken.free } =
-    pool ∙ ap (λ (z : List (List ℕ)). record { frames = slice_set z f bytes; free = taken.free }) takes.frames in
+    let frames : b.pool ≡ record { frames = slice_set a.pool.frames f bytes; free = taken.free } = search (rules, ℕ) in
     let now : space_of b ≡ fetched s i p f k taken.free bytes = rw (occupant_entries, pages, marks, frames, content, slots, pins, tax, none) refl in (
       record { frame = f; slot = k; others = taken.free; free = takes.free; page = there; whole = whole; leaves = now },
       well_with a b was occupant_entries limits (ap (λ (z : Pool). length z.frames) frames ∙ length-set a.pool.frames f bytes) (λ j. rw slots (other_tickets a.slots.uses j k Taken Vacant lies.taken refl))

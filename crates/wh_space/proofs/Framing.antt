@@ -1,5 +1,5 @@
 -- Frames of which the page tables know.
-use Rattle.std.proofs.Common.{◌≡◌, ℕ, ◌<◌, inl, inr, Option, Some, None, IfSome, length, refl, sym, ap, arith}
+use Rattle.std.proofs.Common.{◌≡◌, ℕ, ◌<◌, inl, inr, Some, IfSome, length, refl, sym, ap, arith, rules}
 use Rattle.wh_space_model.specs.{one_if, frame_of, owns, page_at, as_leaving}
 use Rattle.wh_space_model.proofs.Tally.{one_other}
 use Rattle.wh_space_model.specs.declared.states.Page.{Page}
@@ -19,10 +19,7 @@ pub known_under : (a : Inside) (i p f : ℕ) (page : Page) → IsWell a → page
 known_under a i p f page was there on = known a f was (taken_under (space_of a) i p page f was.sound.frames there on).0
 
 pub known_of : (a : Inside) (i p : ℕ) (page : Page) → IsWell a → page_at a.tables.pages i p ≡ Some page → IfSome (frame_of page) (λ f. f < a.tables.frames)
-known_of a i p page was there = go (frame_of page) refl where
-  go : (o : Option ℕ) → frame_of page ≡ o → IfSome o (λ f. f < a.tables.frames)
-  go None is = tt
-  go (Some f) is = known_under a i p f page was there is
+known_of a i p page was there = search (rules, ℕ, known_under)
 
 one_is : (f g : ℕ) → one_if f g ≡ 1 → f ≡ g
 one_is f g is = elim (here_or g f) [ inl same ↦ same | inr other ↦ absurd (let o = one_other f g other in omega arith) ]

@@ -1,5 +1,5 @@
 -- How long tables are, and may be.
-use Rattle.std.proofs.Common.{◌≡◌, ℕ, ◌+◌, ◌*◌, ◌/◌, ◌≤◌, ◌⊎◌, inl, inr, List, [], ◌∷◌, Option, Some, None, Bool, true, false, length, get_or, slice_get, map, zero, suc, refl, sym, ◌∙◌, ap, arith}
+use Rattle.std.proofs.Common.{◌≡◌, ℕ, ◌+◌, ◌*◌, ◌/◌, ◌≤◌, ◌⊎◌, inl, inr, List, [], ◌∷◌, Option, Some, None, Bool, true, false, length, get_or, slice_get, map, zero, suc, refl, sym, ◌∙◌, ap, arith, rules}
 use Rattle.std.proofs.lemmas.Bool.{cases_lt}
 use Rattle.wh_space_model.specs.{Occupant, Space, claim_of, HasTable, IsSound, Grew}
 use Rattle.wh_space_model.proofs.Enlarged.{grows_soundly}
@@ -61,12 +61,10 @@ claim_gone : (t : Occupant) → t.live ≡ false → limit_by (claim_of (Some t)
 claim_gone t gone = rw gone refl
 
 pub limit_at : (a : Inside) (i : ℕ) (here : IsThere a.occupant_entries.items i) → here.occupant_entry.live ≡ true → page_limit (space_of a) i ≡ here.occupant_entry.max / 16
-limit_at a i here live =
-    ap (λ (o : Option Occupant). limit_by (claim_of o)) (get_or_is (map occupant_of a.occupant_entries.items) i (Some (occupant here.occupant_entry)) None here.occupies) ∙ claim_live (occupant here.occupant_entry) live
+limit_at a i here live = search (rules, get_or_is, claim_live)
 
 pub limit_gone : (a : Inside) (i : ℕ) (here : IsThere a.occupant_entries.items i) → here.occupant_entry.live ≡ false → page_limit (space_of a) i ≡ 0
-limit_gone a i here gone =
-    ap (λ (o : Option Occupant). limit_by (claim_of o)) (get_or_is (map occupant_of a.occupant_entries.items) i (Some (occupant here.occupant_entry)) None here.occupies) ∙ claim_gone (occupant here.occupant_entry) gone
+limit_gone a i here gone = search (rules, get_or_is, claim_gone)
 
 -- it lives there, or it was released
 lives_or : (b : Bool) → (b ≡ true) ⊎ (b ≡ false)
@@ -117,6 +115,5 @@ can_grow a i before n was long some fits =
     let found = grower a i (omega arith) in
     let here = found.0 in
     let limit = limit_at a i here found.1 in
-    let has = was.sound.occupants.have i (Some (occupant here.occupant_entry)) here.occupies in
-    let most = has.4 in
+    let most = (was.sound.occupants.have i (Some (occupant here.occupant_entry)) here.occupies).4 in
     record { here = here; live = found.1; room = omega arith; few = omega arith }

@@ -1,5 +1,5 @@
 -- What steps leave of all else.
-use Rattle.std.proofs.Common.{◌≡◌, ℕ, List, [], ◌∷◌, Option, length, get_or, map, refl, sym, ◌∙◌, ap, subst, nat_lt, cond, Bool, true, false}
+use Rattle.std.proofs.Common.{◌≡◌, ℕ, List, [], ◌∷◌, Option, length, get_or, map, refl, sym, ◌∙◌, ap, subst, Bool, true, false, rules}
 use Rattle.std.specs.Bool.{IsFalse, IsTrue}
 use Rattle.wh_model.specs.declared.memory.Got.{Got}
 use Rattle.wh_model.specs.declared.memory.Got.TheVariants.{Value, Trap, NotReady}
@@ -8,7 +8,7 @@ use Rattle.wh_model.specs.declared.memory.Grown.TheVariants.{Done, Refused}
 use Rattle.wh_model.specs.Execution.{IsWaiting}
 use Rattle.wh_space_model.specs.declared.states.Slot.{Slot}
 use Rattle.wh_space_model.specs.declared.states.Slot.TheVariants.{Vacant, Taken, Evicting, EvictVoid, Fetching, FetchVoid}
-use Rattle.wh_space_model.specs.{tally, one_if, voided, Errand, errand_for, pass_of, Slots, Space, kept_by, pinned_by, view, IsSound, joined, Overwrites, Touches}
+use Rattle.wh_space_model.specs.{voided, Errand, errand_for, pass_of, Slots, Space, kept_by, pinned_by, view, IsSound, joined, Overwrites, Touches}
 use Rattle.wh_space_model.proofs.Filled.{stores_are_right, stores_soundly}
 use Rattle.wh_space_model.proofs.Quiet.{grew_own, steps_quiet}
 use Rattle.wh_space_model.proofs.Steady.{touches_soundly}
@@ -51,12 +51,7 @@ load_waits s i at n (NotReady need) s2 is waits = is
 errand_stays : (i : ℕ) (ps : List ℕ) (x : Slot) → errand_for (voided i ps x) ≡ errand_for x
 errand_stays i ps Vacant = refl
 errand_stays i ps Taken = refl
-errand_stays i ps (Evicting j p) = go (nat_lt 0 (one_if i j)) (nat_lt 0 (tally (one_if p) ps)) where
-  go : (a b : Bool) → errand_for (cond a (cond b (EvictVoid j) (Evicting j p)) (Evicting j p)) ≡ errand_for (Evicting j p)
-  go true true = refl
-  go true false = refl
-  go false true = refl
-  go false false = refl
+errand_stays i ps (Evicting j p) = search rules
 errand_stays i ps (EvictVoid j) = refl
 errand_stays i ps (Fetching j p f) = refl
 errand_stays i ps (FetchVoid j f) = refl

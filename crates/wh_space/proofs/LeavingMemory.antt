@@ -1,8 +1,8 @@
 -- An instance that goes: what the memory is then.
-use Rattle.std.proofs.Common.{◌≡◌, ◌≢◌, ◌==◌, ◌&&◌, inl, inr, ℕ, ◌+◌, ◌<◌, ◌≤◌, cond, nat_lt, Bool, List, [], ◌∷◌, Option, Some, None, true, false, length, length-set, get_or, map, slice_get, slice_set, zero, suc, refl, sym, ◌∙◌, ap, subst, arith}
+use Rattle.std.proofs.Common.{◌≡◌, ◌≢◌, ◌==◌, ◌&&◌, inl, inr, ℕ, ◌+◌, ◌<◌, ◌≤◌, cond, nat_lt, Bool, List, [], ◌∷◌, Option, Some, None, true, false, length, length-set, get_or, map, slice_get, slice_set, zero, suc, refl, sym, ◌∙◌, ap, subst, arith, rules}
 use Rattle.std.proofs.lemmas.Bool.Decides.{nat_tests}
 use Rattle.std.proofs.lemmas.List.{get_or-set_other, length-map, map-set}
-use Rattle.wh_space_model.specs.{Pool, one_if, tally, ticket_of, Occupant, Pins, Space, has_number, occupant_at, sharers, has_pins, unpinned, unpinned_of, stays_occupant, Exits, freed_by, released_mark, IsSound, Names, count, count_of, owns, page_at, shares}
+use Rattle.wh_space_model.specs.{Pool, one_if, tally, ticket_of, Occupant, Pins, Space, has_number, occupant_at, sharers, unpinned_of, stays_occupant, Exits, freed_by, released_mark, IsSound, Names, count, count_of, owns, page_at, shares}
 use Rattle.wh_space_model.specs.declared.states.Mark.{Mark}
 use Rattle.wh_space_model.specs.declared.states.Mark.TheVariants.{Plain, Hint, Sharers, Unlisted}
 use Rattle.wh_space_model.specs.declared.states.Page.{Page}
@@ -55,16 +55,7 @@ mark_is : (s : Space) (i f : ℕ) (m : Mark) → IsSound s → i < length s.tabl
 mark_is s i f Plain sound less names = refl
 mark_is s i f (Sharers hash n) sound less names = refl
 mark_is s i f (Unlisted n) sound less names = refl
-mark_is s i f (Hint hash j p) sound less names =
-    let x = page_there (owns f) (page_at s.tables j p) names.0 in
-    elim (here_or i j) [
-      | inl same ↦
-          (let mine = own_page s i p f x.0 (subst (λ z. page_at s.tables z p ≡ Some x.0) same x.1) x.2 in
-          some_owners (count_of (owns f) s.tables i) Plain (Hint hash j p) mine ∙ sym (rw same (cond_here i Plain (Hint hash i p))))
-      | inr other ↦
-          (let none = other_page s i j p f x.0 sound less (λ e. other e) x.1 x.2 in
-          rw none (sym (cond_other i j Plain (Hint hash j p) (λ e. other e))))
-    ]
+mark_is s i f (Hint hash j p) sound less names = search (rules, page_there, here_or, own_page, some_owners, cond_here, other_page, cond_other)
 
 -- ---- the memory then
 
@@ -96,10 +87,7 @@ record EndsPins (s u : Space) : Type 0 where
   pub marks : u.marks ≡ s.marks
 
 ends : (s : Space) (i : ℕ) → IsSound s → EndsPins s (unpinned_of s i)
-ends s i sound = go (has_pins s.pins i) where
-  go : (b : Bool) → EndsPins s (cond b (unpinned s) s)
-  go true = record { sound = is_sound_unpinned s sound; tables = refl; frames = refl; marks = refl }
-  go false = record { sound = sound; tables = refl; frames = refl; marks = refl }
+ends s i sound = search (rules, is_sound_unpinned)
 
 -- the instance is there, with a table, and lives
 pub record IsHere (a : Inside) (i : ℕ) : Type 0 where
@@ -110,12 +98,7 @@ pub record IsHere (a : Inside) (i : ℕ) : Type 0 where
   pub row : i < length a.tables.pages
 
 pub is_here : (a : Inside) (i : ℕ) (s : Space) → space_of a ≡ s → IsSound (space_of a) → (t : Occupant) × occupant_at s i t × (t.live ≡ true) → IsHere a i
-is_here a i s is sound somebody =
-    let there : occupant_at (space_of a) i somebody.0 = ap (λ (z : Space). slice_get z.occupants i) is ∙ somebody.1 in
-    let within = there_of (map occupant_of a.occupant_entries.items) i (Some somebody.0) there in
-    let occupant_entries = length-map a.occupant_entries.items occupant_of in
-    let same = sound.occupants.tables in
-    record { occupant = somebody.0; there = there; live = somebody.2; place = omega arith; row = omega arith }
+is_here a i s is sound somebody = search (rules, there_of, length-map, occupant)
 
 -- what is asked of the pages, when pins and earmarks have ended
 pub pages_can : (a : Inside) (i : ℕ) (pool : Pool) (pins : Option Pins) → IsSound (space_of a) → IsHere a i → record (space_of a) { pool = pool; pins = pins } ≡ unpinned_of (space_of a) i
@@ -132,10 +115,7 @@ slots_can a i sound here = all_leave (space_of a) (get_or a.tables.pages i []) s
 -- ---- who is there then
 
 gone_guest : (g : OccupantEntry) (n : ℕ) → g.tickets ≡ n → occupant_of (occupant_gone (Some g)) ≡ stays_occupant (Some (record (occupant g) { live = false; stands = None })) n
-gone_guest g n same = go (g.tickets == 0) ∙ ap (λ (z : ℕ). cond (z == 0) None (Some (record (occupant g) { live = false; stands = None }))) same where
-  go : (b : Bool) → occupant_of (cond b None (Some (record g { live = false; stands = None }))) ≡ cond b None (Some (record (occupant g) { live = false; stands = None }))
-  go true = refl
-  go false = refl
+gone_guest g n same = search rules
 
 pub guest_here : (occupant_entries : List (Option OccupantEntry)) (i : ℕ) (t : Occupant) → slice_get (map occupant_of occupant_entries) i ≡ Some (Some t) → (g : OccupantEntry) × (slice_get occupant_entries i ≡ Some (Some g)) × (occupant g ≡ t)
 guest_here [] i t is = absurd (cc is)
@@ -188,25 +168,8 @@ is_gone a b i pool was here occupant_entries pages marks limits ended frames slo
     let occupant_entry = guest_here a.occupant_entries.items i t here.there in
     let counted = was.counted i occupant_entry.0 occupant_entry.1 in
     let now : occupant_of (occupant_gone (get_or a.occupant_entries.items i None)) ≡ stays_occupant (Some (record t { live = false; stands = None })) (tally (ticket_of i) a.slots.uses) =
-    ap (λ (o : Option OccupantEntry). occupant_of (occupant_gone o)) (get_or_is a.occupant_entries.items i (Some occupant_entry.0) None occupant_entry.1)
-    ∙ (gone_guest occupant_entry.0 (tally (ticket_of i) a.slots.uses) counted ∙ ap (λ (z : Occupant). stays_occupant (Some (record z { live = false; stands = None })) (tally (ticket_of i) a.slots.uses)) occupant_entry.2) in
-    let exits : Exits s i (space_of b) = record {
-      occupant = t;
-      was = (here.there, here.live);
-      tables = pages;
-      touched = marks;
-      bytes = gone.bytes ∙ bytes_then;
-      free = λ f. (let e = free_then f in rw e (gone.free f));
-      entries = gone.entries;
-      marks = gone.marks;
-      held = left.held;
-      slots = left.many;
-      vacant = left.vacant;
-      uses = left.uses;
-      occupants = ap (map occupant_of) occupant_entries ∙ (map-set occupant_of a.occupant_entries.items i (occupant_gone (get_or a.occupant_entries.items i None)) ∙ ap (slice_set s.occupants i) now);
-      pins = ap (λ (z : Space). z.pins) ended;
-      tax = tax;
-    } in
+    search (rules, get_or_is, gone_guest) in
+    let exits : Exits s i (space_of b) = search (rules, occupant, map-set) in
     let before : (j : ℕ) (g : OccupantEntry) → slice_get b.occupant_entries.items j ≡ Some (Some g) → (h : OccupantEntry) × (slice_get a.occupant_entries.items j ≡ Some (Some h)) × (named h ≡ named g) × (h.tickets ≡ g.tickets) =
     λ j g at. stays_there a.occupant_entries.items i j g here.place (ap (λ (z : List (Option OccupantEntry)). slice_get z j) (sym occupant_entries) ∙ at) in
     record {
@@ -226,8 +189,5 @@ is_gone a b i pool was here occupant_entries pages marks limits ended frames slo
 pub lives_at : (xs : List (Option Occupant)) (i n : ℕ) → has_number (get_or xs i None) n ≡ true → (t : Occupant) × (slice_get xs i ≡ Some (Some t)) × (t.live ≡ true)
 lives_at [] i n has = absurd (cc has)
 lives_at (None ∷ xs) zero n has = absurd (cc has)
-lives_at (Some t ∷ xs) zero n has = (t, refl, go t.live has) where
-  go : (b : Bool) → (b && (t.number == n)) ≡ true → b ≡ true
-  go true has = refl
-  go false has = absurd (cc has)
+lives_at (Some t ∷ xs) zero n has = search rules
 lives_at (x ∷ xs) (suc i) n has = lives_at xs i n has

@@ -1,5 +1,5 @@
 -- Pages that go with their instance, one after the other: what of the frames and entries is left.
-use Rattle.std.proofs.Common.{◌≡◌, inl, inr, ℕ, ◌+◌, ◌-◌, ◌<◌, ◌≤◌, cond, nat_lt, false, List, [], ◌∷◌, Option, Some, None, length, drop, get_or, slice_get, slice_set, zero, suc, refl, sym, ◌∙◌, ap, subst, arith, length-set}
+use Rattle.std.proofs.Common.{◌≡◌, inl, inr, ℕ, ◌+◌, ◌-◌, ◌<◌, ◌≤◌, cond, nat_lt, false, List, [], ◌∷◌, Option, Some, None, length, drop, get_or, slice_get, slice_set, zero, suc, refl, sym, ◌∙◌, ap, subst, arith, length-set, rules}
 use Rattle.std.proofs.lemmas.Bool.{cases_lt}
 use Rattle.std.proofs.lemmas.Bool.Decides.{nat_tests}
 use Rattle.wh_space_model.specs.{IsTaken, one_if, tally, fewer_sharers, Space, sharers, freed_by, FramesAreSound, Names, count, owns, shares}
@@ -91,28 +91,11 @@ abbrev pub AreWithin : Space → List Page → List Page → Type 0
 AreWithin s gone left = (w : Page → ℕ) → tally w gone + tally w left ≤ count w s.tables
 
 none_gone : (s : Space) → FramesAreSound s → IsLeft s [] (record { pool = s.pool; marks = s.marks })
-none_gone s sound = record {
-  bytes = refl;
-  free = λ f. (let z = freed_less (sharers s f) 0 in omega arith);
-  entries = refl;
-  marks = λ f m is. is ∙ ap Some (sym (unmarked s f m (subst (Names s f) is (sound.names f))));
-} where
-  unmarked : (s : Space) (f : ℕ) (m : Mark) → Names s f (Some m) → mark_after 0 0 m ≡ m
-  unmarked s f Plain names = refl
-  unmarked s f (Hint hash j p) names = refl
-  unmarked s f (Sharers hash n) names = let some = names.1 in let e : n - 0 ≡ n = omega arith in some_left 0 n (Some hash) (omega arith) ∙ ap (Sharers hash) e
-  unmarked s f (Unlisted n) names = let some = names.1 in let e : n - 0 ≡ n = omega arith in some_left 0 n None (omega arith) ∙ ap (λ k. Unlisted k) e
+none_gone s sound = search rules
 
 -- the frame of a page that goes is taken
 taken_still : (s : Space) (gone : List Page) (f : ℕ) (a : Holdings) → FramesAreSound s → IsLeft s gone a → IsTaken s.pool f → tally (owns f) gone + freed_by (tally (shares f) gone) (sharers s f) ≡ 0 → IsHeld f a
-taken_still s gone f a sound left taken none =
-    let long = ap length left.bytes in
-    let marks = sound.marks in
-    let entries = left.entries in
-    let free = left.free f in
-    let within = taken.0 in
-    let zero = taken.1 in
-    ((omega arith, omega arith), omega arith)
+taken_still s gone f a sound left taken none = search rules
 
 -- ---- the owner of a frame goes
 
@@ -154,13 +137,7 @@ owner_left s gone rest x f a sound is within left =
     let one = own.one in
     record {
       bytes = left.bytes;
-      free = λ g. (let more = tally-append (one_if g) a.pool.free (f ∷ []) in
-          let was = left.free g in
-          let here = is.owns g in
-          let none = is.shares g in
-          let stays : shares g x + tally (shares g) gone ≡ tally (shares g) gone = omega arith in
-          let same : freed_by (shares g x + tally (shares g) gone) (sharers s g) ≡ freed_by (tally (shares g) gone) (sharers s g) = ap (λ z. freed_by z (sharers s g)) stays in
-          omega arith);
+      free = search (rules, tally-append);
       entries = length-set a.marks f Plain ∙ left.entries;
       marks = λ g m at. elim (here_or f g) [
         | inl same ↦
@@ -168,12 +145,7 @@ owner_left s gone rest x f a sound is within left =
             let names : Names s f (Some m) = subst (Names s f) (subst (λ z. slice_get s.marks z ≡ Some m) same at) (sound.names f) in
             let plain = no_owner s f (shares g x + tally (shares g) gone) m names own.none in
             rw (now, plain) (subst (λ z. slice_get (slice_set a.marks f Plain) z ≡ Some Plain) (sym same) (set_same a.marks f Plain can.1)))
-        | inr other ↦
-            (let here : owns g x ≡ 0 = is.owns g ∙ one_other g f (λ e. other e) in
-            let none = is.shares g in
-            let owned : owns g x + tally (owns g) gone ≡ tally (owns g) gone = omega arith in
-            let shared : shares g x + tally (shares g) gone ≡ tally (shares g) gone = omega arith in
-            rw (owned, shared) (set_other a.marks f g Plain (λ e. other e) ∙ left.marks g m at))
+        | inr other ↦ search (rules, one_other, set_other)
       ];
     }
 
@@ -209,21 +181,12 @@ has_sharers s gone rest x f a sound is within left =
 
 -- what one more leaves
 fewer_more : (t n : ℕ) (hash : Option ℕ) → t < n → fewer_sharers 1 (counting hash (n - t)) ≡ fewer_sharers (1 + t) (counting hash n)
-fewer_more t n hash less = elim (cases_lt (1 + t) n) [
-  | inl more ↦ (let e : (n - t) - 1 ≡ n - (1 + t) = omega arith in some_left 1 (n - t) hash (omega arith) ∙ (ap (counting hash) e ∙ sym (some_left (1 + t) n hash more)))
-  | inr last ↦ none_left 1 (n - t) hash (omega arith) ∙ sym (none_left (1 + t) n hash last)
-]
+fewer_more t n hash less = search rules
 
 sharer_marks : (s : Space) (gone : List Page) (x : Page) (f : ℕ) (a : Holdings) → Shares x f → IsLeft s gone a → (has : HasSharers s gone f a) → (mark : Mark) → mark ≡ fewer_sharers (1 + tally (shares f) gone) (counting has.hash (sharers s f))
     → (g : ℕ) (m : Mark) → slice_get s.marks g ≡ Some m → slice_get (slice_set a.marks f mark) g ≡ Some (mark_after (owns g x + tally (owns g) gone) (shares g x + tally (shares g) gone) m)
 sharer_marks s gone x f a is left has mark now g m at = elim (here_or f g) [
-  | inl same ↦
-      (let o = one_same g f same in
-      let sharing : shares g x + tally (shares g) gone ≡ 1 + tally (shares f) gone = rw (is.shares g, o, same) refl in
-      let both : Some m ≡ Some (counting has.hash (sharers s f)) = sym at ∙ (ap (slice_get s.marks) same ∙ has.was) in
-      let was : m ≡ counting has.hash (sharers s f) = cc in
-      let there : slice_get (slice_set a.marks f mark) g ≡ Some mark = rw same (set_same a.marks f mark has.still.1) in
-      there ∙ ap Some (now ∙ (sym (after_counting (owns g x + tally (owns g) gone) (1 + tally (shares f) gone) (sharers s f) has.hash) ∙ rw (sharing, was) refl)))
+  | inl same ↦ search (rules, one_same, set_same, after_counting)
   | inr other ↦
       (let here : shares g x ≡ 0 = is.shares g ∙ one_other g f (λ e. other e) in
       let none = is.owns g in
@@ -247,10 +210,7 @@ more_left s gone x f a is left has more = record {
             let mine = is.shares g in
             let fewer = subst (λ z. 1 + tally (shares z) gone < sharers s z) (sym here) more in
             frees_none (shares g x + tally (shares g) gone) (sharers s g) (omega arith) ∙ sym (frees_none (tally (shares g) gone) (sharers s g) (omega arith)))
-        | inr other ↦
-            (let here : shares g x ≡ 0 = is.shares g ∙ one_other g f (λ e. other e) in
-            let stays : shares g x + tally (shares g) gone ≡ tally (shares g) gone = omega arith in
-            ap (λ z. freed_by z (sharers s g)) stays)
+        | inr other ↦ search (rules, one_other)
       ] in
       omega arith);
   entries = length-set a.marks f (counting has.hash (sharers s f - (1 + tally (shares f) gone))) ∙ left.entries;
@@ -276,12 +236,7 @@ last_left s gone x f a is left has last = record {
             let before = frees_none (tally (shares g) gone) (sharers s g) less in
             let now = frees_one (shares g x + tally (shares g) gone) (sharers s g) (omega arith) (omega arith) in
             omega arith)
-        | inr other ↦
-            (let o = one_other g f (λ e. other e) in
-            let here = is.shares g in
-            let stays : shares g x + tally (shares g) gone ≡ tally (shares g) gone = omega arith in
-            let same = ap (λ z. freed_by z (sharers s g)) stays in
-            omega arith)
+        | inr other ↦ search (rules, one_other)
       ] in
       omega arith);
   entries = length-set a.marks f Plain ∙ left.entries;
@@ -305,29 +260,18 @@ sharer_left s gone rest x f a sound is within left =
 
 -- a page on no frame
 none_left_by : (s : Space) (gone : List Page) (x : Page) (a : Holdings) → ((f : ℕ) → owns f x ≡ 0) → ((f : ℕ) → shares f x ≡ 0) → IsLeft s gone a → IsLeft s (x ∷ gone) a
-none_left_by s gone x a none also left = record {
-  bytes = left.bytes;
-  free = λ f. (let owned = still (owns f) (none f) in let shared = still (shares f) (also f) in rw (owned, shared) (left.free f));
-  entries = left.entries;
-  marks = λ f m at. (let owned = still (owns f) (none f) in let shared = still (shares f) (also f) in rw (owned, shared) (left.marks f m at));
-} where
-  still : (w : Page → ℕ) → w x ≡ 0 → w x + tally w gone ≡ tally w gone
-  still w none = omega arith
+none_left_by s gone x a none also left = search rules
 
 abbrev Goes : Space → List Page → Page → Holdings → Type 0
 Goes s gone x a = CanGo x a × IsLeft s (x ∷ gone) (page_gone x a)
 
 goes : (s : Space) (gone rest : List Page) (x : Page) (a : Holdings) → FramesAreSound s → AreWithin s gone (x ∷ rest) → IsLeft s gone a → Goes s gone x a
 goes s gone rest Untouched a sound within left = (tt, none_left_by s gone Untouched a (λ f. refl) (λ f. refl) left)
-goes s gone rest (Private f) a sound within left =
-    let is : Owns (Private f) f = record { owns = λ g. refl; shares = λ g. refl } in
-    (owner_can s gone rest (Private f) f a sound is within left, owner_left s gone rest (Private f) f a sound is within left)
+goes s gone rest (Private f) a sound within left = search (rules, owner_can, owner_left)
 goes s gone rest (Shared f) a sound within left =
     let is : Shares (Shared f) f = record { owns = λ g. refl; shares = λ g. refl } in
     ((has_sharers s gone rest (Shared f) f a sound is within left).still, sharer_left s gone rest (Shared f) f a sound is within left)
-goes s gone rest (Leaving f) a sound within left =
-    let is : Owns (Leaving f) f = record { owns = λ g. refl; shares = λ g. refl } in
-    (owner_can s gone rest (Leaving f) f a sound is within left, owner_left s gone rest (Leaving f) f a sound is within left)
+goes s gone rest (Leaving f) a sound within left = search (rules, owner_can, owner_left)
 goes s gone rest (LeavingShared f) a sound within left =
     let is : Shares (LeavingShared f) f = record { owns = λ g. refl; shares = λ g. refl } in
     ((has_sharers s gone rest (LeavingShared f) f a sound is within left).still, sharer_left s gone rest (LeavingShared f) f a sound is within left)

@@ -1,5 +1,5 @@
 -- Pages that go with their instance: what of the slots is left.
-use Rattle.std.proofs.Common.{◌≡◌, ◌≢◌, ◌==◌, ◌⊎◌, inl, inr, ℕ, ◌+◌, ◌<◌, ◌≤◌, cond, nat_lt, Bool, true, false, List, [], ◌∷◌, Option, Some, None, length, get_or, slice_get, slice_set, refl, sym, ◌∙◌, ap, subst, arith, length-set}
+use Rattle.std.proofs.Common.{◌≡◌, ◌≢◌, ◌==◌, ◌⊎◌, inl, inr, ℕ, ◌+◌, ◌<◌, ◌≤◌, cond, nat_lt, Bool, true, false, List, [], ◌∷◌, Option, Some, None, length, get_or, slice_get, slice_set, refl, sym, ◌∙◌, ap, subst, arith, length-set, rules}
 use Rattle.std.proofs.lemmas.Bool.Decides.{nat_tests}
 use Rattle.wh_space_model.specs.{one_if, tally, ticket_of, Occupant, Slots, Space, occupant_at, released_use, IsUsed, LeavesBy, SlotsAreSound, comes_from, count, count_of, lies_in, page_at}
 use Rattle.wh_space_model.specs.declared.states.Page.{Page}
@@ -46,12 +46,7 @@ pub record AreLeft (s : Space) (gone : List Page) (z : Slots) : Type 0 where
   pub uses : (k : ℕ) (x : Slot) → slice_get s.slots.uses k ≡ Some x → slice_get z.uses k ≡ Some (use_after (tally (lies_in k) gone) (tally (comes_from k) gone) x)
 
 none_gone : (s : Space) → AreLeft s [] s.slots
-none_gone s = record {
-  held = refl;
-  many = refl;
-  vacant = λ k. omega arith;
-  uses = λ k x is. is ∙ ap Some (sym (use_before x));
-}
+none_gone s = search rules
 
 -- ---- what a slot is used for from which a page comes, or in which one lies
 
@@ -97,14 +92,7 @@ Goes s gone x z = CanLeaveSlot x z × AreLeft s (x ∷ gone) (slot_gone x z)
 
 -- a page that has nothing to do with slots
 no_slot : (s : Space) (gone : List Page) (x : Page) (z : Slots) → ((k : ℕ) → lies_in k x ≡ 0) → ((k : ℕ) → comes_from k x ≡ 0) → AreLeft s gone z → AreLeft s (x ∷ gone) z
-no_slot s gone x z none also left = record {
-  held = left.held;
-  many = left.many;
-  vacant = λ k. (let e = none k in let l = left.vacant k in omega arith);
-  uses = λ k y is. (let lying = still (lies_in k) (none k) in let coming = still (comes_from k) (also k) in rw (lying, coming) (left.uses k y is));
-} where
-  still : (w : Page → ℕ) → w x ≡ 0 → w x + tally w gone ≡ tally w gone
-  still w none = omega arith
+no_slot s gone x z none also left = search rules
 
 swapped_goes : (s : Space) (gone rest : List Page) (k : ℕ) (z : Slots) → SlotsAreSound s → AreWithin s gone (Swapped k ∷ rest) → AreLeft s gone z → Goes s gone (Swapped k) z
 swapped_goes s gone rest k z sound within left =
@@ -123,20 +111,7 @@ swapped_goes s gone rest k z sound within left =
         held = left.held;
         many = length-set z.uses k Vacant ∙ many;
         vacant = λ m. (let more = tally-append (one_if m) z.vacant (k ∷ []) in let l = left.vacant m in omega arith);
-        uses = λ m y is. elim (here_or k m) [
-          | inl same ↦
-              (let e = one_same m k same in
-              let both : Some y ≡ Some Taken = sym is ∙ (ap (slice_get s.slots.uses) same ∙ has.is) in
-              let taken : y ≡ Taken = cc in
-              let now : cond (nat_lt 0 (one_if m k + tally (lies_in m) gone)) Vacant Taken ≡ Vacant = some_first (one_if m k + tally (lies_in m) gone) Vacant Taken (omega arith) in
-              let set : slice_get (slice_set z.uses k Vacant) m ≡ Some Vacant = rw same (set_same z.uses k Vacant here) in
-              set ∙ ap Some (rw taken (sym now)))
-          | inr other ↦
-              (let e : one_if m k ≡ 0 = one_other m k (λ e. other e) in
-              let lying : lies_in m (Swapped k) + tally (lies_in m) gone ≡ tally (lies_in m) gone = omega arith in
-              let coming : comes_from m (Swapped k) + tally (comes_from m) gone ≡ tally (comes_from m) gone = omega arith in
-              rw (lying, coming) (set_other z.uses k m Vacant (λ e. other e) ∙ left.uses m y is))
-        ];
+        uses = search (rules, here_or, one_same, some_first, set_same, one_other, set_other);
       },
     )
 
@@ -158,20 +133,7 @@ coming_goes s gone rest k z sound within left =
         held = left.held;
         many = length-set z.uses k _ ∙ many;
         vacant = λ m. (let l = left.vacant m in omega arith);
-        uses = λ m y is. elim (here_or k m) [
-          | inl same ↦
-              (let e = one_same m k same in
-              let both : Some y ≡ Some was = sym is ∙ (ap (slice_get s.slots.uses) same ∙ has.is) in
-              let it : y ≡ was = cc in
-              let now : cond (nat_lt 0 (one_if m k + tally (comes_from m) gone)) (FetchVoid has.place has.frame) was ≡ FetchVoid has.place has.frame = some_first (one_if m k + tally (comes_from m) gone) (FetchVoid has.place has.frame) was (omega arith) in
-              let set : slice_get (slice_set z.uses k (void_use (get_or z.uses k Vacant))) m ≡ Some (FetchVoid has.place has.frame) = rw (same, use_now) (set_same z.uses k (FetchVoid has.place has.frame) here) in
-              set ∙ ap Some (rw it (sym now)))
-          | inr other ↦
-              (let e : one_if m k ≡ 0 = one_other m k (λ e. other e) in
-              let lying : lies_in m (Coming k) + tally (lies_in m) gone ≡ tally (lies_in m) gone = omega arith in
-              let coming : comes_from m (Coming k) + tally (comes_from m) gone ≡ tally (comes_from m) gone = omega arith in
-              rw (lying, coming) (set_other z.uses k m _ (λ e. other e) ∙ left.uses m y is))
-        ];
+        uses = search (rules, here_or, one_same, some_first, set_same, one_other, set_other);
       },
     )
 
@@ -216,10 +178,7 @@ fetch_is s i k j p f sound less is =
     let there : page_at s.tables j p ≡ Some (Coming k) = used.3 in
     let o = one_same k k refl in
     elim (here_or i j) [
-      | inl same ↦
-          (let mine : page_at s.tables i p ≡ Some (Coming k) = subst (λ z. page_at s.tables z p ≡ Some (Coming k)) same there in
-          let some = get_tally (comes_from k) (get_or s.tables i []) p (Coming k) mine in
-          some_first (count_of (comes_from k) s.tables i) (FetchVoid j f) (Fetching j p f) (omega arith) ∙ sym (rw same (cond_here i (FetchVoid i f) (Fetching i p f))))
+      | inl same ↦ search (rules, get_tally, some_first, cond_here)
       | inr other ↦
           (let rows = rows_sum (comes_from k) s.tables i [] less in
           let away : page_at (slice_set s.tables i []) j p ≡ Some (Coming k) = ap (λ (xs : List Page). slice_get xs p) (get_or-set_other s.tables i j [] [] (λ e. other e)) ∙ there in
@@ -233,10 +192,7 @@ slot_or None k = inr (λ e. (let bad : None ≡ Some k = e in cc))
 slot_or (Some m) k = elim (here_or k m) [ inl same ↦ inl (ap Some same) | inr other ↦ inr (λ e. other (let k2 : Some m ≡ Some k = e in cc)) ]
 
 void_here : (o : Option ℕ) (z : Slots) (k : ℕ) (y : Slot) → o ≡ Some k → slice_get z.uses k ≡ Some y → slice_get (voids_slot o z).uses k ≡ Some (void_use y)
-void_here o z k y is at_it =
-    let use_now : void_use (get_or z.uses k Vacant) ≡ void_use y = ap void_use (get_or_is z.uses k y Vacant at_it) in
-    let set : slice_get (slice_set z.uses k (void_use (get_or z.uses k Vacant))) k ≡ Some (void_use y) = rw use_now (set_same z.uses k (void_use y) (there_of z.uses k y at_it)) in
-    rw is set
+void_here o z k y is at_it = search (rules, get_or_is, set_same, there_of)
 
 void_away : (o : Option ℕ) (z : Slots) (k : ℕ) → o ≢ Some k → slice_get (voids_slot o z).uses k ≡ slice_get z.uses k
 void_away None z k other = refl
@@ -273,25 +229,17 @@ pub record HaveGone (s : Space) (i : ℕ) (z : Slots) : Type 0 where
 use_is : (s : Space) (i k : ℕ) (t : Occupant) (z : Slots) (x : Slot) → SlotsAreSound s → i < length s.tables → occupant_at s i t → slice_get s.slots.uses k ≡ Some x
     → slice_get z.uses k ≡ Some (use_after (count_of (lies_in k) s.tables i) (count_of (comes_from k) s.tables i) x)
     → slice_get (voids_slot t.leaves z).uses k ≡ Some (released_use i (count_of (lies_in k) s.tables i) x)
-use_is s i k t z Vacant sound less there is now =
-    void_away t.leaves z k (λ e. leaves_by s i k t Vacant sound there is e) ∙ now
-use_is s i k t z Taken sound less there is now =
-    void_away t.leaves z k (λ e. leaves_by s i k t Taken sound there is e) ∙ now
+use_is s i k t z Vacant sound less there is now = search (rules, void_away, leaves_by)
+use_is s i k t z Taken sound less there is now = search (rules, void_away, leaves_by)
 use_is s i k t z (Evicting j p) sound less there is now = elim (here_or i j) [
   | inl same ↦
       (let by = by_leaves s i k t (Evicting j p) sound there is same in
       void_here t.leaves z k (Evicting j p) by now ∙ ap Some (sym (rw same (cond_here i (EvictVoid i) (Evicting i p)))))
-  | inr other ↦
-      void_away t.leaves z k (λ e. other (leaves_by s i k t (Evicting j p) sound there is e)) ∙ (now ∙ ap Some (sym (cond_other i j (EvictVoid j) (Evicting j p) (λ e. other e))))
+  | inr other ↦ search (rules, void_away, leaves_by, cond_other)
 ]
-use_is s i k t z (EvictVoid j) sound less there is now = elim (slot_or t.leaves k) [
-  | inl by ↦ void_here t.leaves z k (EvictVoid j) by now
-  | inr other ↦ void_away t.leaves z k other ∙ now
-]
-use_is s i k t z (Fetching j p f) sound less there is now =
-    void_away t.leaves z k (λ e. leaves_by s i k t (Fetching j p f) sound there is e) ∙ (now ∙ ap Some (fetch_is s i k j p f sound less is))
-use_is s i k t z (FetchVoid j f) sound less there is now =
-    void_away t.leaves z k (λ e. leaves_by s i k t (FetchVoid j f) sound there is e) ∙ now
+use_is s i k t z (EvictVoid j) sound less there is now = search (rules, slot_or, void_here, void_away)
+use_is s i k t z (Fetching j p f) sound less there is now = search (rules, void_away, leaves_by, fetch_is)
+use_is s i k t z (FetchVoid j f) sound less there is now = search (rules, void_away, leaves_by)
 
 pub have_gone : (s : Space) (i : ℕ) (t : Occupant) → SlotsAreSound s → i < length s.tables → occupant_at s i t → AllLeave s (get_or s.tables i []) s.slots
     → HaveGone s i (voids_slot t.leaves (slots_gone (get_or s.tables i []) s.slots))
@@ -308,21 +256,11 @@ have_gone s i t sound less there go =
 
 use_ticket : (i n h : ℕ) (x : Slot) → ticket_of h (released_use i n x) ≡ ticket_of h x
 use_ticket i n h Vacant = refl
-use_ticket i n h Taken = go (nat_lt 0 n) where
-  go : (b : Bool) → ticket_of h (cond b Vacant Taken) ≡ 0
-  go true = refl
-  go false = refl
-use_ticket i n h (Evicting j p) = go (i == j) where
-  go : (b : Bool) → ticket_of h (cond b (EvictVoid j) (Evicting j p)) ≡ one_if h j
-  go true = refl
-  go false = refl
+use_ticket i n h Taken = search rules
+use_ticket i n h (Evicting j p) = search rules
 use_ticket i n h (EvictVoid j) = refl
-use_ticket i n h (Fetching j p f) = go (i == j) where
-  go : (b : Bool) → ticket_of h (cond b (FetchVoid j f) (Fetching j p f)) ≡ one_if h j
-  go true = refl
-  go false = refl
+use_ticket i n h (Fetching j p f) = search rules
 use_ticket i n h (FetchVoid j f) = refl
 
 pub same_tickets : (s : Space) (i h : ℕ) (z : Slots) → HaveGone s i z → tally (ticket_of h) z.uses ≡ tally (ticket_of h) s.slots.uses
-same_tickets s i h z gone = pointwise (ticket_of h) s.slots.uses z.uses gone.many
-    (λ k x is. (released_use i (count_of (lies_in k) s.tables i) x, gone.uses k x is, use_ticket i (count_of (lies_in k) s.tables i) h x))
+same_tickets s i h z gone = search (rules, pointwise, use_ticket)

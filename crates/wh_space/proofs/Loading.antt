@@ -1,5 +1,5 @@
 -- How loads end.
-use Rattle.std.proofs.Common.{◌≡◌, ℕ, ◌+◌, ◌*◌, ◌-◌, ◌≤◌, ◌++◌, Bool, true, false, List, [], ◌∷◌, length, get_or, slice_get, None, zero, suc, refl, sym, subst, arith}
+use Rattle.std.proofs.Common.{◌≡◌, ℕ, ◌+◌, ◌*◌, ◌-◌, ◌≤◌, ◌++◌, Bool, true, false, List, [], ◌∷◌, length, get_or, slice_get, None, zero, suc, refl, sym, arith, rules}
 use Rattle.std.specs.Bool.{MatchBool}
 use Rattle.std.specs.List.{All}
 use Rattle.std.proofs.lemmas.List.Elements.{All-cons, All-head, All-nil, All-tail}
@@ -28,15 +28,11 @@ second_away s i p q away all = away (All-head (λ q. Hand s i q) q [] (All-tail 
 
 pub got_value : (s : Space) (i k : ℕ) (old new ps : List ℕ) → IsSound s → k + length old ≤ 4096 * length (get_or s.tables i []) → pages_of_need (reading k (length old)) ≡ ps
     → All (λ q. Hand s i q) ps → new ≡ bytes_at (view s i) k (length old) → Loads (Ready s i) (view s i) k old Value new
-got_value s i k old new ps sound fits pages hand is =
-    let long = view_length s i sound in
-    (omega arith, is, (subst (All (λ q. Hand s i q)) (sym pages) hand, omega arith))
+got_value s i k old new ps sound fits pages hand is = search (rules, view_length)
 
 pub got_nothing : (s : Space) (i k : ℕ) (old new ps : List ℕ) → IsSound s → k + length old ≤ 4096 * length (get_or s.tables i []) → pages_of_need (reading k (length old)) ≡ ps
     → ¬ All (λ q. Hand s i q) ps → new ≡ old → Loads (Ready s i) (view s i) k old (NotReady (reading k (length old))) new
-got_nothing s i k old new ps sound fits pages away is =
-    let long = view_length s i sound in
-    (omega arith, is, refl, λ ready. away (subst (All (λ q. Hand s i q)) pages ready.0))
+got_nothing s i k old new ps sound fits pages away is = search (rules, view_length)
 
 pub read_none : (bytes old : List ℕ) (k : ℕ) → length old ≡ 0 → old ≡ bytes_at bytes k (length old)
 read_none bytes [] k none = let e : (k + 0) - k ≡ 0 = omega arith in rw e refl

@@ -1,17 +1,14 @@
 -- Pages on frames that were touched in this epoch.
-use Rattle.std.proofs.Common.{◌≡◌, ℕ, Bool, Option, Some, None, cond, true, false, refl, sym}
+use Rattle.std.proofs.Common.{◌≡◌, ℕ, Bool, Option, Some, true, rules}
 use Rattle.wh_space_model.specs.declared.states.Page.{Page}
-use Rattle.wh_space_model.specs.{frame_of, IsAtHand}
+use Rattle.wh_space_model.specs.{frame_of}
 use Rattle.wh_space_model.specs.declared.states.Page.TheVariants.{Coming, Leaving, LeavingShared, Private, Shared, Swapped, Untouched}
 use Rattle.wh_pages.specs.Table.{IsFrameIfTouched, own_frame_of}
 
 -- what was found was found on a page that was touched
 found_touched : (find : Page → Option ℕ) (at : Option Page) (mark_at : Option Bool) (frame : ℕ) → IsFrameIfTouched find at mark_at (Some frame)
     → (page : Page) × (at ≡ Some page) × (mark_at ≡ Some true) × (find page ≡ Some frame)
-found_touched find at mark_at frame t = go t.mark t.marked t.is where
-  go : (mark : Bool) → mark_at ≡ Some mark → Some frame ≡ cond mark (find t.page) None → (page : Page) × (at ≡ Some page) × (mark_at ≡ Some true) × (find page ≡ Some frame)
-  go true marked is = (t.page, t.there, marked, sym is)
-  go false marked is = absurd (cc is)
+found_touched find at mark_at frame t = search rules
 
 pub frame_touched : (at : Option Page) (mark_at : Option Bool) (frame : ℕ) → IsFrameIfTouched frame_of at mark_at (Some frame)
     → (page : Page) × (at ≡ Some page) × (mark_at ≡ Some true) × (frame_of page ≡ Some frame)
@@ -28,16 +25,4 @@ owned (Swapped k) frame e = absurd (cc e)
 
 pub own_touched : (at : Option Page) (mark_at : Option Bool) (frame : ℕ) → IsFrameIfTouched own_frame_of at mark_at (Some frame)
     → (at ≡ Some (Private frame)) × (mark_at ≡ Some true)
-own_touched at mark_at frame t =
-    let found = found_touched own_frame_of at mark_at frame t in
-    (rw (← owned found.0 frame found.3) found.1, found.2)
-
--- a page on a frame is at hand
-pub on_frame_at_hand : (at : Option Page) (page : Page) (frame : ℕ) → at ≡ Some page → frame_of page ≡ Some frame → IsAtHand at
-on_frame_at_hand at (Private f) frame there on = rw there refl
-on_frame_at_hand at (Shared f) frame there on = rw there refl
-on_frame_at_hand at (Leaving f) frame there on = rw there refl
-on_frame_at_hand at (LeavingShared f) frame there on = rw there refl
-on_frame_at_hand at Untouched frame there on = rw there refl
-on_frame_at_hand at (Coming k) frame there on = absurd (cc on)
-on_frame_at_hand at (Swapped k) frame there on = absurd (cc on)
+own_touched at mark_at frame t = search rules

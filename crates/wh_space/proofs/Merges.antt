@@ -126,11 +126,8 @@ untouched_all f (o ∷ os) (table ∷ ts) long have =
 
 pub few_beside : (s : Space) (f j p : ℕ) → IsSound s → HasFewPages s → page_at s.tables j p ≡ Some Untouched → sharers s f + 1 < 2 ^ 32
 few_beside s f j p sound few onto =
-    let one = get_pages untouched s.tables j p Untouched onto in
     let most = untouched_all f s.occupants s.tables sound.occupants.tables sound.occupants.have in
-    let frames = sound.admissible.0 in
-    let slots = sound.admissible.1 in
-    omega (arith, few, one, most, frames, slots)
+    omega (arith, few, get_pages untouched s.tables j p Untouched onto, most, sound.admissible.0, sound.admissible.1)
 
 -- ---- what the memory is then
 

@@ -1,5 +1,5 @@
 -- Pages in transit: what the memory is then.
-use Rattle.std.proofs.Common.{◌≡◌, ◌≢◌, inl, inr, ℕ, ◌+◌, ◌-◌, ◌<◌, ◌≤◌, ◌++◌, cond, nat_lt, Bool, true, false, List, [], ◌∷◌, Option, Some, None, IfSome, length, length-set, get_or, slice_get, slice_set, refl, sym, ◌∙◌, ap, subst, arith}
+use Rattle.std.proofs.Common.{◌≡◌, ◌≢◌, inl, inr, ℕ, ◌+◌, ◌-◌, ◌<◌, ◌≤◌, ◌++◌, cond, nat_lt, Bool, true, false, List, [], ◌∷◌, Option, Some, None, IfSome, length, length-set, get_or, slice_get, slice_set, refl, sym, ◌∙◌, ap, subst, arith, rules}
 use Rattle.std.proofs.lemmas.Bool.{cases_lt}
 use Rattle.std.proofs.lemmas.Bool.Decides.{nat_tests}
 use Rattle.wh_space_model.specs.{Pool, IsTaken, one_if, tally, fewer_sharers, frame_of, one_fewer, CanLeave, stays, fetches_into, ticket_of, Occupant, Slots, Space, frame_bytes, occupant_at, pinned_by, sharers, FramesAreSound, IsSound, IsUsed, LeavesBy, at, leaving, page_at, put, CommitsEvict, as_before, as_leaving, departing, sent_off, unpinned_page, leaving_by, not_sent, sent_for, settled, with_free, with_leaving, without_slot, has_come, not_come}
@@ -137,9 +137,7 @@ pub record IsAwaited (s : Space) (k i p f : ℕ) : Type 0 where
   pub row : i < length s.tables
 
 pub is_awaited : (s : Space) (k i p f : ℕ) → IsSound s → slice_get s.slots.uses k ≡ Some (Fetching i p f) → IsAwaited s k i p f
-is_awaited s k i p f sound is =
-    let used : IsUsed s k (Some (Fetching i p f)) = subst (IsUsed s k) is (sound.slots.used k) in
-    record { slot = there_of s.slots.uses k (Fetching i p f) is; taken = used.2; page = used.3; row = (is_page s.tables i p (Coming k) used.3).0 }
+is_awaited s k i p f sound is = search (rules, there_of, is_page)
 
 pub record IsVoidFetch (s : Space) (k i f : ℕ) : Type 0 where
   pub slot : k < length s.slots.uses
@@ -148,10 +146,7 @@ pub record IsVoidFetch (s : Space) (k i f : ℕ) : Type 0 where
   pub there : occupant_at s i occupant
 
 pub is_void_fetch : (s : Space) (k i f : ℕ) → IsSound s → slice_get s.slots.uses k ≡ Some (FetchVoid i f) → IsVoidFetch s k i f
-is_void_fetch s k i f sound is =
-    let used : IsUsed s k (Some (FetchVoid i f)) = subst (IsUsed s k) is (sound.slots.used k) in
-    let t = sound.slots.voids i k f is in
-    record { slot = there_of s.slots.uses k (FetchVoid i f) is; taken = used.2; occupant = t.0; there = t.1 }
+is_void_fetch s k i f sound is = search (rules, there_of)
 
 -- a frame into which a fetch goes is taken
 pub fetched_into : (s : Space) (k f : ℕ) (x : Slot) → IsSound s → slice_get s.slots.uses k ≡ Some x → fetches_into f x ≡ 1 → IsTaken s.pool f
@@ -189,8 +184,7 @@ pub came : (a b : Inside) (k i p f : ℕ) (bytes : List ℕ) → IsWell a → Is
     → (space_of b ≡ has_come (space_of a) i p f k bytes) × IsWell b
 came a b k i p f bytes was sound is occupant_entries slots pages marks limits pool content pins tax =
     let s : Space = space_of a in
-    let out = is_awaited s k i p f was.sound is in
-    let less = table_within a i was.sound out.row in
+    let less = table_within a i was.sound (is_awaited s k i p f was.sound is).row in
     let occupants = unchanged ends_coming seen_came a.occupant_entries.items b.occupant_entries.items i occupant_entries in
     let now : space_of b ≡ has_come s i p f k bytes = rw (occupants, slots, pages, marks, pool, content, pins, tax) refl in
     let fewer = fewer_tickets a.slots.uses i k (Fetching i p f) Vacant is (one_same i i refl) refl in (
@@ -207,8 +201,7 @@ pub stayed_away : (a b : Inside) (k i p f : ℕ) → IsWell a → IsSound (not_c
     → (space_of b ≡ not_come (space_of a) i p f k) × IsWell b
 stayed_away a b k i p f was sound is occupant_entries slots pages marks limits pool content pins tax =
     let s : Space = space_of a in
-    let out = is_awaited s k i p f was.sound is in
-    let less = table_within a i was.sound out.row in
+    let less = table_within a i was.sound (is_awaited s k i p f was.sound is).row in
     let occupants = unchanged ends_coming seen_came a.occupant_entries.items b.occupant_entries.items i occupant_entries in
     let now : space_of b ≡ not_come s i p f k = rw (occupants, slots, pages, marks, pool, content, pins, tax) refl in
     let fewer = fewer_tickets a.slots.uses i k (Fetching i p f) Taken is (one_same i i refl) refl in (
@@ -275,12 +268,7 @@ pub record MayDepart (a : Inside) (j p : ℕ) : Type 0 where
   pub less : j < length a.occupant_entries.items
 
 pub may_depart : (a : Inside) (j p : ℕ) → CanLeave (space_of a) j p → MayDepart a j p
-may_depart a j p can =
-    let x = one_staying (page_at (space_of a).tables j p) can.0 in
-    record { page = x.0; at_it = x.1; stays = x.2; occupant = can.2.0; there = can.2.1; less = guest_within a j can.2.0 can.2.1 } where
-      one_staying : (o : Option Page) → at stays o ≡ 1 → (x : Page) × (o ≡ Some x) × (stays x ≡ 1)
-      one_staying None one = absurd (omega arith)
-      one_staying (Some x) one = (x, refl, one)
+may_depart a j p can = search (rules, guest_within)
 
 -- ---- a page that is in its slot
 
@@ -357,21 +345,12 @@ frame_leaving (Swapped k) one = absurd (omega arith)
 
 pub ends_failed : (s : Space) (k j p : ℕ) (wrote : Bool) (bytes : List ℕ) (s2 : Space) → IsSound s → slice_get s.slots.uses k ≡ Some (Evicting j p) → wrote ≡ false
     → IfSome (page_at s.tables j p) (λ was. s2 ≡ not_sent s j p k (back_again was)) → CommitsEvict s k wrote bytes Failed s2
-ends_failed s k j p wrote bytes s2 sound is failed same_page =
-    let out = is_out s k j p sound is in
-    let f = frame_leaving out.page out.leaves in
-    let now : s2 ≡ not_sent s j p k (back_again out.page) = subst (λ (o : Option Page). IfSome o (λ was. s2 ≡ not_sent s j p k (back_again was))) out.at_it same_page in
-    inr (j, p, f.0, is, out.page, out.at_it, f.1, inr (inr (failed, refl), back_again out.page, before_leaving out.page out.leaves, now))
+ends_failed s k j p wrote bytes s2 sound is failed same_page = search (rules, is_out, frame_leaving, before_leaving)
 
 pub ends_void : (s : Space) (k j p f : ℕ) (page : Page) (wrote : Bool) (bytes : List ℕ) (s2 : Space) → IsSound s → slice_get s.slots.uses k ≡ Some (Evicting j p) → wrote ≡ true
     → page_at s.tables j p ≡ Some page → frame_of page ≡ Some f → bytes ≢ frame_bytes s f
     → IfSome (page_at s.tables j p) (λ was. s2 ≡ not_sent s j p k (back_again was)) → CommitsEvict s k wrote bytes Void s2
-ends_void s k j p f page wrote bytes s2 sound is ok there on differ same_page =
-    let out = is_out s k j p sound is in
-    let same = one_page s.tables j p out.page page out.at_it there in
-    let back : as_before page (back_again page) = subst (λ (x : Page). as_before x (back_again x)) same (before_leaving out.page out.leaves) in
-    let now : s2 ≡ not_sent s j p k (back_again page) = subst (λ (o : Option Page). IfSome o (λ was. s2 ≡ not_sent s j p k (back_again was))) there same_page in
-    inr (j, p, f, is, page, there, on, inr (inl (ok, differ, refl), back_again page, back, now))
+ends_void s k j p f page wrote bytes s2 sound is ok there on differ same_page = search rules
 
 pub ends_evicted : (s : Space) (k j p f : ℕ) (page : Page) (wrote : Bool) (bytes : List ℕ) (s2 : Space) → slice_get s.slots.uses k ≡ Some (Evicting j p) → wrote ≡ true
     → page_at s.tables j p ≡ Some page → frame_of page ≡ Some f → bytes ≡ frame_bytes s f → s2 ≡ sent_off s j p f k → CommitsEvict s k wrote bytes Evicted s2

@@ -1,12 +1,12 @@
 -- An instance that waits for a frame, or doesn't.
-use Rattle.std.proofs.Common.{◌≡◌, ℕ, ◌+◌, ◌*◌, ◌≤◌, ◌++◌, cond, List, [], ◌∷◌, Option, Some, None, true, length, length-set, get_or, map, slice_get, slice_set, zero, suc, refl, sym, ◌∙◌, ap, subst}
+use Rattle.std.proofs.Common.{◌≡◌, ℕ, ◌+◌, ◌*◌, ◌≤◌, ◌++◌, cond, List, [], ◌∷◌, Option, Some, None, true, length, length-set, get_or, map, slice_get, slice_set, zero, suc, refl, sym, ◌∙◌, ap, subst, rules}
 use Rattle.wh_model.specs.declared.memory.Need.{Need}
-use Rattle.wh_space_model.specs.{tally, ticket_of, has_pins, Pool, Occupant, Slots, Space, kept_by, occupant_at, IsSound, ended, awaiting, stood}
+use Rattle.wh_space_model.specs.{has_pins, Pool, Occupant, Space, kept_by, occupant_at, IsSound, ended, awaiting, stood}
 use Rattle.wh_space_model.proofs.Steady.{ends_soundly, waits_soundly}
 use Rattle.wh_space.specs.declared.occupant_entry.OccupantEntry.{OccupantEntry}
 use Rattle.wh_space.specs.declared.memory.Memory.TheInside.{Inside}
 use Rattle.wh_space.specs.OccupantEntries.{entry_awaiting}
-use Rattle.wh_space.specs.Parts.{IsWell, Named, named, occupant_of, space_of}
+use Rattle.wh_space.specs.Parts.{IsWell, named, occupant_of, space_of}
 use Rattle.wh_space.specs.Pinning.{pins_of}
 use Rattle.wh_space.proofs.Earmarked.{ends_pins}
 
@@ -29,10 +29,7 @@ same_max (Some g) need t is = let e : record g { stands = need } ≡ t = cc in (
 pub was_there : (xs : List (Option OccupantEntry)) (i j : ℕ) (need : Option Need) (t : OccupantEntry) → slice_get (slice_set xs i (entry_awaiting (get_or xs i None) need)) j ≡ Some (Some t)
     → (g : OccupantEntry) × (slice_get xs j ≡ Some (Some g)) × (named g ≡ named t) × (g.tickets ≡ t.tickets)
 was_there [] i j need t is = absurd (cc is)
-was_there (x ∷ xs) zero zero need t is =
-    let e : entry_awaiting x need ≡ Some t = cc in
-    let k = same_max x need t e in
-    (k.0, ap Some k.1, k.2, k.3)
+was_there (x ∷ xs) zero zero need t is = search (rules, same_max)
 was_there (x ∷ xs) zero (suc j) need t is = (t, is, refl, refl)
 was_there (x ∷ xs) (suc i) zero need t is = (t, is, refl, refl)
 was_there (x ∷ xs) (suc i) (suc j) need t is = was_there xs i j need t is
@@ -40,17 +37,7 @@ was_there (x ∷ xs) (suc i) (suc j) need t is = was_there xs i j need t is
 -- who stands now, or doesn't
 stands_well : (a b : Inside) (i : ℕ) (need : Option Need) → IsWell a → b.occupant_entries.items ≡ slice_set a.occupant_entries.items i (entry_awaiting (get_or a.occupant_entries.items i None) need) → b.tables ≡ a.tables → length b.pool.frames ≡ length a.pool.frames → b.slots ≡ a.slots
     → IsSound (space_of b) → IsWell b
-stands_well a b i need was occupant_entries tables frames slots sound =
-    let before : (j : ℕ) (g : OccupantEntry) → slice_get b.occupant_entries.items j ≡ Some (Some g) → (h : OccupantEntry) × (slice_get a.occupant_entries.items j ≡ Some (Some h)) × (named h ≡ named g) × (h.tickets ≡ g.tickets) =
-    λ j g is. was_there a.occupant_entries.items i j need g (ap (λ (z : List (Option OccupantEntry)). slice_get z j) (sym occupant_entries) ∙ is) in
-    record {
-      sound = sound;
-      limits = λ j g is. (let k = before j g is in rw tables (was.limits j k.0 k.1 ∙ ap (λ (z : Named). Some z.max) k.2));
-      numbers = λ j g is. (let k = before j g is in rw tables (was.numbers j k.0 k.1 ∙ ap (λ (z : Named). z.number) k.2));
-      frames = rw tables was.frames ∙ sym frames;
-      counted = λ j g is. (let k = before j g is in sym k.3 ∙ (was.counted j k.0 k.1 ∙ ap (λ (z : Slots). tally (ticket_of j) z.uses) (sym slots)));
-      places = (let long = ap length occupant_entries ∙ length-set a.occupant_entries.items i _ in rw long was.places);
-    }
+stands_well a b i need was occupant_entries tables frames slots sound = search (rules, ℕ, was_there, length-set)
 
 pub stood_well : (a b : Inside) (i : ℕ) (need : Option Need) (t : Occupant) → IsWell a → occupant_at (space_of a) i t
     → ((want : Need) → need ≡ Some want → (t.live ≡ true) × (want.at + want.length ≤ 4096 * length (get_or (space_of a).tables i [])) × (want.length ≤ 4096))

@@ -1,5 +1,5 @@
 -- How stores end.
-use Rattle.std.proofs.Common.{◌≡◌, ◌≢◌, ℕ, ◌+◌, ◌*◌, ◌≤◌, List, [], ◌∷◌, Some, true, length, get_or, zero, suc, length-set, refl, sym, ◌∙◌, ap, subst, arith}
+use Rattle.std.proofs.Common.{◌≡◌, ◌≢◌, ℕ, ◌+◌, ◌*◌, ◌≤◌, List, [], ◌∷◌, Some, true, length, get_or, zero, suc, length-set, refl, sym, ◌∙◌, ap, subst, arith, rules}
 use Rattle.std.specs.List.{All}
 use Rattle.std.proofs.lemmas.List.Elements.{All-head, All-tail}
 use Rattle.wh_model.specs.declared.memory.Got.TheVariants.{Value, NotReady}
@@ -48,9 +48,7 @@ can_first s i p sound can =
 -- the first page was unshared: the other one stays where it is
 pub other_page : (s : Space) (i p q : ℕ) (mid : Space) → IsSound s → Breaks s i p mid → q ≢ p → page_at mid.tables i q ≡ page_at s.tables i q
 unfolding broke
-other_page s i p q mid sound breaks other =
-    let first = broken_off s i p mid sound breaks in
-    ap (λ (a : Space). page_at a.tables i q) first.is ∙ put_other s.tables i p q (Private first.frame) other
+other_page s i p q mid sound breaks other = search (rules, broken_off, put_other)
 
 pub can_second : (s : Space) (i p : ℕ) (mid : Space) → IsSound s → CanStep s i true (p ∷ (p + 1) ∷ []) → Breaks s i p mid → CanBreak mid i (p + 1)
 unfolding broke
@@ -103,6 +101,4 @@ put_length (xs ∷ xss) (suc i) p x (suc j) = put_length xss i p x j
 
 pub same_table : (s : Space) (i p : ℕ) (mid : Space) → IsSound s → Breaks s i p mid → length (get_or mid.tables i []) ≡ length (get_or s.tables i [])
 unfolding broke
-same_table s i p mid sound breaks =
-    let first = broken_off s i p mid sound breaks in
-    ap (λ (a : Space). length (get_or a.tables i [])) first.is ∙ put_length s.tables i p (Private first.frame) i
+same_table s i p mid sound breaks = search (rules, broken_off, put_length)

@@ -1,5 +1,5 @@
 -- Who has a place when pages of it leave and come, and tickets that are counted.
-use Rattle.std.proofs.Common.{◌≡◌, ◌≢◌, ◌==◌, inl, inr, ℕ, ◌+◌, ◌-◌, ◌*◌, ◌<◌, ◌≤◌, ◌^◌, cond, Bool, true, false, List, [], ◌∷◌, Option, Some, None, IfSome, length, length-set, get_or, map, slice_get, slice_set, zero, suc, refl, sym, ◌∙◌, ap, subst, arith}
+use Rattle.std.proofs.Common.{◌≡◌, ◌≢◌, ◌==◌, inl, inr, ℕ, ◌+◌, ◌-◌, ◌*◌, ◌<◌, ◌≤◌, ◌^◌, true, List, [], ◌∷◌, Option, Some, None, IfSome, length, length-set, get_or, map, slice_get, slice_set, zero, suc, refl, sym, ◌∙◌, ap, arith, rules}
 use Rattle.std.proofs.lemmas.Bool.Decides.{nat_tests}
 use Rattle.std.proofs.lemmas.List.{get_or-set_same, length-map, map-set}
 use Rattle.wh_model.specs.declared.memory.Need.{Need}
@@ -14,7 +14,7 @@ use Rattle.wh_space.specs.declared.occupant_entry.OccupantEntry.{OccupantEntry}
 use Rattle.wh_space.specs.declared.memory.Memory.TheInside.{Inside}
 use Rattle.wh_space.specs.OccupantEntries.{begins_coming, begins_leaving, ends_coming, ends_leaving, settles}
 use Rattle.wh_space.specs.UnchangedTables.{Fixed, fixed_in}
-use Rattle.wh_space.specs.Parts.{IsWell, Named, named, occupant_of, space_of}
+use Rattle.wh_space.specs.Parts.{IsWell, named, occupant_of, space_of}
 
 -- ---- how who is there changes: with n tickets
 
@@ -40,18 +40,8 @@ pub changes_came : Changes ends_coming (λ n. n - 1)
 changes_came None t is = absurd (cc is)
 changes_came (Some g) t is = let e = both_of is in (g, refl, e.0, e.1)
 
-settled_same : (g t : OccupantEntry) → settles (Some g) ≡ Some t → (named g ≡ named t) × (t.tickets ≡ g.tickets)
-settled_same g t is = go g.live (g.tickets == 0) is where
-  go : (a b : Bool) → cond a (Some g) (cond b None (Some g)) ≡ Some t → (named g ≡ named t) × (t.tickets ≡ g.tickets)
-  go true b is = both_of is
-  go false true is = absurd (cc is)
-  go false false is = both_of is
-
 pub changes_settled : (change : Option OccupantEntry → Option OccupantEntry) (count : ℕ → ℕ) → Changes change count → Changes (λ y. settles (change y)) count
-changes_settled change count so y t is = go (change y) refl is where
-  go : (z : Option OccupantEntry) → change y ≡ z → settles z ≡ Some t → (g : OccupantEntry) × (y ≡ Some g) × (named g ≡ named t) × (t.tickets ≡ count g.tickets)
-  go None e is = absurd (cc is)
-  go (Some h) e is = let same = settled_same h t is in let k = so y h e in (k.0, k.1, k.2 ∙ same.0, same.1 ∙ k.3)
+changes_settled change count so y t is = search rules
 
 -- ---- the memory is well then
 
@@ -63,33 +53,18 @@ well_by a b i change count so was sound less occupant_entries fixed frames mine 
     let xs : List (Option OccupantEntry) = a.occupant_entries.items in
     let there = get_there xs i less in
     let row : get_or xs i None ≡ there.0 = get_or_is xs i there.0 None there.1 in
-    let here : (t : OccupantEntry) → slice_get b.occupant_entries.items i ≡ Some (Some t) → (g : OccupantEntry) × (slice_get xs i ≡ Some (Some g)) × (named g ≡ named t) × (t.tickets ≡ count g.tickets) = λ t is.
-    (let both : Some (change (get_or xs i None)) ≡ Some (Some t) = sym (set_same xs i (change (get_or xs i None)) less) ∙ (sym (ap (λ (z : List (Option OccupantEntry)). slice_get z i) occupant_entries) ∙ is) in
-    let one : change (get_or xs i None) ≡ Some t = cc in
-    let k = so (get_or xs i None) t one in
-    (k.0, there.1 ∙ ap Some (sym row ∙ k.1), k.2, k.3)) in
+    let here : (t : OccupantEntry) → slice_get b.occupant_entries.items i ≡ Some (Some t) → (g : OccupantEntry) × (slice_get xs i ≡ Some (Some g)) × (named g ≡ named t) × (t.tickets ≡ count g.tickets) =
+    search (rules, set_same) in
     let away : (j : ℕ) (t : OccupantEntry) → j ≢ i → slice_get b.occupant_entries.items j ≡ Some (Some t) → slice_get xs j ≡ Some (Some t) =
     λ j t other is. sym (ap (λ (z : List (Option OccupantEntry)). slice_get z j) occupant_entries ∙ set_other xs i j (change (get_or xs i None)) other) ∙ is in
     record {
       sound = sound;
-      limits = λ j t is. ap (λ (z : Fixed). slice_get z.limits j) fixed ∙ elim (here_or i j) [
-        | inr other ↦ was.limits j t (away j t (λ e. other e) is)
-        | inl same ↦
-            (let k = here t (subst (λ z. slice_get b.occupant_entries.items z ≡ Some (Some t)) same is) in
-            subst (λ z. slice_get a.tables.limits z ≡ Some t.max) (sym same) (was.limits i k.0 k.1 ∙ ap (λ (z : Named). Some z.max) k.2))
-      ];
-      numbers = λ j t is. ap (λ (z : Fixed). get_or z.numbers j 0) fixed ∙ elim (here_or i j) [
-        | inr other ↦ was.numbers j t (away j t (λ e. other e) is)
-        | inl same ↦
-            (let k = here t (subst (λ z. slice_get b.occupant_entries.items z ≡ Some (Some t)) same is) in
-            subst (λ z. get_or a.tables.numbers z 0 ≡ t.number) (sym same) (was.numbers i k.0 k.1 ∙ ap (λ (z : Named). z.number) k.2))
-      ];
+      limits = search (rules, here_or);
+      numbers = search (rules, here_or);
       frames = ap (λ (z : Fixed). z.frames) fixed ∙ was.frames ∙ sym frames;
       counted = λ j t is. elim (here_or i j) [
         | inr other ↦ was.counted j t (away j t (λ e. other e) is) ∙ sym (others j (λ e. other e))
-        | inl same ↦
-            (let k = here t (subst (λ z. slice_get b.occupant_entries.items z ≡ Some (Some t)) same is) in
-            subst (λ z. t.tickets ≡ tally (ticket_of z) b.slots.uses) (sym same) (k.3 ∙ mine k.0 k.1))
+        | inl same ↦ search rules
       ];
       places = (let long = ap length occupant_entries ∙ length-set xs i _ in rw long was.places);
     }
@@ -123,9 +98,7 @@ seen_came (Some g) = refl
 
 pub changed : (change : Option OccupantEntry → Option OccupantEntry) (seen : Option Occupant → Option Occupant) → IsSeenAs change seen → (xs ys : List (Option OccupantEntry)) (i : ℕ)
     → ys ≡ slice_set xs i (change (get_or xs i None)) → map occupant_of ys ≡ slice_set (map occupant_of xs) i (seen (get_or (map occupant_of xs) i None))
-changed change seen seeing xs ys i is =
-    ap (map occupant_of) is ∙ (map-set occupant_of xs i (change (get_or xs i None))
-    ∙ ap (slice_set (map occupant_of xs) i) (seeing (get_or xs i None) ∙ ap seen (sym (got_occupant xs i))))
+changed change seen seeing xs ys i is = search (rules, map-set, got_occupant)
 
 set_itself : {X : Type 0} (xs : List X) (i : ℕ) (none : X) → slice_set xs i (get_or xs i none) ≡ xs
 set_itself [] i none = refl
@@ -140,18 +113,11 @@ unchanged change seeing xs ys i is = changed change (λ o. o) seeing xs ys i is 
 -- one change after the other
 pub changed_twice : (change also : Option OccupantEntry → Option OccupantEntry) (xs ys zs : List (Option OccupantEntry)) (i : ℕ) → i < length xs → ys ≡ slice_set xs i (change (get_or xs i None))
     → zs ≡ slice_set ys i (also (get_or ys i None)) → zs ≡ slice_set xs i (also (change (get_or xs i None)))
-changed_twice change also xs ys zs i less first second =
-    let v : Option OccupantEntry = change (get_or xs i None) in
-    let at_it : get_or ys i None ≡ v = ap (λ (z : List (Option OccupantEntry)). get_or z i None) first ∙ get_or-set_same xs i v None less in
-    second ∙ (ap (λ (o : Option OccupantEntry). slice_set ys i (also o)) at_it ∙ (ap (λ (z : List (Option OccupantEntry)). slice_set z i (also v)) first ∙ set_set xs i v (also v)))
+changed_twice change also xs ys zs i less first second = search (rules, get_or-set_same, set_set)
 
 settled_as : (y : Option OccupantEntry) (n : ℕ) → ((t : OccupantEntry) → y ≡ Some t → t.tickets ≡ n) → occupant_of (settles y) ≡ stays_occupant (occupant_of y) n
 settled_as None n same = refl
-settled_as (Some g) n same = go g.live (g.tickets == 0) ∙ ap (λ (z : ℕ). cond g.live (occupant_of (Some g)) (cond (z == 0) None (occupant_of (Some g)))) (same g refl) where
-  go : (a b : Bool) → occupant_of (cond a (Some g) (cond b None (Some g))) ≡ cond a (occupant_of (Some g)) (cond b None (occupant_of (Some g)))
-  go true b = refl
-  go false true = refl
-  go false false = refl
+settled_as (Some g) n same = search rules
 
 -- and the place may be free then
 pub settled_after : (change : Option OccupantEntry → Option OccupantEntry) (seen : Option Occupant → Option Occupant) (count : ℕ → ℕ) → IsSeenAs change seen → Changes change count → (xs ys zs : List (Option OccupantEntry)) (i n : ℕ)
@@ -163,8 +129,7 @@ settled_after change seen count seeing so xs ys zs i n less first second mine =
     let row : get_or xs i None ≡ there.0 = get_or_is xs i there.0 None there.1 in
     let v : Option OccupantEntry = change (get_or xs i None) in
     let at_it : get_or ys i None ≡ v = ap (λ (z : List (Option OccupantEntry)). get_or z i None) first ∙ get_or-set_same xs i v None less in
-    let tickets : (t : OccupantEntry) → get_or ys i None ≡ Some t → t.tickets ≡ n = λ t is.
-    (let k = so (get_or xs i None) t (sym at_it ∙ is) in k.3 ∙ mine k.0 (there.1 ∙ ap Some (sym row ∙ k.1))) in
+    let tickets : (t : OccupantEntry) → get_or ys i None ≡ Some t → t.tickets ≡ n = search rules in
     ap (map occupant_of) second ∙ (map-set occupant_of ys i (settles (get_or ys i None))
     ∙ ap (slice_set (map occupant_of ys) i) (settled_as (get_or ys i None) n tickets ∙ ap (λ (o : Option Occupant). stays_occupant o n) (sym (got_occupant ys i))))
 

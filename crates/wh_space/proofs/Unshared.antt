@@ -1,20 +1,20 @@
 -- A page on a frame that is shared and has no entry, when it is offered.
-use Rattle.std.proofs.Common.{◌≡◌, ◌≢◌, ℕ, ◌+◌, ◌-◌, ◌<◌, ◌≤◌, ◌^◌, cond, nat_lt, inl, inr, List, [], ◌∷◌, Option, Some, length, get_or, slice_get, slice_set, suc, refl, sym, ap, ◌∙◌, subst, arith}
+use Rattle.std.proofs.Common.{◌≡◌, ◌≢◌, ℕ, ◌+◌, ◌-◌, ◌<◌, ◌≤◌, ◌^◌, cond, nat_lt, List, [], ◌∷◌, Option, Some, length, get_or, slice_get, slice_set, suc, refl, sym, ◌∙◌, subst, arith, rules}
 use Rattle.wh_content.specs.Marks.{IsOnlyWith}
 use Rattle.wh_space_model.specs.{IsTaken, tally, fewer_sharers, one_fewer, FindsShared, MayBeListed, gone_from, Occupant, Space, of_occupant, sharers, HasHash, HasTable, IsSound, Names, count, page_at, shares}
 use Rattle.wh_space_model.specs.declared.states.Mark.{Mark}
 use Rattle.wh_space_model.specs.declared.states.Mark.TheVariants.{Plain, Sharers, Unlisted}
 use Rattle.wh_space_model.specs.declared.states.Page.{Page}
 use Rattle.wh_space_model.specs.declared.states.Page.TheVariants.{Untouched, Private, Shared, Leaving, LeavingShared, Coming, Swapped}
-use Rattle.wh_space_model.proofs.Tally.{one_same, one_other}
+use Rattle.wh_space_model.proofs.Tally.{one_same}
 use Rattle.wh_space_model.proofs.Evicted.{hash_before}
 use Rattle.wh_space_model.proofs.Listed.{gone_sound}
-use Rattle.wh_space_model.proofs.Putting.{get_pages, here_or, is_page}
+use Rattle.wh_space_model.proofs.Putting.{get_pages, is_page}
 use Rattle.wh_space_model.proofs.Reading.{taken_under}
 use Rattle.wh_space_model.proofs.Steady.{untouched_soundly}
 use Rattle.wh_space.specs.Listing.{zeros_left}
 use Rattle.wh_space.specs.Merges.{HasFewPages}
-use Rattle.wh_space.proofs.Merges.{one_most, table_most}
+use Rattle.wh_space.proofs.Merges.{table_most}
 use Rattle.wh_space.proofs.Moving.{fewer_is}
 
 -- a page that shares a frame
@@ -38,8 +38,7 @@ none_has marks f hash none = λ other has. absurd (none other has)
 -- the entries when a page has left the frame
 pub left_marks : (s : Space) (f n : ℕ) (new : List Mark) → IsSound s → f < length s.marks → slice_get s.marks f ≡ Some (Unlisted n) → new ≡ slice_set s.marks f (cond (nat_lt 1 n) (fewer_sharers 1 (get_or s.marks f Plain)) Plain)
     → new ≡ slice_set s.marks f (cond (nat_lt 1 (sharers s f)) (one_fewer (slice_get s.marks f)) Plain)
-left_marks s f n new sound within is e =
-    subst (λ z. new ≡ slice_set s.marks f (cond (nat_lt 1 z) (fewer_sharers 1 (get_or s.marks f Plain)) Plain)) (as_many s f n sound is) e ∙ ap (slice_set s.marks f) (fewer_is s f sound.frames within)
+left_marks s f n new sound within is e = search (rules, as_many, fewer_is)
 
 pub zeros_sound : (s : Space) (i p f n : ℕ) → IsSound s → MayBeListed s i p f n → IsSound (zeros_left s i p f)
 zeros_sound s i p f n sound may = untouched_soundly (gone_from s i p f Untouched) i p (gone_sound s i p f n sound may)
@@ -53,15 +52,9 @@ only_left s f g hash m sound within found = λ other has. sound.frames.apart oth
 two_most : (f g : ℕ) (x : Page) → f ≢ g → shares f x + shares g x ≤ 1
 two_most f g Untouched apart = omega arith
 two_most f g (Private h) apart = omega arith
-two_most f g (Shared h) apart = elim (here_or h f) [
-  | inl same ↦ (let a = one_other g h (λ e. apart (same ∙ sym e)) in let b = one_most f h in omega (arith, a, b))
-  | inr other ↦ (let a = one_other f h other in let b = one_most g h in omega (arith, a, b))
-]
+two_most f g (Shared h) apart = search rules
 two_most f g (Leaving h) apart = omega arith
-two_most f g (LeavingShared h) apart = elim (here_or h f) [
-  | inl same ↦ (let a = one_other g h (λ e. apart (same ∙ sym e)) in let b = one_most f h in omega (arith, a, b))
-  | inr other ↦ (let a = one_other f h other in let b = one_most g h in omega (arith, a, b))
-]
+two_most f g (LeavingShared h) apart = search rules
 two_most f g (Coming k) apart = omega arith
 two_most f g (Swapped k) apart = omega arith
 
@@ -83,10 +76,7 @@ pub few_elsewhere : (s : Space) (i p f n g hash m : ℕ) → IsSound s → HasFe
 few_elsewhere s i p f n g hash m sound few may found =
     let apart : f ≢ g = λ e. (let both : Some (Unlisted n) ≡ Some (Sharers hash m) = sym may.1 ∙ subst (λ z. slice_get s.marks z ≡ Some (Sharers hash m)) (sym e) found in cc both) in
     let names : Names s g (Some (Sharers hash m)) = subst (Names s g) found (sound.frames.names g) in
-    let is = names.0 in
-    let one = get_pages (shares f) s.tables i p (Shared f) may.0 in
-    let o = one_same f f refl in
     let most = two_all f g s.occupants s.tables apart sound.occupants.tables sound.occupants.have in
     let frames = sound.admissible.0 in
     let slots = sound.admissible.1 in
-    omega (arith, few, is, one, o, most, frames, slots)
+    omega (arith, few, names.0, get_pages (shares f) s.tables i p (Shared f) may.0, one_same f f refl, most, frames, slots)

@@ -1,11 +1,11 @@
 -- The ticket with which a page was leaving that is written.
-use Rattle.std.proofs.Common.{◌≡◌, ◌<◌, ℕ, inl, inr, List, [], ◌∷◌, Option, Some, None, IfSome, length, get_or, map, slice_get, slice_set, zero, suc, refl, sym, ◌∙◌, ap, subst, arith}
-use Rattle.wh_space_model.specs.{tally, voided, ticket_of, Occupant, Space, IsUsed, LeavesBy, SlotsAreSound, at, leaving, page_at}
+use Rattle.std.proofs.Common.{◌≡◌, ◌<◌, ℕ, List, [], ◌∷◌, Option, Some, None, IfSome, length, get_or, map, slice_get, slice_set, zero, suc, refl, sym, ◌∙◌, ap, subst, rules}
+use Rattle.wh_space_model.specs.{tally, voided, ticket_of, Occupant, Space, LeavesBy, SlotsAreSound, leaving, page_at}
 use Rattle.wh_space_model.specs.declared.states.Page.{Page}
 use Rattle.wh_space_model.specs.declared.states.Page.TheVariants.{Untouched, Private, Shared, Leaving, LeavingShared, Coming, Swapped}
 use Rattle.wh_space_model.specs.declared.states.Slot.{Slot}
 use Rattle.wh_space_model.specs.declared.states.Slot.TheVariants.{Vacant, Evicting, EvictVoid}
-use Rattle.wh_space_model.proofs.Breaking.{void_case, void_same}
+use Rattle.wh_space_model.proofs.Breaking.{void_same}
 use Rattle.wh_space_model.proofs.Putting.{get_or_is, there_of}
 use Rattle.wh_space.specs.declared.occupant_entry.OccupantEntry.{OccupantEntry}
 use Rattle.wh_space.specs.declared.memory.Memory.TheInside.{Inside}
@@ -17,11 +17,7 @@ use Rattle.wh_space.specs.Slotting.{leaver_of, void_use, voids_leaver, voids_slo
 pub leaver_is : (occupant_entries : List (Option OccupantEntry)) (i : ℕ) (t : Occupant) → slice_get (map occupant_of occupant_entries) i ≡ Some (Some t) → leaver_of (get_or occupant_entries i None) ≡ t.leaves
 leaver_is [] i t is = absurd (cc is)
 leaver_is (None ∷ occupant_entries) zero t is = absurd (cc is)
-leaver_is (Some g ∷ occupant_entries) zero t is = ap leaves is where
-  leaves : Option (Option Occupant) → Option ℕ
-  leaves None = None
-  leaves (Some None) = None
-  leaves (Some (Some t)) = t.leaves
+leaver_is (Some g ∷ occupant_entries) zero t is = search rules
 leaver_is (x ∷ occupant_entries) (suc i) t is = leaver_is occupant_entries i t is
 
 pub leaver_there : (occupant_entries : List (Option OccupantEntry)) (i k : ℕ) → leaver_of (get_or occupant_entries i None) ≡ Some k → (t : Occupant) × (slice_get (map occupant_of occupant_entries) i ≡ Some (Some t)) × (t.leaves ≡ Some k)
@@ -32,10 +28,7 @@ leaver_there (x ∷ occupant_entries) (suc i) k is = leaver_there occupant_entri
 
 -- the slot is there
 used_within : (uses : List Slot) (i k : ℕ) → LeavesBy i (slice_get uses k) → k < length uses
-used_within uses i k by = go (slice_get uses k) refl by where
-  go : (o : Option Slot) → slice_get uses k ≡ o → LeavesBy i o → k < length uses
-  go None is by = absurd by
-  go (Some x) is by = there_of uses k x is
+used_within uses i k by = search (rules, there_of)
 
 pub leaver_within : (a : Inside) (i : ℕ) (o : Option ℕ) → SlotsAreSound (space_of a) → o ≡ leaver_of (get_or a.occupant_entries.items i None) → IfSome o (λ k. k < length a.slots.uses)
 leaver_within a i None sound is = tt
@@ -46,16 +39,10 @@ leaver_within a i (Some k) sound is =
 -- ---- uses of slots when it is void
 
 head_is : (x : Slot) (i p : ℕ) → Some x ≡ Some (Evicting i p) → voided i (p ∷ []) x ≡ EvictVoid i
-head_is x i p is = elim (void_case i p x) [
-  | inl (same, now) ↦ now
-  | inr (other, now) ↦ absurd (other (let e : x ≡ Evicting i p = cc in e))
-]
+head_is x i p is = search rules
 
 head_stays : (x : Slot) (i p : ℕ) → (Some x ≡ Some (Evicting i p) → ⊥) → voided i (p ∷ []) x ≡ x
-head_stays x i p never = elim (void_case i p x) [
-  | inl (same, now) ↦ absurd (never (ap Some same))
-  | inr (other, now) ↦ now
-]
+head_stays x i p never = search rules
 
 void_none : (uses : List Slot) (i p : ℕ) → ((m : ℕ) → slice_get uses m ≡ Some (Evicting i p) → ⊥) → map (voided i (p ∷ [])) uses ≡ uses
 void_none [] i p never = refl
@@ -79,11 +66,7 @@ void_at (x ∷ uses) (suc k) i p is one =
 
 stays_so : (s : Space) (i p : ℕ) (y : Page) → SlotsAreSound s → page_at s.tables i p ≡ Some y → leaving y ≡ 0 → s.slots ≡ record s.slots { uses = map (voided i (p ∷ [])) s.slots.uses }
 stays_so s i p y sound there none =
-    let never : (m : ℕ) → slice_get s.slots.uses m ≡ Some (Evicting i p) → ⊥ = λ m is.
-    (let used : IsUsed s m (Some (Evicting i p)) = subst (IsUsed s m) is (sound.used m) in
-    let one = used.3 in
-    let zero_at : at leaving (page_at s.tables i p) ≡ 0 = rw there none in
-    omega arith) in
+    let never : (m : ℕ) → slice_get s.slots.uses m ≡ Some (Evicting i p) → ⊥ = search rules in
     ap (λ (u : List Slot). record s.slots { uses = u }) (sym (void_none s.slots.uses i p never))
 
 is_void : (a : Inside) (i p : ℕ) (y : Page) → SlotsAreSound (space_of a) → page_at a.tables.pages i p ≡ Some y → leaving y ≡ 1

@@ -45,16 +45,12 @@ no_copies n few = grind (arith, nat_tests)
 pub wants_copy : (s : Space) (i p f : ℕ) (x : Page) → IsSound s → page_at s.tables i p ≡ Some x → frame_shared x ≡ Some f → 1 < sharers s f → frames_for s i (p ∷ []) ≡ 1
 unfolding single
 wants_copy s i p f x sound there shared more =
-    let one = one_page s i p x sound there in
-    let zeros = (shares_frame x f shared).1 in
-    one ∙ (let e = some_copies (sharers s f) more in rw (zeros, shared, e) refl)
+    (one_page s i p x sound there) ∙ (let e = some_copies (sharers s f) more in rw ((shares_frame x f shared).1, shared, e) refl)
 
 pub wants_none_of : (s : Space) (i p f : ℕ) (x : Page) → IsSound s → page_at s.tables i p ≡ Some x → frame_shared x ≡ Some f → sharers s f ≤ 1 → frames_for s i (p ∷ []) ≡ 0
 unfolding single
 wants_none_of s i p f x sound there shared few =
-    let one = one_page s i p x sound there in
-    let zeros = (shares_frame x f shared).1 in
-    one ∙ (let e = no_copies (sharers s f) few in rw (zeros, shared, e) refl)
+    (one_page s i p x sound there) ∙ (let e = no_copies (sharers s f) few in rw ((shares_frame x f shared).1, shared, e) refl)
 
 pub wants_zeros : (s : Space) (i p : ℕ) → IsSound s → page_at s.tables i p ≡ Some Untouched → frames_for s i (p ∷ []) ≡ 1
 unfolding single

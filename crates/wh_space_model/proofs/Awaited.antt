@@ -1,9 +1,9 @@
 -- A fetch that begins, and one that ends, leave everything sound.
-use Rattle.std.proofs.Common.{◌≡◌, ◌≢◌, ℕ, ◌+◌, ◌≤◌, ◌++◌, ◌==◌, inl, inr, cond, true, false, Bool, List, [], ◌∷◌, Option, Some, None, length, slice_get, get_or, refl, sym, ap, ◌∙◌, subst, arith, length-set, length-append}
-use Rattle.wh_space_model.specs.{tally, one_if, BeginsFetchSoundly, IsSound, IsUsed, LeavesBy, Pins, Space, kept, kept_by, pinned_by, sharers, at, comes_from, count, leaving, lies_in, owns, page_at, resident, shares, fetches_into, ticket_of, sent_for}
+use Rattle.std.proofs.Common.{◌≡◌, ◌≢◌, ℕ, ◌+◌, ◌≤◌, ◌++◌, ◌==◌, inl, inr, cond, true, false, Bool, List, [], ◌∷◌, Option, Some, None, length, slice_get, get_or, refl, sym, ap, ◌∙◌, subst, arith, length-set, length-append, rules}
+use Rattle.wh_space_model.specs.{tally, one_if, BeginsFetchSoundly, IsSound, IsUsed, Pins, Space, kept, kept_by, sharers, comes_from, count, leaving, lies_in, owns, page_at, shares, fetches_into, ticket_of, sent_for}
 use Rattle.wh_space_model.proofs.Tally.{one_same, one_other, tally-append}
 use Rattle.wh_space_model.specs.declared.states.Page.TheVariants.{Coming, Swapped}
-use Rattle.wh_space_model.specs.declared.states.Slot.TheVariants.{Taken, Evicting, Fetching, FetchVoid}
+use Rattle.wh_space_model.specs.declared.states.Slot.TheVariants.{Taken, Fetching}
 use Rattle.wh_space_model.proofs.Begun.{at_same}
 use Rattle.wh_space_model.proofs.Evicted.{has_still, names_other, other_value, row_length, used_other}
 use Rattle.wh_space_model.proofs.Putting.{here_or, pinned_here, pinned_other, put_this, set_other, set_same, there_of}
@@ -58,23 +58,10 @@ is_sound_sent_for s i p f k others sound there list =
               (λ a b is. other_value s.tables i p a b (Swapped k) (Coming k) (Coming h) there (λ e. (let bad : Swapped k ≡ Coming h = e in cc)) is)
               (sound.slots.used h)))
         ];
-        by_one = λ j h by. elim (here_or k h) [
-          | inl same ↦ absurd (subst (LeavesBy j) here (subst (λ q. LeavesBy j (slice_get s2.slots.uses q)) same by))
-          | inr other ↦ sound.slots.by_one j h (subst (LeavesBy j) (away h (λ e. other e)) by)
-        ];
-        by_this = λ j h t is at_it. (let by = sound.slots.by_this j h t is at_it in elim (here_or k h) [
-          | inl same ↦ absurd (subst (LeavesBy j) taken (subst (λ q. LeavesBy j (slice_get s.slots.uses q)) same by))
-          | inr other ↦ subst (LeavesBy j) (sym (away h (λ e. other e))) by
-        ]);
-        leaving = λ j q is. (let found = sound.slots.leaving j q (sym (at_same leaving s.tables i p j q (Swapped k) (Coming k) there refl) ∙ is) in
-            elim (here_or k found.0) [
-              | inl same ↦ absurd (let e : slice_get s.slots.uses k ≡ Some (Evicting j q) = subst (λ z. slice_get s.slots.uses z ≡ Some (Evicting j q)) same found.1 in let bad : Some Taken ≡ Some (Evicting j q) = sym taken ∙ e in cc)
-              | inr other ↦ (found.0, away found.0 (λ e. other e) ∙ found.1)
-            ]);
-        voids = λ j h g is. elim (here_or k h) [
-          | inl same ↦ absurd (let e : slice_get s2.slots.uses k ≡ Some (FetchVoid j g) = subst (λ z. slice_get s2.slots.uses z ≡ Some (FetchVoid j g)) same is in let bad : Some (Fetching i p f) ≡ Some (FetchVoid j g) = sym here ∙ e in cc)
-          | inr other ↦ sound.slots.voids j h g (sym (away h (λ e. other e)) ∙ is)
-        ];
+        by_one = search (rules, here_or);
+        by_this = search (rules, here_or);
+        leaving = search (rules, at_same, here_or);
+        voids = search (rules, here_or);
         held = sound.slots.held ∙ sym (length-set s.slots.uses k (Fetching i p f));
         whole = λ h some. sound.slots.whole h (let a = lies h in let b = comes h in omega arith);
       };
@@ -87,16 +74,7 @@ is_sound_sent_for s i p f k others sound there list =
         released = λ j t is gone. (let a = sound.occupants.released j t is gone in let e = set_tally (ticket_of j) s.slots.uses k Taken (Fetching i p f) taken in omega arith);
         needs = λ j t need is at_it. (let n = sound.occupants.needs j t need is at_it in let l = row_length s.tables i p (Coming k) j in (n.0, omega (arith, n.1, l), n.2));
       };
-      pins = record {
-        few = (let a = ap length all in let b = length-append others (f ∷ []) in let l = sound.pins.few in omega arith);
-        there = λ j q some. elim (here_or i j) [
-          | inr apart ↦ absurd (let z = pinned_other i j q (pinned_by s.pins i) others apart in omega arith)
-          | inl same ↦
-              (let some2 : 1 ≤ tally (one_if q) (pinned_by s.pins i) = subst (λ z. 1 ≤ tally (one_if q) z) (pinned_here i (pinned_by s.pins i) others) (subst (λ z. 1 ≤ tally (one_if q) (pinned_by s2.pins z)) same some) in
-              subst (λ z. at resident (page_at s2.tables z q) ≡ 1) (sym same) (at_same resident s.tables i p i q (Swapped k) (Coming k) there refl ∙ sound.pins.there i q some2))
-        ];
-        of = λ pins is. mine_live s i (pinned_by s.pins i) others (page_is_live s i p (Swapped k) sound.occupants there) pins is;
-      };
+      pins = search (rules, length-append, here_or, pinned_other, pinned_here, at_same, mine_live, page_is_live);
       admissible = (sound.admissible.0, (let e = length-set s.slots.uses k (Fetching i p f) in let b = sound.admissible.1 in omega arith));
     }
 

@@ -1,5 +1,5 @@
 -- A page that begins to leave leaves everything sound.
-use Rattle.std.proofs.Common.{◌≡◌, ◌≢◌, ℕ, ◌+◌, ◌-◌, ◌++◌, ◌⊎◌, inl, inr, List, [], ◌∷◌, Some, None, slice_get, get_or, refl, sym, ap, ◌∙◌, subst, arith, length-set}
+use Rattle.std.proofs.Common.{◌≡◌, ◌≢◌, ℕ, ◌+◌, ◌-◌, ◌++◌, ◌⊎◌, inl, inr, List, [], ◌∷◌, Some, None, slice_get, get_or, refl, sym, ap, ◌∙◌, subst, arith, length-set, rules}
 use Rattle.wh_space_model.specs.{tally, one_if, CanLeave, fetches_into, ticket_of, Space, Occupant, occupant_at, sharers, of_occupant, IsSound, FramesAreSound, SlotsAreSound, OccupantsAreSound, IsUsed, LeavesBy, HasTable, at, page_at, put, owns, shares, lies_in, comes_from, resident, leaving, count, departing, as_leaving}
 use Rattle.wh_space_model.proofs.Tally.{one_same, one_other, tally-append}
 use Rattle.wh_space_model.specs.declared.states.Page.{Page}
@@ -22,22 +22,10 @@ kinds (Swapped k) new n e = absurd e
 
 pub at_put : (w : Page → ℕ) (t : List (List Page)) (j p i q : ℕ) (x y : Page) → page_at t j p ≡ Some x
     → (((i ≡ j) × (q ≡ p) × (at w (page_at (put t j p y) i q) ≡ w y)) ⊎ (page_at (put t j p y) i q ≡ page_at t i q))
-at_put w t j p i q x y there =
-    elim (here_or j i) [
-      | inr away ↦ inr (ap (λ xs. slice_get xs q) (put_other_row t j p i y away))
-      | inl same ↦
-          elim (here_or p q) [
-            | inr other ↦ inr (subst (λ z. page_at (put t j p y) z q ≡ page_at t z q) (sym same) (put_other t j p q y other))
-            | inl here ↦ inl (same, here, ap (at w) (subst (λ z. page_at (put t j p y) z q ≡ Some y) (sym same) (subst (λ z. page_at (put t j p y) j z ≡ Some y) (sym here) (put_this t j p x y there))))
-          ]
-    ]
+at_put w t j p i q x y there = search (rules, here_or, put_other_row, put_other, put_this)
 
 pub at_same : (w : Page → ℕ) (t : List (List Page)) (j p i q : ℕ) (x y : Page) → page_at t j p ≡ Some x → w y ≡ w x → at w (page_at (put t j p y) i q) ≡ at w (page_at t i q)
-at_same w t j p i q x y there same =
-    elim (at_put w t j p i q x y there) [
-      | inr e ↦ ap (at w) e
-      | inl found ↦ found.2 ∙ (same ∙ sym (ap (at w) (subst (λ z. page_at t z q ≡ Some x) (sym found.0) (subst (λ z. page_at t j z ≡ Some x) (sym found.1) there))))
-    ]
+at_same w t j p i q x y there same = search (rules, at_put)
 
 pub frames_begun : (s : Space) (j p k : ℕ) (others : List ℕ) (old new : Page) → FramesAreSound s → page_at s.tables j p ≡ Some old → as_leaving old new → slice_get s.slots.uses k ≡ Some Vacant → FramesAreSound (departing s j p k others new)
 frames_begun s j p k others old new sound there as_it vacant =
@@ -57,9 +45,7 @@ frames_begun s j p k others old new sound there as_it vacant =
 
 -- the tenant whose page leaves, and all others
 occupant_now : (s : Space) (j p k : ℕ) (others : List ℕ) (new : Page) (t : Occupant) → occupant_at s j t → occupant_at (departing s j p k others new) j (record t { leaves = Some k })
-occupant_now s j p k others new t is =
-    let e = get_or_is s.occupants j (Some t) None is in
-    rw e (set_same s.occupants j (Some (record t { leaves = Some k })) (there_of s.occupants j (Some t) is))
+occupant_now s j p k others new t is = search (rules, get_or_is, set_same, there_of)
 
 occupant_away : (s : Space) (j p k : ℕ) (others : List ℕ) (new : Page) (i : ℕ) → i ≢ j → slice_get (departing s j p k others new).occupants i ≡ slice_get s.occupants i
 occupant_away s j p k others new i other = set_other s.occupants j i _ other
@@ -83,13 +69,7 @@ slots_begun s j p k others old new sound leaves there as_it list =
             (let dk = kinds old new k as_it in let ak = lies k in let bk = comes k in let ck = split k in let o = one_same k k refl in
             let is : IsUsed s2 k (Some (Evicting j p)) = (omega (arith, ak, dk.2, was.0), omega (arith, bk, dk.3, was.1), omega (arith, ck, o, was.2), now) in
             subst (λ q. IsUsed s2 q (slice_get s2.slots.uses q)) (sym same) (subst (IsUsed s2 k) (sym here) is))
-        | inr other ↦
-            (let o = one_other h k other in
-            subst (IsUsed s2 h) (sym (away h (λ e. other e)))
-            (used_other s s2 h (slice_get s.slots.uses h) (omega (arith, a, d.2)) (omega (arith, b, d.3)) (omega (arith, c, o))
-            (λ i q is. elim (at_put leaving s.tables j p i q old new there) [ inl found ↦ found.2 ∙ d.5 | inr e ↦ ap (at leaving) e ∙ is ])
-            (λ i q is. other_value s.tables j p i q old new (Coming h) there d.6 is)
-            (sound.used h)))
+        | inr other ↦ search (rules, one_other, used_other, at_put, other_value)
       ]);
       by_one = λ i h by. elim (here_or k h) [
         | inl same ↦
@@ -118,15 +98,7 @@ slots_begun s j p k others old new sound leaves there as_it list =
               | inr other ↦ subst (LeavesBy i) (sym (away h (λ e. other e))) by
             ])
       ];
-      leaving = λ i q is. elim (at_put leaving s.tables j p i q old new there) [
-        | inl found ↦ (k, here ∙ ap Some (ap (λ a. Evicting a p) (sym found.0) ∙ ap (λ a. Evicting i a) (sym found.1)))
-        | inr e ↦
-            (let found = sound.leaving i q (sym (ap (at leaving) e) ∙ is) in
-            elim (here_or k found.0) [
-              | inl same ↦ absurd (let a : slice_get s.slots.uses k ≡ Some (Evicting i q) = subst (λ z. slice_get s.slots.uses z ≡ Some (Evicting i q)) same found.1 in let bad : Some Vacant ≡ Some (Evicting i q) = sym vacant ∙ a in cc)
-              | inr other ↦ (found.0, away found.0 (λ a. other a) ∙ found.1)
-            ])
-      ];
+      leaving = search (rules, at_put, here_or);
       voids = λ i h g is. elim (here_or k h) [
         | inl same ↦ absurd (let a : slice_get s2.slots.uses k ≡ Some (FetchVoid i g) = subst (λ z. slice_get s2.slots.uses z ≡ Some (FetchVoid i g)) same is in let bad : Some (Evicting j p) ≡ Some (FetchVoid i g) = sym here ∙ a in cc)
         | inr other ↦

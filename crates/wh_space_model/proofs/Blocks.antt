@@ -1,22 +1,15 @@
 -- Bytes that are written over a list of blocks of 4096.
-use Rattle.std.proofs.Common.{◌≡◌, ℕ, ◌+◌, ◌*◌, ◌≤◌, ◌++◌, List, [], ◌∷◌, Some, length, take, drop, slice_get, slice_set, zero, suc, refl, sym, ap, ◌∙◌, arith, length-append, append_assoc}
+use Rattle.std.proofs.Common.{◌≡◌, ℕ, ◌+◌, ◌*◌, ◌≤◌, ◌++◌, List, [], ◌∷◌, Some, length, take, drop, slice_get, slice_set, zero, suc, refl, sym, ap, ◌∙◌, arith, length-append, append_assoc, rules}
 use Rattle.std.proofs.Math.Seq.{take-append-add, drop-append-add}
 use Rattle.std.proofs.lemmas.List.{take-append-le, drop-append-le, drop-drop, length-take-le}
 use Rattle.wh_model.specs.Execution.{written}
 use Rattle.wh_space_model.specs.{joined}
 
 pub written_before : (x y : List ℕ) (k : ℕ) (g : List ℕ) → k + length g ≤ length x → written (x ++ y) k g ≡ written x k g ++ y
-written_before x y k g fits =
-    let a = take-append-le k x y (omega arith) in
-    let b = drop-append-le (k + length g) x y fits in
-    rw (a, b) (ap (λ z. take k x ++ z) (sym (append_assoc g (drop (k + length g) x) y)) ∙ sym (append_assoc (take k x) (g ++ drop (k + length g) x) y))
+written_before x y k g fits = search (rules, take-append-le, drop-append-le, append_assoc)
 
 pub written_after : (x y : List ℕ) (k : ℕ) (g : List ℕ) → written (x ++ y) (length x + k) g ≡ x ++ written y k g
-written_after x y k g =
-    let e : (length x + k) + length g ≡ length x + (k + length g) = omega arith in
-    let a = take-append-add x y k in
-    let b = drop-append-add x y (k + length g) in
-    rw (e, a, b) (append_assoc x (take k y) (g ++ drop (k + length g) y))
+written_after x y k g = search (rules, take-append-add, drop-append-add, append_assoc)
 
 -- in one block
 pub written_block : (xss : List (List ℕ)) → ((q : ℕ) (x : List ℕ) → slice_get xss q ≡ Some x → length x ≡ 4096) → (p : ℕ) (x : List ℕ) → slice_get xss p ≡ Some x → (r : ℕ) (g : List ℕ) → r + length g ≤ 4096
@@ -56,6 +49,5 @@ written_parts xs k a b fits =
     let zero_b : 0 + length b ≡ length b = omega arith in
     let last : written d 0 b ≡ b ++ drop (length b) d = rw zero_b refl in
     let twice : drop (length b) d ≡ drop ((k + length a) + length b) xs = drop-drop (length b) (k + length a) xs in
-    let now : written (u ++ (a ++ d)) (k + length a) b ≡ (u ++ a) ++ (b ++ drop ((k + length a) + length b) xs) =
-    ap (λ z. written z (k + length a) b) all ∙ (ap (λ z. written ((u ++ a) ++ d) z b) place ∙ (after ∙ (ap (λ z. (u ++ a) ++ z) last ∙ ap (λ z. (u ++ a) ++ (b ++ z)) twice))) in
+    let now : written (u ++ (a ++ d)) (k + length a) b ≡ (u ++ a) ++ (b ++ drop ((k + length a) + length b) xs) = search rules in
     rw e (sym (now ∙ (append_assoc u a (b ++ drop ((k + length a) + length b) xs) ∙ ap (λ z. u ++ z) (sym (append_assoc a b (drop ((k + length a) + length b) xs))))))

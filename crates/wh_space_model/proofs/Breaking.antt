@@ -1,8 +1,7 @@
 -- A page that is unshared leaves everything sound.
-use Rattle.std.proofs.Common.{◌≡◌, ◌≢◌, ℕ, ◌≤◌, ◌⊎◌, inl, inr, map, true, List, [], ◌∷◌, Option, Some, None, length, slice_get, get_or, zero, suc, refl, sym, ap, ◌∙◌, subst, arith, length-set}
+use Rattle.std.proofs.Common.{◌≡◌, ◌≢◌, ℕ, ◌≤◌, ◌⊎◌, inl, inr, map, true, List, [], ◌∷◌, Option, Some, None, length, slice_get, get_or, zero, suc, refl, sym, ap, ◌∙◌, subst, arith, length-set, rules}
 use Rattle.std.proofs.lemmas.List.{length-map}
-use Rattle.wh_space_model.specs.{Pool, tally, one_if, ticket_of, Space, Pins, kept, pinned_by, IsSound, FramesAreSound, SlotsAreSound, IsUsed, LeavesBy, at, page_at, put, lies_in, comes_from, resident, leaving, count, voided}
-use Rattle.wh_space_model.proofs.Tally.{one_same, one_other}
+use Rattle.wh_space_model.specs.{Pool, tally, one_if, ticket_of, Space, Pins, kept, pinned_by, IsSound, FramesAreSound, SlotsAreSound, IsUsed, LeavesBy, page_at, put, lies_in, comes_from, leaving, count, voided}
 use Rattle.wh_space_model.specs.declared.states.Page.{Page}
 use Rattle.wh_space_model.specs.declared.states.Page.TheVariants.{Private, Coming}
 use Rattle.wh_space_model.specs.declared.states.Mark.{Mark}
@@ -21,15 +20,7 @@ void_case i p Taken = inr (λ e. (let bad : Taken ≡ Evicting i p = e in cc), r
 void_case i p (EvictVoid j) = inr (λ e. (let bad : EvictVoid j ≡ Evicting i p = e in cc), refl)
 void_case i p (Fetching j q f) = inr (λ e. (let bad : Fetching j q f ≡ Evicting i p = e in cc), refl)
 void_case i p (FetchVoid j f) = inr (λ e. (let bad : FetchVoid j f ≡ Evicting i p = e in cc), refl)
-void_case i p (Evicting j q) =
-    elim (here_or i j) [
-      | inr other ↦ (let o = one_other i j (λ e. other (sym e)) in inr (λ e. (let k : j ≡ i = (let all : Evicting j q ≡ Evicting i p = e in cc) in other k), rw o refl))
-      | inl same ↦ elim (here_or p q) [
-        | inr other ↦ (let o = one_other q p other in let here = one_same i j (sym same) in
-            inr (λ e. (let k : q ≡ p = (let all : Evicting j q ≡ Evicting i p = e in cc) in other k), rw (here, o) refl))
-        | inl here ↦ inl (rw (same, here) refl, (let o = one_same q p here in let k = one_same i j (sym same) in rw (k, o) (ap EvictVoid same)))
-      ]
-    ]
+void_case i p (Evicting j q) = search rules
 
 -- what a mapped list has, and its sums
 abbrev pub or_none : {X Y : Type 0} → (X → Y) → Option X → Option Y
@@ -50,22 +41,12 @@ void_same w i p uses same = tally_mapped w (voided i (p ∷ [])) uses (λ x. eli
 
 leaver_same : (i p j : ℕ) (x : Option Slot) → LeavesBy j (or_none (voided i (p ∷ [])) x) ≡ LeavesBy j x
 leaver_same i p j None = refl
-leaver_same i p j (Some x) = elim (void_case i p x) [
-  | inl (is, now) ↦ ap (λ z. LeavesBy j (Some z)) now ∙ sym (ap (λ z. LeavesBy j (Some z)) is)
-  | inr (other, now) ↦ ap (λ z. LeavesBy j (Some z)) now
-]
+leaver_same i p j (Some x) = search rules
 
 -- ---- another page
 
 pub elsewhere : (t : List (List Page)) (i p : ℕ) (y : Page) (j q : ℕ) → ((j ≡ i) × (q ≡ p)) ⊎ ((j ≡ i → q ≢ p) × (page_at (put t i p y) j q ≡ page_at t j q))
-elsewhere t i p y j q =
-    elim (here_or i j) [
-      | inr away ↦ inr (λ same. absurd (away same), ap (λ xs. slice_get xs q) (put_other_row t i p j y away))
-      | inl same ↦ elim (here_or p q) [
-        | inl here ↦ inl (same, here)
-        | inr other ↦ inr (λ e. other, rw same (put_other t i p q y other))
-      ]
-    ]
+elsewhere t i p y j q = search (rules, here_or, put_other_row, put_other)
 
 -- ---- the memory with page p alone on frame g, and other frames, entries and pins
 
@@ -91,24 +72,8 @@ used_still s s2 i p k Vacant a b c d e f used = (a ∙ used.0, b ∙ used.1, ap 
 used_still s s2 i p k Taken a b c d e f used = (a ∙ used.0, b ∙ used.1, ap (tally (one_if k)) c ∙ used.2)
 used_still s s2 i p k (EvictVoid j) a b c d e f used = (a ∙ used.0, b ∙ used.1, ap (tally (one_if k)) c ∙ used.2)
 used_still s s2 i p k (FetchVoid j g) a b c d e f used = (a ∙ used.0, b ∙ used.1, ap (tally (one_if k)) c ∙ used.2)
-used_still s s2 i p k (Evicting j q) a b c d e f used = (
-  a ∙ used.0,
-  b ∙ used.1,
-  ap (tally (one_if k)) c ∙ used.2,
-  elim (d j q) [
-    | inl (same, here) ↦ absurd (f (rw (same, here) refl))
-    | inr (other, is) ↦ ap (at leaving) is ∙ used.3
-  ],
-)
-used_still s s2 i p k (Fetching j q g) a b c d e f used = (
-  a ∙ used.0,
-  b ∙ used.1,
-  ap (tally (one_if k)) c ∙ used.2,
-  elim (d j q) [
-    | inl (same, here) ↦ absurd (e (subst (λ z. page_at s.tables z p ≡ Some (Coming k)) same (subst (λ z. page_at s.tables j z ≡ Some (Coming k)) here used.3)))
-    | inr (other, is) ↦ is ∙ used.3
-  ],
-)
+used_still s s2 i p k (Evicting j q) a b c d e f used = search rules
+used_still s s2 i p k (Fetching j q g) a b c d e f used = search rules
 
 option_of : {X : Type 0} (o : Option X) → (o ≡ None) ⊎ ((x : X) × (o ≡ Some x))
 option_of None = inl refl
@@ -145,27 +110,8 @@ slots_broke s i p g old pool marks pins sound there near =
       ];
       by_one = λ j k by. sound.by_one j k (subst (λ (T : Type 0). T) (leaver_same i p j (slice_get s.slots.uses k)) (subst (LeavesBy j) (uses k) by));
       by_this = λ j k t is at_it. subst (LeavesBy j) (sym (uses k)) (subst (λ (T : Type 0). T) (sym (leaver_same i p j (slice_get s.slots.uses k))) (sound.by_this j k t is at_it));
-      leaving = λ j q is. elim (elsewhere s.tables i p (Private g) j q) [
-        | inl (same, here) ↦ absurd (let e : at leaving (page_at s2.tables i p) ≡ 1 = subst (λ z. at leaving (page_at s2.tables z p) ≡ 1) same (subst (λ z. at leaving (page_at s2.tables j z) ≡ 1) here is) in
-            let z : at leaving (page_at s2.tables i p) ≡ 0 = rw now refl in omega arith)
-        | inr (other, same) ↦
-            (let found = sound.leaving j q (ap (at leaving) (sym same) ∙ is) in (
-              found.0,
-              uses found.0 ∙ (ap (or_none v) found.1 ∙ elim (void_case i p (Evicting j q)) [
-                | inl (this, void) ↦ absurd (other (let all : Evicting j q ≡ Evicting i p = this in cc) (let all : Evicting j q ≡ Evicting i p = this in cc))
-                | inr (apart, stays) ↦ ap Some stays
-              ]),
-            ))
-      ];
-      voids = λ j k f is. elim (option_of (slice_get s.slots.uses k)) [
-        | inl none ↦ absurd (let bad : None ≡ Some (FetchVoid j f) = sym (uses k ∙ ap (or_none v) none) ∙ is in cc)
-        | inr (x, at_it) ↦
-            (let e : v x ≡ FetchVoid j f = (let both : Some (v x) ≡ Some (FetchVoid j f) = sym (uses k ∙ ap (or_none v) at_it) ∙ is in cc) in
-            elim (void_case i p x) [
-              | inl (same, void) ↦ absurd (let bad : EvictVoid i ≡ FetchVoid j f = sym void ∙ e in cc)
-              | inr (other, stays) ↦ sound.voids j k f (at_it ∙ ap Some (sym stays ∙ e))
-            ])
-      ];
+      leaving = search (rules, elsewhere, void_case);
+      voids = search (rules, option_of, void_case);
       held = sound.held ∙ sym (length-map s.slots.uses v);
       whole = λ k some. sound.whole k (let a = lies k in let b = comes k in omega arith);
     }
@@ -194,13 +140,6 @@ is_sound_broke s i p g old pool marks pins sound there near many pinned frames =
         released = λ j t is gone. (let k = sound.occupants.released j t is gone in let e = void_same (ticket_of j) i p s.slots.uses refl in omega arith);
         needs = λ j t need is at_it. (let n = sound.occupants.needs j t need is at_it in let l = row_length s.tables i p (Private g) j in (n.0, omega (arith, n.1, l), n.2));
       };
-      pins = record {
-        few = (let a = sound.pins.few in let b = pinned.few in omega arith);
-        there = λ j q some. (let before = sound.pins.there j q (subst (λ z. 1 ≤ tally (one_if q) z) (pinned.pinned j) some) in elim (elsewhere s.tables i p (Private g) j q) [
-          | inl (same, here) ↦ subst (λ z. at resident (page_at s2.tables z q) ≡ 1) (sym same) (subst (λ z. at resident (page_at s2.tables i z) ≡ 1) (sym here) (rw now refl))
-          | inr (other, same) ↦ ap (at resident) same ∙ before
-        ]);
-        of = λ x is. (let y = pinned.of x is in let found = sound.pins.of y.0 y.1 in (found.0, subst (λ z. slice_get s.occupants z ≡ Some (Some found.0)) y.2 found.1, found.2));
-      };
+      pins = search (rules, elsewhere);
       admissible = ((let b = sound.admissible.0 in omega arith), (let e = length-map s.slots.uses (voided i (p ∷ [])) in let b = sound.admissible.1 in omega arith));
     }

@@ -1,8 +1,7 @@
 -- Each frame has its one use still where a page is unshared.
-use Rattle.std.proofs.Common.{◌≡◌, ℕ, ◌+◌, ◌-◌, ◌≤◌, inl, inr, cond, nat_lt, true, false, Bool, List, [], Option, Some, length, slice_get, get_or, refl, sym, ap, ◌∙◌, subst, arith}
-use Rattle.std.proofs.lemmas.Bool.Decides.{nat_tests}
+use Rattle.std.proofs.Common.{◌≡◌, ℕ, ◌+◌, ◌-◌, ◌≤◌, inl, inr, List, [], Option, Some, length, slice_get, get_or, refl, sym, ap, ◌∙◌, subst, arith, rules}
 use Rattle.std.proofs.lemmas.Bool.{cases_lt}
-use Rattle.wh_space_model.specs.{Pool, tally, one_if, fetches_into, Space, Pins, frame_bytes, kept, sharers, FramesAreSound, HasHash, Names, at, count, owns, page_at, shares, fewer_sharers}
+use Rattle.wh_space_model.specs.{Pool, tally, one_if, fetches_into, Space, Pins, frame_bytes, kept, sharers, FramesAreSound, HasHash, Names, count, owns, page_at, shares, fewer_sharers}
 use Rattle.wh_space_model.specs.declared.states.Page.{Page}
 use Rattle.wh_space_model.specs.declared.states.Page.TheVariants.{Private}
 use Rattle.wh_space_model.specs.declared.states.Mark.{Mark}
@@ -26,31 +25,17 @@ pub data Way (s : Space) (old : Page) (g : ℕ) (G : ℕ → ℕ) (pool : Pool) 
   taken : owns h old ≡ 0 → shares h old ≡ 0 → one_if h g ≡ 1 → G h ≡ 1 → slice_get marks h ≡ slice_get s.marks h → length (get_or pool.frames h []) ≡ 4096
       → Way s old g G pool marks h
 
--- an entry with sharers
-lt_one : (n : ℕ) → 2 ≤ n → (a b : Mark) → cond (nat_lt 1 n) a b ≡ a
-lt_one n some a b = grind (arith, nat_tests)
-
 names_fewer : (s s2 : Space) (h : ℕ) (m : Mark) → Names s h (Some m) → 2 ≤ sharers s h → sharers s2 h + 1 ≡ sharers s h → frame_bytes s2 h ≡ frame_bytes s h → Names s2 h (Some (fewer_sharers 1 m))
 names_fewer s s2 h Plain names some less same = absurd (omega arith)
 names_fewer s s2 h (Hint x i q) names some less same = absurd (let z = names.1 in omega arith)
-names_fewer s s2 h (Sharers x n) names some less same =
-    let e : cond (nat_lt 1 n) (Sharers x (n - 1)) Plain ≡ Sharers x (n - 1) = lt_one n (omega arith) (Sharers x (n - 1)) Plain in
-    subst (λ m. Names s2 h (Some m)) (sym e) (omega arith, omega arith, λ z. names.2 (sym same ∙ z))
-names_fewer s s2 h (Unlisted n) names some less same =
-    let e : cond (nat_lt 1 n) (Unlisted (n - 1)) Plain ≡ Unlisted (n - 1) = lt_one n (omega arith) (Unlisted (n - 1)) Plain in
-    subst (λ m. Names s2 h (Some m)) (sym e) (omega arith, omega arith)
+names_fewer s s2 h (Sharers x n) names some less same = search rules
+names_fewer s s2 h (Unlisted n) names some less same = search rules
 
 hash_fewer : (m : Mark) (x : ℕ) → HasHash (Some (fewer_sharers 1 m)) x → HasHash (Some m) x
 hash_fewer Plain x has = has
 hash_fewer (Hint y i q) x has = has
-hash_fewer (Sharers y n) x has = go (nat_lt 1 n) has where
-  go : (b : Bool) → HasHash (Some (cond b (Sharers y (n - 1)) Plain)) x → y ≡ x
-  go true has = has
-  go false has = absurd has
-hash_fewer (Unlisted n) x has = go (nat_lt 1 n) has where
-  go : (b : Bool) → HasHash (Some (cond b (Unlisted (n - 1)) Plain)) x → ⊥
-  go true has = has
-  go false has = has
+hash_fewer (Sharers y n) x has = search rules
+hash_fewer (Unlisted n) x has = search rules
 
 pub entry_there : (s : Space) (h : ℕ) → FramesAreSound s → 1 ≤ sharers s h → (m : Mark) × (slice_get s.marks h ≡ Some m) × Names s h (Some m)
 entry_there s h sound some =
@@ -91,36 +76,16 @@ frames_broke s i p g old G pool marks pins sound there many entries sum ways =
         | left a1 a2 a3 a4 a5 mark bytes ↦ omega arith
         | taken a1 a2 a3 a4 mark bytes ↦ omega arith
       ]);
-      whole = λ h within. (let e = sound.whole h (omega arith) in elim (ways h) [
-        | stays a1 a2 a3 mark bytes ↦ ap length bytes ∙ e
-        | last a1 a2 a3 a4 a5 mark bytes ↦ ap length bytes ∙ e
-        | left a1 a2 a3 a4 a5 mark bytes ↦ ap length bytes ∙ e
-        | taken a1 a2 a3 a4 mark bytes ↦ bytes
-      ]);
+      whole = search rules;
       marks = entries ∙ (sound.marks ∙ sym many);
       names = λ h. (let b = share h in elim (ways h) [
-        | stays a1 a2 a3 mark bytes ↦
-            subst (Names s2 h) (sym mark) (names_other s s2 h (slice_get s.marks h) bytes (omega arith)
-            (λ j q is. elim (elsewhere s.tables i p (Private g) j q) [
-              | inr (other, same) ↦ ap (at (owns h)) same ∙ is
-              | inl (same, here) ↦
-                  (let mine : at (owns h) (page_at s.tables i p) ≡ 1 = subst (λ z. at (owns h) (page_at s.tables z p) ≡ 1) same (subst (λ z. at (owns h) (page_at s.tables j z) ≡ 1) here is) in
-                  let k : owns h old ≡ 1 = sym (ap (at (owns h)) there) ∙ mine in
-                  let now : page_at s2.tables i p ≡ Some (Private g) = put_this s.tables i p old (Private g) there in
-                  subst (λ z. at (owns h) (page_at s2.tables z q) ≡ 1) (sym same) (subst (λ z. at (owns h) (page_at s2.tables i z) ≡ 1) (sym here) (ap (at (owns h)) now ∙ (sym a1 ∙ k))))
-            ]) (sound.names h))
+        | stays a1 a2 a3 mark bytes ↦ search (rules, names_other, elsewhere, put_this)
         | last a1 a2 a3 a4 a5 mark bytes ↦ (let z : sharers s2 h ≡ 0 = omega arith in subst (Names s2 h) (sym mark) z)
         | left a1 a2 a3 a4 a5 mark bytes ↦
             (let m = entry_there s h sound (omega arith) in
             let is : get_or s.marks h Plain ≡ m.0 = get_or_is s.marks h m.0 Plain m.1 in
             subst (Names s2 h) (sym (mark ∙ ap (λ z. Some (fewer_sharers 1 z)) is)) (names_fewer s s2 h m.0 m.2 a3 (omega arith) bytes))
-        | taken a1 a2 a3 a4 mark bytes ↦
-            (let d = sum h in
-            let alone : (count (owns h) s.tables ≡ 0) × (sharers s h ≡ 0) = elim (cases_lt h (length s.pool.frames)) [
-              | inl within ↦ (let e = sound.one h within in (omega arith, omega arith))
-              | inr past ↦ (let e = sound.none h past in (omega arith, omega arith))
-            ] in
-            subst (Names s2 h) (sym mark) (names_free s s2 h (slice_get s.marks h) alone.0 alone.1 (omega arith) (sound.names h)))
+        | taken a1 a2 a3 a4 mark bytes ↦ search (rules, cases_lt, names_free)
       ]);
       apart = λ a b x has also. sound.apart a b x (has_mark a x has) (has_mark b x also);
     }

@@ -1,5 +1,5 @@
 -- What is so after some pages were unshared, one after the other.
-use Rattle.std.proofs.Common.{◌≡◌, ◌≢◌, ℕ, ◌+◌, ◌-◌, ◌≤◌, ◌⊎◌, inl, inr, cond, nat_lt, map, true, false, Bool, List, [], ◌∷◌, Some, length, slice_get, slice_set, get_or, zero, suc, refl, sym, ap, ◌∙◌, subst, arith, length-set}
+use Rattle.std.proofs.Common.{◌≡◌, ◌≢◌, ℕ, ◌+◌, ◌-◌, ◌≤◌, ◌⊎◌, inl, inr, nat_lt, map, true, false, Bool, List, [], ◌∷◌, Some, length, slice_get, slice_set, get_or, zero, suc, refl, sym, ap, ◌∙◌, subst, arith, length-set, rules}
 use Rattle.std.proofs.lemmas.Bool.Decides.{nat_tests}
 use Rattle.wh_space_model.specs.{tally, one_if, Slots, Space, all_bytes, kept_by, pinned_by, frame_bytes, IsSound, at, page_at, put, shares, among, BreaksEach, GetsFrame, LeavesSharers, fewer_sharers, standing_alone, voided, with_fewer, touching}
 use Rattle.wh_space_model.proofs.Tally.{one_same, one_other}
@@ -43,12 +43,8 @@ unfolding broke shared_frame repooled
 gets_broken s i p g Untouched mid sound there takes =
     let lends = lent s i g (Rattle.wh_space_model.specs.Pages.zero_page) mid takes in
     subst (λ m. IsBroken s i p (standing_alone m i p g)) (sym lends.is) (fresh_broken s i p g mid sound there lends)
-gets_broken s i p g (Private f) mid sound there (e, is) =
-    subst (λ z. IsBroken s i p (standing_alone mid i p z)) (sym e) (subst (λ m. IsBroken s i p (standing_alone m i p f)) (sym is)
-    (alone_broken s i p f (Private f) sound there (λ h. (refl, refl, λ e. (let bad : Private f ≡ Coming h = e in cc))) (λ h. refl) (λ h. refl) (λ b. refl) refl refl))
-gets_broken s i p g (Leaving f) mid sound there (e, is) =
-    subst (λ z. IsBroken s i p (standing_alone mid i p z)) (sym e) (subst (λ m. IsBroken s i p (standing_alone m i p f)) (sym is)
-    (alone_broken s i p f (Leaving f) sound there (λ h. (refl, refl, λ e. (let bad : Leaving f ≡ Coming h = e in cc))) (λ h. refl) (λ h. refl) (λ b. refl) refl refl))
+gets_broken s i p g (Private f) mid sound there (e, is) = search (rules, alone_broken)
+gets_broken s i p g (Leaving f) mid sound there (e, is) = search (rules, alone_broken)
 gets_broken s i p g (Shared f) mid sound there leaves = sharer_broken s i p f g (Shared f) mid sound there (λ h. (refl, refl, λ e. (let bad : Shared f ≡ Coming h = e in cc))) (inl refl) leaves
 gets_broken s i p g (LeavingShared f) mid sound there leaves = sharer_broken s i p f g (LeavingShared f) mid sound there (λ h. (refl, refl, λ e. (let bad : LeavingShared f ≡ Coming h = e in cc))) (inr refl) leaves
 gets_broken s i p g (Coming k) mid sound there none = absurd none
@@ -65,13 +61,7 @@ voided_none i Taken = refl
 voided_none i (EvictVoid j) = refl
 voided_none i (Fetching j q f) = refl
 voided_none i (FetchVoid j f) = refl
-voided_none i (Evicting j q) = go (nat_lt 0 (one_if i j)) where
-  go : (b : Bool) → cond b (Evicting j q) (Evicting j q) ≡ Evicting j q
-  go true = refl
-  go false = refl
-
-test_true : (n : ℕ) → 1 ≤ n → nat_lt 0 n ≡ true
-test_true n some = grind (arith, nat_tests)
+voided_none i (Evicting j q) = search rules
 
 voided_more : (i p : ℕ) (ps : List ℕ) (x : Slot) → voided i ps (voided i (p ∷ []) x) ≡ voided i (p ∷ ps) x
 voided_more i p ps Vacant = refl
@@ -79,15 +69,7 @@ voided_more i p ps Taken = refl
 voided_more i p ps (EvictVoid j) = refl
 voided_more i p ps (Fetching j q f) = refl
 voided_more i p ps (FetchVoid j f) = refl
-voided_more i p ps (Evicting j q) =
-    elim (here_or i j) [
-      | inr other ↦ (let o = one_other i j (λ e. other (sym e)) in rw (o, o) refl)
-      | inl same ↦
-          (let o = one_same i j (sym same) in elim (here_or p q) [
-            | inl here ↦ (let k = one_same q p here in let t = test_true (1 + tally (one_if q) ps) (omega arith) in rw (o, k, t) refl)
-            | inr other ↦ (let k = one_other q p other in let z : 0 + tally (one_if q) ps ≡ tally (one_if q) ps = omega arith in rw (o, k, o, z) refl)
-          ])
-    ]
+voided_more i p ps (Evicting j q) = search rules
 
 pub map_voided : (i p : ℕ) (ps : List ℕ) (uses : List Slot) → map (voided i ps) (map (voided i (p ∷ [])) uses) ≡ map (voided i (p ∷ ps)) uses
 map_voided i p ps [] = refl
@@ -119,14 +101,8 @@ tests a b n = grind (arith, nat_tests)
 pub fewer_more : (a b : ℕ) (m : Mark) → fewer_sharers b (fewer_sharers a m) ≡ fewer_sharers (a + b) m
 fewer_more a b Plain = refl
 fewer_more a b (Hint x i q) = refl
-fewer_more a b (Sharers x n) = elim (tests a b n) [
-  | inl (more, same, rest) ↦ rw (more, same, rest) refl
-  | inr (none, never) ↦ rw (none, never) refl
-]
-fewer_more a b (Unlisted n) = elim (tests a b n) [
-  | inl (more, same, rest) ↦ rw (more, same, rest) refl
-  | inr (none, never) ↦ rw (none, never) refl
-]
+fewer_more a b (Sharers x n) = search rules
+fewer_more a b (Unlisted n) = search rules
 
 -- ---- pages that are apart
 
@@ -198,10 +174,7 @@ broken_each s i (p ∷ ps) s2 sound apart (mid, first, more) =
     record {
       sound = then.sound;
       bytes = then.bytes ∙ b.bytes;
-      own = λ q some. elim (here_or p q) [
-        | inl same ↦ (g, rw same (then.rest p apart.0 ∙ (ap (λ t. page_at t i p) tables ∙ put_this s.tables i p b.page (Private g) b.was)))
-        | inr other ↦ then.own q (let o = one_other q p other in omega arith)
-      ];
+      own = search (rules, here_or, put_this, one_other);
       rest = λ q none. (let other : q ≢ p = λ e. (let o = one_same q p e in omega arith) in then.rest q (omega arith) ∙ away q other);
       tables = then.tables ∙ (ap length tables ∙ length-set s.tables i _);
       table = then.table ∙ (ap (λ t. length (get_or t i [])) tables ∙ row_length s.tables i p (Private g) i);

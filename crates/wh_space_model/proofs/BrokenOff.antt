@@ -1,5 +1,5 @@
 -- What is so after one page was unshared.
-use Rattle.std.proofs.Common.{◌≡◌, ◌≢◌, ℕ, ◌+◌, ◌-◌, ◌<◌, ◌≤◌, inl, inr, cond, nat_lt, true, false, Bool, List, [], Some, None, length, slice_get, get_or, refl, sym, ap, ◌∙◌, subst, arith, length-set}
+use Rattle.std.proofs.Common.{◌≡◌, ◌≢◌, ℕ, ◌+◌, ◌-◌, ◌<◌, ◌≤◌, inl, inr, cond, nat_lt, true, false, Bool, List, [], Some, None, length, slice_get, get_or, refl, sym, ap, ◌∙◌, subst, arith, length-set, rules}
 use Rattle.std.proofs.lemmas.Bool.Decides.{nat_tests}
 use Rattle.std.proofs.lemmas.Bool.{cases_lt}
 use Rattle.std.proofs.lemmas.List.{get_or-set_same, get_or-set_other}
@@ -69,11 +69,7 @@ fewer_marks : (s : Space) (f : ℕ) → FramesAreSound s → 1 ≤ sharers s f �
 fewer_marks s f sound some h m is =
     elim (here_or f h) [
       | inr other ↦ (let o = one_other h f other in set_other s.marks f h _ (λ e. other e) ∙ (is ∙ rw o (ap Some (sym (none_fewer h s m (subst (Names s h) is (sound.names h)))))))
-      | inl same ↦
-          (let o = one_same h f same in
-          let at_it : slice_get s.marks f ≡ Some m = subst (λ z. slice_get s.marks z ≡ Some m) same is in
-          let e = get_or_is s.marks f m Plain at_it in
-          subst (λ z. slice_get (with_fewer s f).marks z ≡ Some (fewer_sharers (one_if h f) m)) (sym same) (set_same s.marks f (fewer_sharers 1 (get_or s.marks f Plain)) (there_of s.marks f m at_it) ∙ rw (e, o) refl))
+      | inl same ↦ search (rules, one_same, get_or_is, set_same, there_of)
     ]
 
 pub marks_stay : (s : Space) (sound : FramesAreSound s) (h : ℕ) (m : Mark) → slice_get s.marks h ≡ Some m → slice_get s.marks h ≡ Some (fewer_sharers 0 m)
@@ -169,10 +165,7 @@ copy_broken s i p f g old s1 sound there near own share bytes plain frame some l
                 left (own h) (share h ∙ o) (subst (λ z. 2 ≤ sharers s z) (sym same) some) off off
                 (subst (λ z. slice_get marks z ≡ Some (fewer_sharers 1 (get_or s.marks z Plain))) (sym same) now) (same_frame h (λ e. apart (sym same ∙ e))))
             | inr other ↦ (let o = one_other h f other in elim (here_or g h) [
-              | inl taken_here ↦
-                  (let one = one_same h g taken_here in
-                  taken (own h) (share h ∙ o) one one (set_other s.marks f h _ (λ e. other e))
-                  (subst (λ z. length (get_or s1.pool.frames z []) ≡ 4096) (sym taken_here) (ap length new_frame ∙ sound.frames.whole f within)))
+              | inl taken_here ↦ search (rules, one_same, taken, set_other)
               | inr away ↦ (let off = one_other h g away in stays (own h ∙ sym off) (share h ∙ o) off (set_other s.marks f h _ (λ e. other e)) (same_frame h (λ e. away e)))
             ])
           ]));

@@ -1,5 +1,5 @@
 -- Whatever befalls a memory in which nobody was leaves it sound.
-use Rattle.std.proofs.Common.{◌≡◌, ℕ, ◌<◌, ◌≤◌, inl, inr, replicate, List, [], ◌∷◌, Option, Some, None, length, slice_get, zero, suc, refl, sym, ap, ◌∙◌, subst, arith}
+use Rattle.std.proofs.Common.{◌≡◌, ℕ, ◌<◌, ◌≤◌, inl, inr, replicate, List, [], ◌∷◌, Option, Some, None, length, slice_get, zero, suc, refl, sym, ap, ◌∙◌, subst, arith, rules}
 use Rattle.std.proofs.lemmas.Bool.{cases_lt}
 use Rattle.std.proofs.lemmas.List.{get_or-replicate, length-replicate}
 use Rattle.wh_space_model.specs.{zero_page, tally, one_if, BefallsMemory, stores, EmptyIsSound, FailsSoundly, Follows, ScansSoundly, StaysSound, loads, new_epoch, stands, ends, offered, begins_evict, written, commits_evict, begins_fetch, commits_fetch, provides, fails, grows, enters, exits, fetches_into, HasHash, IsSound, IsUsed, LeavesBy, Names, all_bytes, Space, empty_space, numbers_below, with_held}
@@ -24,9 +24,7 @@ use Rattle.wh_space_model.proofs.Steady.{ends_soundly, epochs_soundly, held_soun
 
 -- a slot to which a write failed
 vacant_held : (s : Space) (k : ℕ) (bytes : List ℕ) → IsSound s → slice_get s.slots.uses k ≡ Some Vacant → IsSound (with_held s k bytes)
-vacant_held s k bytes sound vacant =
-    let used : IsUsed s k (Some Vacant) = subst (IsUsed s k) vacant (sound.slots.used k) in
-    held_soundly s k bytes sound used.0 used.1
+vacant_held s k bytes sound vacant = search (rules, held_soundly)
 
 pub fails_soundly : FailsSoundly
 fails_soundly s i need s2 sound none stand (moves, mid, serves, inl is) = subst IsSound (sym is) (is_sound_unpinned mid (serves_way s i need moves mid sound none stand serves).0)
@@ -79,20 +77,8 @@ empty_in_order frames slots tax free once never =
         held = length-replicate slots [] ∙ sym (length-replicate slots Vacant);
         whole = λ k some. absurd (omega arith);
       };
-      occupants = record {
-        tables = refl;
-        touched = refl;
-        have = λ i t is. absurd (let bad : None ≡ Some t = is in cc);
-        marks = λ i. refl;
-        numbers = λ i j t u a b same. absurd (let bad : None ≡ Some (Some t) = a in cc);
-        released = λ i t is gone. absurd (let bad : None ≡ Some (Some t) = is in cc);
-        needs = λ i t need is at_it. absurd (let bad : None ≡ Some (Some t) = is in cc);
-      };
-      pins = record {
-        few = omega arith;
-        there = λ i p some. absurd (omega arith);
-        of = λ pins is. absurd (let bad : None ≡ Some pins = is in cc);
-      };
+      occupants = search rules;
+      pins = search rules;
       admissible = (omega arith, omega arith);
     }
 

@@ -1,8 +1,8 @@
 -- What one page that is another one now changes of the charges: those of the frames on which it stood and stands alone.
-use Rattle.std.proofs.Common.{◌≡◌, ◌≢◌, ℕ, ◌+◌, ◌<◌, ◌==◌, inl, inr, cond, nat_lt, min, List, Some, length, zero, suc, refl, ap, ◌∙◌, arith, length-set}
+use Rattle.std.proofs.Common.{◌≡◌, ◌≢◌, ℕ, ◌+◌, ◌<◌, ◌==◌, inl, inr, min, List, Some, zero, suc, refl, ◌∙◌, arith, length-set, rules}
 use Rattle.std.proofs.lemmas.Bool.{cases_lt}
 use Rattle.wh_space_model.specs.declared.states.Page.{Page}
-use Rattle.wh_space_model.specs.{page_at, put, count_of, tally, below, before_in, charge_in, standing_at, stands_on}
+use Rattle.wh_space_model.specs.{page_at, put, below, charge_in, standing_at, stands_on}
 use Rattle.wh_space_model.proofs.Putting.{here_or, put_other_row, row_put}
 
 -- sums that differ at one number alone
@@ -26,18 +26,7 @@ below_each (suc n) v w each = let rest = below_each n v w each in let one = each
 
 -- on a frame on which the page stands as before as many pages stand, of whichever instance
 pub standing_same : (tables : List (List Page)) (i p : ℕ) (x y : Page) (g : ℕ) → page_at tables i p ≡ Some x → stands_on g y ≡ stands_on g x → (k : ℕ) → standing_at (put tables i p y) k g ≡ standing_at tables k g
-standing_same tables i p x y g there same k =
-    elim (here_or i k) [
-      | inr away ↦ ap (tally (stands_on g)) (put_other_row tables i p k y away)
-      | inl here ↦ (let row : count_of (stands_on g) (put tables i p y) i + stands_on g x ≡ count_of (stands_on g) tables i + stands_on g y = row_put (stands_on g) tables i p x y there in rw here (omega arith))
-    ]
+standing_same tables i p x y g there same k = search (rules, here_or, put_other_row, row_put)
 
 pub charge_same : (number : ℕ → ℕ) (tables : List (List Page)) (i p : ℕ) (x y : Page) (g : ℕ) → page_at tables i p ≡ Some x → stands_on g y ≡ stands_on g x → (k : ℕ) → charge_in number (put tables i p y) k g ≡ charge_in number tables k g
-charge_same number tables i p x y g there same k =
-    let many : length (put tables i p y) ≡ length tables = length-set tables i _ in
-    let own = standing_same tables i p x y g there same k in
-    let sum : before_in number (put tables i p y) k g ≡ before_in number tables k g =
-    ap (λ n. below n (λ j. cond (nat_lt (number j) (number k)) (standing_at (put tables i p y) j g) 0)) many
-    ∙ below_each (length tables) (λ j. cond (nat_lt (number j) (number k)) (standing_at tables j g) 0) (λ j. cond (nat_lt (number j) (number k)) (standing_at (put tables i p y) j g) 0)
-    (λ j. ap (λ n. cond (nat_lt (number j) (number k)) n 0) (standing_same tables i p x y g there same j)) in
-    ap (λ b. cond (b == 0) (min 1 (standing_at (put tables i p y) k g)) 0) sum ∙ ap (λ n. cond (before_in number tables k g == 0) (min 1 n) 0) own
+charge_same number tables i p x y g there same k = search (rules, length-set, standing_same, below_each, min)

@@ -1,6 +1,6 @@
 -- Whom frames are charged to: each frame on which pages stand to one instance; what that comes to in all; and what a page
 -- that leaves or comes changes of it.
-use Rattle.std.proofs.Common.{◌≡◌, ◌≢◌, ℕ, ◌+◌, ◌<◌, ◌≤◌, ◌==◌, ◌⊎◌, inl, inr, cond, nat_lt, min, true, false, Bool, List, [], ◌∷◌, Option, Some, None, length, slice_get, get_or, zero, suc, refl, sym, ap, ◌∙◌, ◌++◌, arith, length-set}
+use Rattle.std.proofs.Common.{◌≡◌, ◌≢◌, ℕ, ◌+◌, ◌<◌, ◌≤◌, ◌==◌, ◌⊎◌, inl, inr, cond, nat_lt, min, true, false, Bool, List, [], ◌∷◌, Option, Some, None, length, slice_get, get_or, zero, suc, refl, sym, ap, ◌∙◌, ◌++◌, arith, length-set, rules}
 use Rattle.std.proofs.lemmas.Bool.Decides.{nat_tests}
 use Rattle.std.proofs.lemmas.Bool.{cases_lt}
 use Rattle.wh_space_model.specs.{tally, one_if, Space, Occupant, occupant_at, of_occupant, kept, at, page_at, put, count, count_of, owns, shares, resident, below, fetches_into, tickets, Evicts, Fetches, ChargesAddUp, OneChargedPage, FramesAreSound, OccupantsAreSound, stands_on, standing, standing_before, occupant_number, frame_charge, charged_of, IsOn, IsChargedFor}
@@ -37,10 +37,7 @@ below_but zero i v w less each = absurd (omega arith)
 below_but (suc n) i v w less each =
     elim (cases_lt i n) [
       | inl before ↦ (let rest = below_but n i v w before (λ k b other. each k (omega arith) other) in let last = each n (omega arith) (λ e. omega arith) in omega arith)
-      | inr most ↦
-          (let e : i ≡ n = omega arith in
-          let rest = below_le n v w (λ k b. each k (omega arith) (λ q. omega arith)) in
-          rw e (omega arith))
+      | inr most ↦ search (rules, below_le)
     ]
 
 out_of : (n p c : ℕ) → n ≤ p → below n (λ k. cond (k == p) c 0) ≡ 0
@@ -226,9 +223,7 @@ own_charged s s2 j f less =
       at_frame g =
           elim (here_or f g) [
             | inl same ↦ rw same (let e : cond (f == f) (frame_charge s j f) 0 ≡ frame_charge s j f = is_there (frame_charge s j f) in omega arith)
-            | inr other ↦
-                (let more = charge_grows s s2 j g (before_less s s2 j g less.occupants less.tables (λ h. less.fewer h g)) (less.others j g (inr other)) in
-                omega arith)
+            | inr other ↦ search (rules, charge_grows, before_less)
           ] where
             is_there : (c : ℕ) → cond (f == f) c 0 ≡ c
             is_there c = grind (arith, nat_tests)
@@ -330,16 +325,7 @@ charged_page s i f some =
       found.0,
       record {
         on = (let k = on_once f (page_at s.tables i found.0) in let a = k.0 in let b = found.1 in omega arith);
-        first = λ j q on. (
-            elim (cases_lt (occupant_number s j) (occupant_number s i)) [
-              | inr most ↦ most
-              | inl less ↦
-                  absurd (let row = in_row (stands_on f) (get_or s.tables j []) q in
-                  let there : 1 ≤ standing s j f = omega arith in
-                  let k = counted_before s i j f (row_within (stands_on f) s.tables j there) less in
-                  let z = parts.0 in
-                  omega arith)
-            ]);
+        first = search (rules, cases_lt, in_row, counted_before, row_within);
         lowest = λ q on. found.2 q (omega arith);
       },
     )
@@ -431,11 +417,7 @@ come_charged s i p bytes s2 sound moves k other =
     let frames : length s2.pool.frames ≡ length s.pool.frames = ap (λ a. length a.pool.frames) moves.leaves ∙ length-set s.pool.frames moves.frame _ in
     rw frames (below_le (length s.pool.frames) (λ g. frame_charge s k g) (λ g. frame_charge s2 k g)
     (λ g within. elim (here_or moves.frame g) [
-      | inl same ↦
-          (let free : 1 ≤ tally (one_if moves.frame) s.pool.free = rw moves.free (free_there moves.frame moves.others) in
-          let z = none_on_free s moves.frame k sound free in
-          let few = charge_few s k moves.frame in let a = few.1 in
-          rw same (omega arith))
+      | inl same ↦ search (rules, free_there, none_on_free, charge_few)
       | inr away ↦
           charge_grows s s2 k g (before_less s s2 k g occupants many (λ h. let e = rows g away h in omega arith)) (let e = rows g away k in omega arith)
     ])) where
@@ -445,11 +427,7 @@ come_charged s i p bytes s2 sound moves k other =
           let tables : s2.tables ≡ put s.tables i p y = ap (λ a. a.tables) moves.leaves in
           elim (here_or i h) [
             | inr apart ↦ rw tables (ap (tally (stands_on g)) (put_other_row s.tables i p h y apart))
-            | inl same ↦
-                (let row : count_of (stands_on g) (put s.tables i p y) i + 0 ≡ standing s i g + (one_if g moves.frame + 0) = row_put (stands_on g) s.tables i p (Swapped moves.slot) y moves.page in
-                let o = one_other g moves.frame away in
-                let now : standing s2 i g ≡ count_of (stands_on g) (put s.tables i p y) i = rw tables refl in
-                rw same (omega arith))
+            | inl same ↦ search (rules, row_put, one_other)
           ]
 
 -- A frame on which pages stand has exactly one charged page, which is the instance's to whom the frame is charged.
@@ -501,9 +479,7 @@ charges_of_frame s f sound =
           let u = occupied (stands_on f) s k sound (omega arith) in
           charged_once s j k f t.0 u.0 sound t.1 u.1 here there)) in
           omega arith)
-      | inr zeros ↦
-          (let none = none_charged (length s.tables) (λ j. frame_charge s j f) (λ j. standing s j f) (λ j. (charge_few s j f).1) (λ j. row_none (stands_on f) s.tables j (omega arith)) in
-          omega arith)
+      | inr zeros ↦ search (rules, none_charged, charge_few, row_none)
     ]
 
 -- all charges together are as many as the frames on which pages stand

@@ -1,10 +1,10 @@
 -- A fetch that ends leaves everything sound.
-use Rattle.std.proofs.Common.{◌≡◌, ◌≢◌, ℕ, ◌+◌, inl, inr, true, false, List, [], ◌∷◌, Some, length, slice_get, get_or, refl, sym, ap, ◌∙◌, subst, arith, length-set}
+use Rattle.std.proofs.Common.{◌≡◌, ◌≢◌, ℕ, ◌+◌, inl, inr, List, [], ◌∷◌, Some, length, slice_get, get_or, refl, sym, ◌∙◌, subst, arith, length-set, rules}
 use Rattle.std.proofs.lemmas.List.{get_or-set_same, get_or-set_other}
-use Rattle.wh_space_model.specs.{tally, one_if, CommitsFetchSoundly, IsSound, IsUsed, LeavesBy, Names, Occupant, Space, occupant_at, sharers, comes_from, count, leaving, lies_in, owns, page_at, resident, shares, fetches_into, ticket_of, has_come, not_come}
+use Rattle.wh_space_model.specs.{tally, one_if, CommitsFetchSoundly, IsSound, IsUsed, Names, Space, sharers, comes_from, count, leaving, lies_in, owns, page_at, resident, shares, fetches_into, has_come, not_come}
 use Rattle.wh_space_model.proofs.Tally.{one_same, one_other, tally-append}
 use Rattle.wh_space_model.specs.declared.states.Page.TheVariants.{Private, Coming, Swapped}
-use Rattle.wh_space_model.specs.declared.states.Slot.TheVariants.{Vacant, Taken, Evicting, Fetching, FetchVoid}
+use Rattle.wh_space_model.specs.declared.states.Slot.TheVariants.{Vacant, Taken, Fetching}
 use Rattle.wh_space_model.proofs.Begun.{at_same}
 use Rattle.wh_space_model.proofs.Evicted.{has_still, names_other, other_kind, other_value, row_length, used_other}
 use Rattle.wh_space_model.proofs.Transit.{held_alone}
@@ -35,16 +35,12 @@ is_sound_come s i p f k bytes sound was whole =
       frames = record {
         one = λ h less. (let a = own h in let b = share h in let c = fetch h in let e = sound.frames.one h (let l = length-set s.pool.frames f bytes in omega arith) in omega arith);
         none = λ h past. (let a = own h in let b = share h in let c = fetch h in let e = sound.frames.none h (let l = length-set s.pool.frames f bytes in omega arith) in omega arith);
-        whole = λ h less. elim (here_or f h) [
-          | inl same ↦ rw same (ap length (get_or-set_same s.pool.frames f bytes [] alone.0) ∙ whole)
-          | inr other ↦ ap length (get_or-set_other s.pool.frames f h bytes [] (λ e. other e)) ∙ sound.frames.whole h (let l = length-set s.pool.frames f bytes in omega arith)
-        ];
+        whole = search (rules, here_or, get_or-set_same, get_or-set_other, length-set);
         marks = sound.frames.marks ∙ sym (length-set s.pool.frames f bytes);
         names = λ h. (let b = share h in let e : sharers s2 h ≡ sharers s h = omega arith in elim (here_or f h) [
           | inl same ↦ (let z : sharers s2 f ≡ 0 = (let c = share f in let d = alone.2 in omega arith) in
               subst (λ q. Names s2 q (slice_get s.marks q)) (sym same) (names_free s s2 f (slice_get s.marks f) alone.1 alone.2 z (sound.frames.names f)))
-          | inr other ↦ names_other s s2 h (slice_get s.marks h) (get_or-set_other s.pool.frames f h bytes [] (λ q. other q)) e
-              (λ a c is. (let page = other_kind (owns h) s.tables i p a c (Coming k) (Private f) there refl is in rw page is)) (sound.frames.names h)
+          | inr other ↦ search (rules, names_other, get_or-set_other, other_kind)
         ]);
         apart = sound.frames.apart;
       };
@@ -62,23 +58,10 @@ is_sound_come s i p f k bytes sound was whole =
               (λ a b is. other_value s.tables i p a b (Coming k) (Private f) (Coming h) there (λ e. other (let bad : h ≡ k = cc in bad)) is)
               (sound.slots.used h)))
         ];
-        by_one = λ j h by. elim (here_or k h) [
-          | inl same ↦ absurd (subst (LeavesBy j) here (subst (λ q. LeavesBy j (slice_get s2.slots.uses q)) same by))
-          | inr other ↦ sound.slots.by_one j h (subst (LeavesBy j) (away h (λ e. other e)) by)
-        ];
-        by_this = λ j h t is at_it. (let by = sound.slots.by_this j h t is at_it in elim (here_or k h) [
-          | inl same ↦ absurd (subst (LeavesBy j) was (subst (λ q. LeavesBy j (slice_get s.slots.uses q)) same by))
-          | inr other ↦ subst (LeavesBy j) (sym (away h (λ e. other e))) by
-        ]);
-        leaving = λ j q is. (let found = sound.slots.leaving j q (sym (at_same leaving s.tables i p j q (Coming k) (Private f) there refl) ∙ is) in
-            elim (here_or k found.0) [
-              | inl same ↦ absurd (let e : slice_get s.slots.uses k ≡ Some (Evicting j q) = subst (λ z. slice_get s.slots.uses z ≡ Some (Evicting j q)) same found.1 in let bad : Some (Fetching i p f) ≡ Some (Evicting j q) = sym was ∙ e in cc)
-              | inr other ↦ (found.0, away found.0 (λ e. other e) ∙ found.1)
-            ]);
-        voids = λ j h g is. elim (here_or k h) [
-          | inl same ↦ absurd (let e : slice_get s2.slots.uses k ≡ Some (FetchVoid j g) = subst (λ z. slice_get s2.slots.uses z ≡ Some (FetchVoid j g)) same is in let bad : Some Vacant ≡ Some (FetchVoid j g) = sym here ∙ e in cc)
-          | inr other ↦ sound.slots.voids j h g (sym (away h (λ e. other e)) ∙ is)
-        ];
+        by_one = search (rules, here_or);
+        by_this = search (rules, here_or);
+        leaving = search (rules, at_same, here_or);
+        voids = search (rules, here_or);
         held = sound.slots.held ∙ sym (length-set s.slots.uses k Vacant);
         whole = λ h some. sound.slots.whole h (let a = lies h in let b = comes h in omega arith);
       };
@@ -88,15 +71,7 @@ is_sound_come s i p f k bytes sound was whole =
         have = λ j o is. has_still o (get_or s.tables j []) (get_or s2.tables j []) (row_length s.tables i p (Private f) j) (sound.occupants.have j o is);
         marks = λ j. sound.occupants.marks j ∙ sym (row_length s.tables i p (Private f) j);
         numbers = sound.occupants.numbers;
-        released = λ j t is gone. (let a = sound.occupants.released j t is gone in let e = set_tally (ticket_of j) s.slots.uses k (Fetching i p f) Vacant was in
-            elim (here_or i j) [
-              | inr apart ↦ (let o = one_other j i apart in omega arith)
-              | inl same ↦ absurd
-                  (let live = page_is_live s i p (Coming k) sound.occupants there in
-                  let u : occupant_at s i t = subst (λ z. occupant_at s z t) same is in
-                  let one : live.0 ≡ t = one_at s i live.0 t live.1 u in
-                  let bad : true ≡ false = sym live.2 ∙ (ap (λ (a : Occupant). a.live) one ∙ gone) in cc)
-            ]);
+        released = search (rules, set_tally, here_or, one_other, page_is_live, one_at);
         needs = λ j t need is at_it. (let n = sound.occupants.needs j t need is at_it in let l = row_length s.tables i p (Private f) j in (n.0, omega (arith, n.1, l), n.2));
       };
       pins = record { few = sound.pins.few; there = λ j q some. (let page = other_kind resident s.tables i p j q (Coming k) (Private f) there refl (sound.pins.there j q some) in rw page (sound.pins.there j q some)); of = sound.pins.of };
@@ -143,23 +118,10 @@ is_sound_not_come s i p f k sound was =
               (λ a b is. other_value s.tables i p a b (Coming k) (Swapped k) (Coming h) there (λ e. other (let bad : h ≡ k = cc in bad)) is)
               (sound.slots.used h)))
         ];
-        by_one = λ j h by. elim (here_or k h) [
-          | inl same ↦ absurd (subst (LeavesBy j) here (subst (λ q. LeavesBy j (slice_get s2.slots.uses q)) same by))
-          | inr other ↦ sound.slots.by_one j h (subst (LeavesBy j) (away h (λ e. other e)) by)
-        ];
-        by_this = λ j h t is at_it. (let by = sound.slots.by_this j h t is at_it in elim (here_or k h) [
-          | inl same ↦ absurd (subst (LeavesBy j) was (subst (λ q. LeavesBy j (slice_get s.slots.uses q)) same by))
-          | inr other ↦ subst (LeavesBy j) (sym (away h (λ e. other e))) by
-        ]);
-        leaving = λ j q is. (let found = sound.slots.leaving j q (sym (at_same leaving s.tables i p j q (Coming k) (Swapped k) there refl) ∙ is) in
-            elim (here_or k found.0) [
-              | inl same ↦ absurd (let e : slice_get s.slots.uses k ≡ Some (Evicting j q) = subst (λ z. slice_get s.slots.uses z ≡ Some (Evicting j q)) same found.1 in let bad : Some (Fetching i p f) ≡ Some (Evicting j q) = sym was ∙ e in cc)
-              | inr other ↦ (found.0, away found.0 (λ e. other e) ∙ found.1)
-            ]);
-        voids = λ j h g is. elim (here_or k h) [
-          | inl same ↦ absurd (let e : slice_get s2.slots.uses k ≡ Some (FetchVoid j g) = subst (λ z. slice_get s2.slots.uses z ≡ Some (FetchVoid j g)) same is in let bad : Some Taken ≡ Some (FetchVoid j g) = sym here ∙ e in cc)
-          | inr other ↦ sound.slots.voids j h g (sym (away h (λ e. other e)) ∙ is)
-        ];
+        by_one = search (rules, here_or);
+        by_this = search (rules, here_or);
+        leaving = search (rules, at_same, here_or);
+        voids = search (rules, here_or);
         held = sound.slots.held ∙ sym (length-set s.slots.uses k Taken);
         whole = λ h some. sound.slots.whole h (let a = lies h in let b = comes h in omega arith);
       };
@@ -169,15 +131,7 @@ is_sound_not_come s i p f k sound was =
         have = λ j o is. has_still o (get_or s.tables j []) (get_or s2.tables j []) (row_length s.tables i p (Swapped k) j) (sound.occupants.have j o is);
         marks = λ j. sound.occupants.marks j ∙ sym (row_length s.tables i p (Swapped k) j);
         numbers = sound.occupants.numbers;
-        released = λ j t is gone. (let a = sound.occupants.released j t is gone in let e = set_tally (ticket_of j) s.slots.uses k (Fetching i p f) Taken was in
-            elim (here_or i j) [
-              | inr apart ↦ (let o = one_other j i apart in omega arith)
-              | inl same ↦ absurd
-                  (let live = page_is_live s i p (Coming k) sound.occupants there in
-                  let u : occupant_at s i t = subst (λ z. occupant_at s z t) same is in
-                  let one : live.0 ≡ t = one_at s i live.0 t live.1 u in
-                  let bad : true ≡ false = sym live.2 ∙ (ap (λ (a : Occupant). a.live) one ∙ gone) in cc)
-            ]);
+        released = search (rules, set_tally, here_or, one_other, page_is_live, one_at);
         needs = λ j t need is at_it. (let n = sound.occupants.needs j t need is at_it in let l = row_length s.tables i p (Swapped k) j in (n.0, omega (arith, n.1, l), n.2));
       };
       pins = record { few = sound.pins.few; there = λ j q some. at_same resident s.tables i p j q (Coming k) (Swapped k) there refl ∙ sound.pins.there j q some; of = sound.pins.of };

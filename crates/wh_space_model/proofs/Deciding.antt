@@ -1,11 +1,10 @@
 -- Whether a step is ready can be told, and what a frame is used for.
-use Rattle.std.proofs.Common.{◌≡◌, ℕ, ◌+◌, ◌<◌, ◌≤◌, ◌⊎◌, inl, inr, cond, true, false, Bool, List, [], ◌∷◌, Some, length, get_or, zero, suc, refl, sym, ap, ◌∙◌, subst, arith, min}
+use Rattle.std.proofs.Common.{◌≡◌, ℕ, ◌+◌, ◌<◌, ◌≤◌, ◌⊎◌, inl, inr, cond, true, false, Bool, List, [], ◌∷◌, length, zero, suc, refl, sym, ap, ◌∙◌, subst, arith, min, rules}
 use Rattle.std.specs.List.{All}
 use Rattle.std.proofs.lemmas.Bool.{cases_lt}
 use Rattle.std.proofs.lemmas.List.Elements.{All-nil, All-cons, All-head, All-tail}
 use Rattle.wh_model.specs.declared.memory.Need.{Need}
-use Rattle.wh_space_model.specs.{tally, one_if, EvictionKeepsAll, FetchKeepsBytes, FetchKeepsSound, FrameUse, HasUse, NoBytesAreReady, OneUseOfAFrame, ReadyIsDecided, SomePageCanBeTaken, SomeSlotIsVacant, is_awaited, is_earmarked, is_free, is_owned, is_shared, IsAtHand, below, copies, frames_to_write, may_take, pages_of_need, IsSound, Space, all_bytes, kept, sharers, at, count, owns, page_at, resident, untouched, fetched, fetches_into}
-use Rattle.wh_space_model.specs.declared.states.Page.TheVariants.{Swapped}
+use Rattle.wh_space_model.specs.{tally, one_if, EvictionKeepsAll, FetchKeepsBytes, FetchKeepsSound, FrameUse, HasUse, NoBytesAreReady, OneUseOfAFrame, ReadyIsDecided, SomePageCanBeTaken, SomeSlotIsVacant, is_awaited, is_earmarked, is_free, is_owned, is_shared, IsAtHand, below, pages_of_need, IsSound, Space, all_bytes, kept, sharers, at, count, owns, page_at, resident, untouched, fetches_into}
 use Rattle.wh_space_model.proofs.Evicted.{bytes_evicted, is_sound_evicted, stood_on}
 use Rattle.wh_space_model.proofs.Fetched.{bytes_fetched, is_sound_fetched}
 use Rattle.wh_space_model.proofs.Putting.{here_or}
@@ -35,11 +34,7 @@ pub ready_decided : ReadyIsDecided
 ready_decided s i need =
     elim (decided_all (λ p. IsAtHand (page_at s.tables i p)) (λ p. decided_one (at untouched (page_at s.tables i p) + at resident (page_at s.tables i p))) (pages_of_need need)) [
       | inr lacks ↦ inr (λ ready. lacks ready.0)
-      | inl all ↦
-          elim (decided_le (frames_to_write s i need) (may_take s i)) [
-            | inl enough ↦ inl (all, enough)
-            | inr few ↦ inr (λ ready. few ready.1)
-          ]
+      | inl all ↦ search (rules, decided_le)
     ]
 
 none_below : (n : ℕ) (v : ℕ → ℕ) → ((k : ℕ) → v k ≡ 0) → below n v ≡ 0
@@ -54,11 +49,7 @@ no_pages : (need : Need) → need.length ≡ 0 → pages_of_need need ≡ []
 no_pages need none = rw none refl
 
 pub no_bytes_are_ready : NoBytesAreReady
-no_bytes_are_ready s i need none =
-    let pages = no_pages need none in
-    let sum = none_below (length s.pool.frames) (λ f. copies 0 (sharers s f)) (λ f. no_copies (sharers s f)) in
-    let zeros : frames_to_write s i need ≡ 0 = rw pages (cond_none need.writes _ (let z : 0 + below (length s.pool.frames) (λ f. copies 0 (sharers s f)) ≡ 0 = omega arith in z)) in
-    (rw pages (All-nil (λ p. IsAtHand (page_at s.tables i p))), omega arith)
+no_bytes_are_ready s i need none = search (rules, no_pages, none_below, no_copies, cond_none)
 
 -- of five numbers that add up to one, with the last cut off at one, exactly one counts
 
@@ -135,8 +126,4 @@ fetch_keeps_sound s i p bytes s2 sound moves =
     subst IsSound (sym moves.leaves) (is_sound_fetched s i p moves.frame moves.slot moves.others bytes sound moves.page moves.free taken moves.whole)
 
 pub fetch_keeps_bytes : FetchKeepsBytes
-fetch_keeps_bytes s i p k bytes s2 sound there is moves =
-    let same : k ≡ moves.slot = (let e : Some (Swapped k) ≡ Some (Swapped moves.slot) = sym there ∙ moves.page in cc) in
-    let e : bytes ≡ get_or s.slots.held moves.slot [] = sym is ∙ ap (λ q. get_or s.slots.held q []) same in
-    ap (λ a. all_bytes a) moves.leaves ∙ subst (λ b. all_bytes (fetched s i p moves.frame moves.slot moves.others b) ≡ all_bytes s) (sym e)
-    (bytes_fetched s i p moves.frame moves.slot moves.others sound.frames moves.page moves.free)
+fetch_keeps_bytes s i p k bytes s2 sound there is moves = search (rules, bytes_fetched)

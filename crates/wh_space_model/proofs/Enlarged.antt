@@ -1,10 +1,10 @@
 -- Pages and instances that are new leave everything sound.
-use Rattle.std.proofs.Common.{◌≡◌, ◌≢◌, ℕ, ◌+◌, ◌*◌, ◌<◌, ◌≤◌, ◌++◌, ◌⊎◌, inl, inr, map, replicate, true, false, Bool, List, [], Option, Some, None, length, slice_get, slice_set, get_or, refl, sym, ap, ◌∙◌, subst, arith, length-set, length-append}
+use Rattle.std.proofs.Common.{◌≡◌, ◌≢◌, ℕ, ◌+◌, ◌*◌, ◌<◌, ◌≤◌, ◌++◌, ◌⊎◌, inl, inr, map, replicate, true, false, Bool, List, [], Option, Some, None, length, slice_get, slice_set, get_or, refl, sym, ap, ◌∙◌, subst, arith, length-set, length-append, rules}
 use Rattle.std.proofs.lemmas.List.{get_or-set_same, get_or-set_other, length-replicate}
 use Rattle.wh_space_model.proofs.Tally.{tally-append}
 use Rattle.wh_space_model.specs.declared.states.Page.{Page}
 use Rattle.wh_space_model.specs.declared.states.Page.TheVariants.{Untouched, Coming}
-use Rattle.wh_space_model.specs.{GrowsSoundly, GrowsByZeros, HasTable, IsAdmissible, IsSound, OccupantsAreSound, Occupant, Space, backing, occupant_at, sharers, view, at, comes_from, count, joined, leaving, lies_in, owns, page_at, page_bytes, resident, shares}
+use Rattle.wh_space_model.specs.{GrowsSoundly, GrowsByZeros, HasTable, IsAdmissible, IsSound, OccupantsAreSound, Occupant, Space, backing, occupant_at, sharers, view, at, comes_from, count, joined, leaving, lies_in, owns, page_at, page_bytes, shares}
 use Rattle.wh_space_model.proofs.Evicted.{names_other, used_other}
 use Rattle.wh_space_model.proofs.Putting.{here_or, there_of}
 use Rattle.wh_space_model.proofs.Rows.{bytes_at, bytes_grown, bytes_new, grown_at, none_of, rows_sum}
@@ -15,16 +15,10 @@ pub record IsWidened (s : Space) (tables : List (List Page)) : Type 0 where
   pub pages : (j q : ℕ) → (page_at tables j q ≡ page_at s.tables j q) ⊎ ((page_at s.tables j q ≡ None) × (page_at tables j q ≡ Some Untouched))
 
 at_wide : (s : Space) (tables : List (List Page)) (w : Page → ℕ) (j q : ℕ) → IsWidened s tables → w Untouched ≡ 0 → at w (page_at tables j q) ≡ at w (page_at s.tables j q)
-at_wide s tables w j q wide none = elim (wide.pages j q) [
-  | inl e ↦ ap (at w) e
-  | inr (a, b) ↦ ap (at w) b ∙ (none ∙ sym (ap (at w) a))
-]
+at_wide s tables w j q wide none = search rules
 
 page_wide : (s : Space) (tables : List (List Page)) (j q : ℕ) (x : Page) → IsWidened s tables → page_at s.tables j q ≡ Some x → page_at tables j q ≡ Some x
-page_wide s tables j q x wide is = elim (wide.pages j q) [
-  | inl e ↦ e ∙ is
-  | inr (a, b) ↦ absurd (let bad : None ≡ Some x = sym a ∙ is in cc)
-]
+page_wide s tables j q x wide is = search rules
 
 unfoldable pub enlarged : Space → List (Option Occupant) → List (List Page) → List (List Bool) → Space
 enlarged s occupants tables touched = record s { occupants = occupants; tables = tables; touched = touched }
@@ -51,21 +45,14 @@ is_sound_enlarged s occupants tables touched sound wide before after occupied ad
         used = λ k. used_other s s2 k (slice_get s.slots.uses k) (wide.sums (lies_in k) refl) (wide.sums (comes_from k) refl) refl
             (λ j q is. at_wide s tables leaving j q wide refl ∙ is) (λ j q is. page_wide s tables j q (Coming k) wide is) (sound.slots.used k);
         by_one = λ j k by. (let found = sound.slots.by_one j k by in (found.0, after j found.0 found.1, found.2));
-        by_this = λ j k t is at_it. elim (before j t is) [
-          | inl was ↦ sound.slots.by_this j k t was at_it
-          | inr none ↦ absurd (let bad : None ≡ Some k = sym none ∙ at_it in cc)
-        ];
+        by_this = search rules;
         leaving = λ j q is. sound.slots.leaving j q (sym (at_wide s tables leaving j q wide refl) ∙ is);
         voids = λ j k f is. (let found = sound.slots.voids j k f is in (found.0, after j found.0 found.1, found.2));
         held = sound.slots.held;
         whole = λ k some. sound.slots.whole k (let a = wide.sums (lies_in k) refl in let b = wide.sums (comes_from k) refl in omega arith);
       };
       occupants = occupied;
-      pins = record {
-        few = sound.pins.few;
-        there = λ j q some. at_wide s tables resident j q wide refl ∙ sound.pins.there j q some;
-        of = λ pins is. (let found = sound.pins.of pins is in (found.0, after pins.place found.0 found.1, found.2));
-      };
+      pins = search (rules, at_wide);
       admissible = admissible;
     }
 
@@ -75,15 +62,7 @@ grown_wide s i m within =
     let row : List Page = get_or s.tables i [] in
     record {
       sums = λ w none. (let a = rows_sum w s.tables i (row ++ replicate m Untouched) within in let b = tally-append w row (replicate m Untouched) in let c = none_of w m none in omega arith);
-      pages = λ j q. elim (here_or i j) [
-        | inr other ↦ inl (ap (λ xs. slice_get xs q) (get_or-set_other s.tables i j (row ++ replicate m Untouched) [] (λ e. other e)))
-        | inl same ↦
-            (let e : page_at (slice_set s.tables i (row ++ replicate m Untouched)) j q ≡ slice_get (row ++ replicate m Untouched) q = rw same (ap (λ xs. slice_get xs q) (get_or-set_same s.tables i (row ++ replicate m Untouched) [] within)) in
-            elim (grown_at row m q) [
-              | inl still ↦ inl (e ∙ (still ∙ ap (λ z. page_at s.tables z q) (sym same)))
-              | inr (a, b) ↦ inr (ap (λ z. page_at s.tables z q) same ∙ a, e ∙ b)
-            ])
-      ];
+      pages = search (rules, here_or, get_or-set_other, replicate, get_or-set_same, grown_at);
     }
 
 has_grown : (t : Occupant) (row : List Page) (n : ℕ) → t.live ≡ true → length row + 16 * n ≤ t.max → HasTable (Some t) row → HasTable (Some t) (row ++ replicate (16 * n) Untouched)
@@ -107,10 +86,7 @@ grows_soundly s i n t s2 sound was live fits is =
     let many2 : length marks ≡ length old + 16 * n = (let a = length-append old (replicate (16 * n) false) in let b = length-replicate (16 * n) false in omega arith) in
     let away : (j : ℕ) → j ≢ i → get_or tables j [] ≡ get_or s.tables j [] = λ j other. get_or-set_other s.tables i j more [] other in
     let here : get_or tables i [] ≡ more = get_or-set_same s.tables i more [] within in
-    let long : (j : ℕ) → length (get_or s.tables j []) ≤ length (get_or tables j []) = λ j. elim (here_or i j) [
-      | inr other ↦ (let e = ap length (away j (λ e. other e)) in omega arith)
-      | inl same ↦ rw same (let e = ap length here in omega arith)
-    ] in
+    let long : (j : ℕ) → length (get_or s.tables j []) ≤ length (get_or tables j []) = search (rules, here_or) in
     subst IsSound (sym is) (is_sound_enlarged s s.occupants tables touched sound (grown_wide s i (16 * n) within) (λ j u at_it. inl at_it) (λ j u at_it. at_it) (record {
       tables = length-set s.tables i more ∙ sound.occupants.tables;
       touched = length-set s.touched i marks ∙ sound.occupants.touched;
@@ -123,10 +99,7 @@ grows_soundly s i n t s2 sound was live fits is =
             let has : HasTable (Some t) more = has_grown t row n live fits (sound.occupants.have i (Some t) was) in
             subst (λ z. HasTable o (get_or tables z [])) (sym same) (subst (HasTable o) (sym here) (subst (λ z. HasTable z more) one has)))
       ];
-      marks = λ j. elim (here_or i j) [
-        | inr other ↦ ap length (get_or-set_other s.touched i j marks [] (λ e. other e)) ∙ (sound.occupants.marks j ∙ sym (ap length (away j (λ e. other e))))
-        | inl same ↦ rw same (let a = ap length (get_or-set_same s.touched i marks [] within2) in let b = ap length here in let c = sound.occupants.marks i in omega arith)
-      ];
+      marks = search (rules, here_or, get_or-set_other, get_or-set_same);
       numbers = sound.occupants.numbers;
       released = sound.occupants.released;
       needs = λ j u need at_it stands. (let a = sound.occupants.needs j u need at_it stands in let l = long j in (a.0, omega (arith, a.1, l), a.2));

@@ -1,5 +1,5 @@
 -- An instance that comes leaves everything sound, and sees zeros.
-use Rattle.std.proofs.Common.{◌≡◌, ◌≢◌, ℕ, ◌+◌, ◌*◌, ◌-◌, ◌≤◌, ◌⊎◌, inl, inr, map, replicate, true, false, Bool, List, [], Option, Some, None, length, slice_get, get_or, sym, ap, ◌∙◌, subst, arith}
+use Rattle.std.proofs.Common.{◌≡◌, ◌≢◌, ℕ, ◌+◌, ◌*◌, ◌-◌, ◌≤◌, ◌⊎◌, inl, inr, map, replicate, true, false, Bool, List, [], Option, Some, None, length, slice_get, get_or, sym, ap, ◌∙◌, subst, arith, rules}
 use Rattle.std.proofs.lemmas.List.{length-replicate}
 use Rattle.wh_space_model.specs.{tally, EntersSoundly, EntersAtZeros, IsFreePlace, newcomer, with_row, HasTable, IsSound, OccupantsAreSound, Claimed, Occupant, Space, backing, occupant_at, of_occupant, view, joined, page_at, page_bytes}
 use Rattle.wh_space_model.specs.declared.states.Page.{Page}
@@ -44,19 +44,10 @@ entered_wide s i m sound free =
 -- who is there now was there, or is the newcomer
 entered_before : (s : Space) (i j : ℕ) (c : Claimed) (t : Occupant) → i ≤ length s.occupants → slice_get (with_row s.occupants i (Some (newcomer c))) j ≡ Some (Some t)
     → ((j ≢ i) × occupant_at s j t) ⊎ ((j ≡ i) × (newcomer c ≡ t))
-entered_before s i j c t most is = elim (here_or i j) [
-  | inr other ↦ inl (λ e. other e, sym (row_other s.occupants i j (Some (newcomer c)) most (λ e. other e)) ∙ is)
-  | inl same ↦
-      (let is2 : slice_get (with_row s.occupants i (Some (newcomer c))) i ≡ Some (Some t) = subst (λ z. slice_get (with_row s.occupants i (Some (newcomer c))) z ≡ Some (Some t)) same is in
-      let both : Some (Some (newcomer c)) ≡ Some (Some t) = sym (row_same s.occupants i (Some (newcomer c)) most) ∙ is2 in
-      inr (same, let one : newcomer c ≡ t = cc in one))
-]
+entered_before s i j c t most is = search (rules, here_or, row_other, row_same)
 
 entered_after : (s : Space) (i j : ℕ) (c : Claimed) (t : Occupant) → IsFreePlace s i → occupant_at s j t → slice_get (with_row s.occupants i (Some (newcomer c))) j ≡ Some (Some t)
-entered_after s i j c t free is = elim (here_or i j) [
-  | inr other ↦ row_other s.occupants i j (Some (newcomer c)) (free_within s i free) (λ e. other e) ∙ is
-  | inl same ↦ absurd (let bad : Some t ≡ None = nobody s i (Some t) free (subst (λ z. occupant_at s z t) same is) in cc)
-]
+entered_after s i j c t free is = search (rules, here_or, row_other, free_within, nobody)
 
 has_new : (c : Claimed) (size : ℕ) → (2 ≤ c.min) × (c.min ≤ c.max) × (c.max ≤ 65536) → (1 ≤ c.shares) × (c.shares ≤ 1000000) → 16 * size ≤ c.max → HasTable (Some (newcomer c)) (replicate (16 * size) Untouched)
 has_new c size bounds shares fits =
@@ -96,24 +87,9 @@ enters_soundly s i c size s2 sound enters =
             let one : Some (newcomer c) ≡ o = cc in
             subst (λ z. HasTable o (get_or tables z [])) (sym same) (subst (HasTable o) (sym here) (subst (λ z. HasTable z row) one (has_new c size enters.bounds enters.shares enters.fits))))
       ];
-      marks = λ j. elim (here_or i j) [
-        | inr other ↦ ap length (away2 j (λ e. other e)) ∙ (sound.occupants.marks j ∙ sym (ap length (away j (λ e. other e))))
-        | inl same ↦ rw same (ap length here2 ∙ (length-replicate (16 * size) false ∙ sym (ap length here ∙ length-replicate (16 * size) Untouched)))
-      ];
-      numbers = λ j h t u a b same. elim (entered_before s i j c t most a) [
-        | inl (other, was) ↦ elim (entered_before s i h c u most b) [
-          | inl (other2, was2) ↦ sound.occupants.numbers j h t u was was2 same
-          | inr (here_u, one) ↦ absurd (enters.fresh j t was (same ∙ sym (ap (λ (a : Occupant). a.number) one)))
-        ]
-        | inr (here_t, one) ↦ elim (entered_before s i h c u most b) [
-          | inl (other2, was2) ↦ absurd (enters.fresh h u was2 (sym same ∙ sym (ap (λ (a : Occupant). a.number) one)))
-          | inr (here_u, one2) ↦ here_t ∙ sym here_u
-        ]
-      ];
-      released = λ j t is gone. elim (entered_before s i j c t most is) [
-        | inl (other, was) ↦ sound.occupants.released j t was gone
-        | inr (same, one) ↦ absurd (let bad : true ≡ false = ap (λ (a : Occupant). a.live) one ∙ gone in cc)
-      ];
+      marks = search (rules, here_or, length-replicate);
+      numbers = search (rules, entered_before);
+      released = search (rules, entered_before);
       needs = λ j t need is stands. elim (entered_before s i j c t most is) [
         | inl (other, was) ↦ (let n = sound.occupants.needs j t need was stands in let l = ap length (away j other) in (n.0, omega (arith, n.1, l), n.2))
         | inr (same, one) ↦ absurd (let bad : None ≡ Some need = ap (λ (a : Occupant). a.stands) one ∙ stands in cc)

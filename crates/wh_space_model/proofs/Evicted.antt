@@ -1,9 +1,9 @@
 -- A page that goes to a slot leaves frames and slots sound.
-use Rattle.std.proofs.Common.{◌≡◌, ◌≢◌, ℕ, ◌+◌, ◌<◌, ◌≤◌, ◌++◌, ◌⊎◌, inl, inr, cond, nat_lt, min, true, false, Bool, List, [], ◌∷◌, Option, Some, None, length, slice_get, slice_set, get_or, zero, suc, refl, sym, ap, ◌∙◌, subst, arith, length-set}
+use Rattle.std.proofs.Common.{◌≡◌, ◌≢◌, ℕ, ◌+◌, ◌<◌, ◌≤◌, ◌++◌, ◌⊎◌, inl, inr, cond, nat_lt, min, true, false, Bool, List, [], ◌∷◌, Option, Some, None, length, slice_get, slice_set, get_or, zero, suc, refl, sym, ap, ◌∙◌, subst, arith, length-set, rules}
 use Rattle.std.proofs.lemmas.Bool.Decides.{nat_tests}
 use Rattle.std.proofs.lemmas.Bool.{cases_lt}
 use Rattle.std.proofs.lemmas.List.{get_or-set_same, get_or-set_other}
-use Rattle.wh_space_model.specs.{tally, one_if, CanLeave, fetches_into, ticket_of, one_fewer, evicted, Space, Occupant, sharers, kept, pinned_by, backing, all_bytes, frame_bytes, IsSound, FramesAreSound, SlotsAreSound, OccupantsAreSound, PinsAreSound, IsUsed, LeavesBy, HasTable, holders, Names, HasHash, at, page_at, put, owns, shares, lies_in, comes_from, leaving, count}
+use Rattle.wh_space_model.specs.{tally, one_if, CanLeave, fetches_into, ticket_of, one_fewer, evicted, Space, Occupant, sharers, kept, backing, all_bytes, frame_bytes, IsSound, FramesAreSound, SlotsAreSound, OccupantsAreSound, PinsAreSound, IsUsed, LeavesBy, HasTable, holders, Names, HasHash, at, page_at, put, owns, shares, lies_in, comes_from, leaving, count}
 use Rattle.wh_space_model.proofs.Tally.{one_same, one_other, tally-append}
 use Rattle.wh_space_model.specs.declared.states.Page.{Page}
 use Rattle.wh_space_model.specs.declared.states.Page.TheVariants.{Private, Shared, Coming, Swapped}
@@ -117,15 +117,7 @@ none_evicted s j p f k others x sound there stood vacant g past =
 
 -- another page than the one that left is what it was, where it is of a kind that that one wasn't
 pub other_kind : (w : Page → ℕ) (t : List (List Page)) (j p i q : ℕ) (x y : Page) → page_at t j p ≡ Some x → w x ≡ 0 → at w (page_at t i q) ≡ 1 → page_at (put t j p y) i q ≡ page_at t i q
-other_kind w t j p i q x y there none is =
-    elim (here_or i j) [
-      | inr away ↦ ap (λ xs. slice_get xs q) (put_other_row t j p i y (λ e. away (sym e)))
-      | inl same ↦
-          elim (here_or p q) [
-            | inr other ↦ rw same (put_other t i p q y other)
-            | inl here ↦ absurd (let e : at w (page_at t j p) ≡ 1 = rw (same, ← here) is in let z : at w (page_at t j p) ≡ 0 = rw there none in omega arith)
-          ]
-    ]
+other_kind w t j p i q x y there none is = search (rules, here_or, put_other_row, put_other)
 
 -- the entry of the frame that the page left
 pub names_left : (s s2 : Space) (f : ℕ) (m : Option Mark) (b : Bool) → s2.pool.frames ≡ s.pool.frames → Names s f m → (m ≢ None)
@@ -135,8 +127,7 @@ names_left s s2 f m b same names some (inr (e, zeros)) = rw e zeros
 names_left s s2 f None b same names some (inl (e, many, less)) = absurd (some refl)
 names_left s s2 f (Some Plain) b same names some (inl (e, many, less)) = absurd (omega arith)
 names_left s s2 f (Some (Hint h i q)) b same names some (inl (e, many, less)) = let z = names.1 in absurd (omega arith)
-names_left s s2 f (Some (Sharers h n)) b same names some (inl (e, many, less)) =
-    rw e (let c = names.0 in (omega arith, omega arith, λ z. names.2 (sym (ap (λ fs. get_or fs f []) same) ∙ z)))
+names_left s s2 f (Some (Sharers h n)) b same names some (inl (e, many, less)) = search rules
 names_left s s2 f (Some (Unlisted n)) b same names some (inl (e, many, less)) = rw e (let c = names.0 in (omega arith, omega arith))
 
 -- the entry of another frame
@@ -157,14 +148,7 @@ fewer_hash (Some (Sharers x n)) true hash h = h
 fewer_hash (Some (Unlisted n)) true hash h = absurd h
 
 pub hash_before : (marks : List Mark) (f g : ℕ) (b : Bool) (hash : ℕ) → f < length marks → HasHash (slice_get (slice_set marks f (cond b (one_fewer (slice_get marks f)) Plain)) g) hash → HasHash (slice_get marks g) hash
-hash_before marks f g b hash within has =
-    elim (here_or f g) [
-      | inr other ↦ subst (λ m. HasHash m hash) (set_other marks f g (cond b (one_fewer (slice_get marks f)) Plain) (λ e. other e)) has
-      | inl same ↦
-          (let e : slice_get (slice_set marks f (cond b (one_fewer (slice_get marks f)) Plain)) g ≡ Some (cond b (one_fewer (slice_get marks f)) Plain)
-          = ap (slice_get (slice_set marks f (cond b (one_fewer (slice_get marks f)) Plain))) same ∙ set_same marks f (cond b (one_fewer (slice_get marks f)) Plain) within in
-          subst (λ q. HasHash (slice_get marks q) hash) (sym same) (fewer_hash (slice_get marks f) b hash (subst (λ m. HasHash m hash) e has)))
-    ]
+hash_before marks f g b hash within has = search (rules, here_or, set_other, set_same, fewer_hash)
 
 pub stood_other : (x : Page) (f g : ℕ) → StoodOn x f → g ≢ f → (owns g x ≡ 0) × (shares g x ≡ 0)
 unfolding StoodOn
@@ -235,15 +219,7 @@ stood_kind x f h (inl e) = (rw e refl, rw e refl, rw e refl, λ c. (let bad : Pr
 stood_kind x f h (inr e) = (rw e refl, rw e refl, rw e refl, λ c. (let bad : Shared f ≡ Coming h = sym e ∙ c in cc))
 
 pub other_value : (t : List (List Page)) (j p i q : ℕ) (x y z : Page) → page_at t j p ≡ Some x → x ≢ z → page_at t i q ≡ Some z → page_at (put t j p y) i q ≡ Some z
-other_value t j p i q x y z there apart is =
-    elim (here_or i j) [
-      | inr away ↦ ap (λ xs. slice_get xs q) (put_other_row t j p i y (λ e. away (sym e))) ∙ is
-      | inl same ↦
-          elim (here_or p q) [
-            | inr other ↦ (let k : page_at (put t j p y) j q ≡ page_at t j q = put_other t j p q y other in let z2 : page_at t j q ≡ Some z = rw same is in rw (← same) (k ∙ z2))
-            | inl here ↦ absurd (apart (let e : page_at t j p ≡ Some z = rw (same, ← here) is in let both : Some x ≡ Some z = sym there ∙ e in cc))
-          ]
-    ]
+other_value t j p i q x y z there apart is = search (rules, here_or, put_other_row, put_other)
 
 pub vacant_is : (s : Space) (k : ℕ) → IsUsed s k (slice_get s.slots.uses k) → slice_get s.slots.uses k ≡ Some Vacant → (count (lies_in k) s.tables ≡ 0) × (count (comes_from k) s.tables ≡ 0) × (tally (one_if k) s.slots.vacant ≡ 1)
 vacant_is s k used vacant = subst (IsUsed s k) vacant used
@@ -253,17 +229,7 @@ not_leaving i xs k vacant by = subst (LeavesBy i) vacant by
 
 -- a page that is leaving after the move was leaving before
 pub still : (s : Space) (j p i q : ℕ) (x y : Page) → page_at s.tables j p ≡ Some x → leaving y ≡ 0 → at leaving (page_at (put s.tables j p y) i q) ≡ 1 → at leaving (page_at s.tables i q) ≡ 1
-still s j p i q x y there stays is =
-    elim (here_or i j) [
-      | inr away ↦ (let e : page_at (put s.tables j p y) i q ≡ page_at s.tables i q = ap (λ xs. slice_get xs q) (put_other_row s.tables j p i y (λ e. away (sym e))) in rw e at is)
-      | inl same ↦
-          elim (here_or p q) [
-            | inr other ↦ (let e : page_at (put s.tables j p y) i q ≡ page_at s.tables i q = rw same (put_other s.tables i p q y other) in rw e at is)
-            | inl here ↦ absurd (let now : page_at (put s.tables j p y) j p ≡ Some y = put_this s.tables j p x y there in
-                let e : at leaving (page_at (put s.tables j p y) j p) ≡ 1 = subst (λ z. at leaving (page_at (put s.tables j p y) z p) ≡ 1) (sym same) (subst (λ z. at leaving (page_at (put s.tables j p y) i z) ≡ 1) here is) in
-                let z : at leaving (page_at (put s.tables j p y) j p) ≡ 0 = rw now stays in omega arith)
-          ]
-    ]
+still s j p i q x y there stays is = search (rules, here_or, put_other_row, put_other, put_this)
 
 pub slots_evicted : (s : Space) (j p f k : ℕ) (others : List ℕ) (x : Page) → SlotsAreSound s → length (frame_bytes s f) ≡ 4096 → page_at s.tables j p ≡ Some x → StoodOn x f → slice_get s.slots.uses k ≡ Some Vacant → s.slots.vacant ≡ others ++ k ∷ [] → SlotsAreSound (evicted s j p f k others)
 slots_evicted s j p f k others x sound long there stood vacant list =
@@ -296,24 +262,15 @@ slots_evicted s j p f k others x sound long there stood vacant list =
             (λ i q is. other_value s.tables j p i q x (Swapped k) (Coming h) there kind.3 is)
             (sound.used h)))
       ];
-      by_one = λ i h by. elim (here_or k h) [
-        | inl same ↦ absurd (subst (LeavesBy i) here (subst (λ q. LeavesBy i (slice_get s2.slots.uses q)) same by))
-        | inr other ↦ sound.by_one i h (subst (LeavesBy i) (away h (λ e. other e)) by)
-      ];
-      by_this = λ i h t is at. (let by = sound.by_this i h t is at in elim (here_or k h) [
-        | inl same ↦ absurd (not_leaving i s.slots.uses k vacant (subst (λ q. LeavesBy i (slice_get s.slots.uses q)) same by))
-        | inr other ↦ subst (LeavesBy i) (sym (away h (λ e. other e))) by
-      ]);
+      by_one = search (rules, here_or);
+      by_this = search (rules, here_or, not_leaving);
       leaving = λ i q is. (let before : at leaving (page_at s.tables i q) ≡ 1 = still s j p i q x (Swapped k) there refl is in
           let found = sound.leaving i q before in
           elim (here_or k found.0) [
             | inl same ↦ absurd (let e : slice_get s.slots.uses k ≡ Some (Evicting i q) = subst (λ z. slice_get s.slots.uses z ≡ Some (Evicting i q)) same found.1 in let bad : Some Vacant ≡ Some (Evicting i q) = sym vacant ∙ e in cc)
             | inr other ↦ (found.0, away found.0 (λ e. other e) ∙ found.1)
           ]);
-      voids = λ i h g is. elim (here_or k h) [
-        | inl same ↦ absurd (let e : slice_get s2.slots.uses k ≡ Some (FetchVoid i g) = subst (λ z. slice_get s2.slots.uses z ≡ Some (FetchVoid i g)) same is in let bad : Some Taken ≡ Some (FetchVoid i g) = sym here ∙ e in cc)
-        | inr other ↦ sound.voids i h g (sym (away h (λ e. other e)) ∙ is)
-      ];
+      voids = search (rules, here_or);
       held = length-set s.slots.held k bytes ∙ (sound.held ∙ sym (length-set s.slots.uses k Taken));
       whole = λ h some. elim (here_or k h) [
         | inl same ↦ rw same (ap length (get_or-set_same s.slots.held k bytes [] (let l = sound.held in omega arith)) ∙ long)
@@ -360,20 +317,7 @@ occupants_evicted s j p f k others sound vacant = record {
 }
 
 pub pins_evicted : (s : Space) (j p f k : ℕ) (others : List ℕ) (x : Page) → PinsAreSound s → CanLeave s j p → page_at s.tables j p ≡ Some x → PinsAreSound (evicted s j p f k others)
-pins_evicted s j p f k others x sound leaves there = record {
-  few = sound.few;
-  there = λ i q some. (let before = sound.there i q some in
-      elim (here_or i j) [
-        | inr away ↦ (let e : page_at (put s.tables j p (Swapped k)) i q ≡ page_at s.tables i q = ap (λ xs. slice_get xs q) (put_other_row s.tables j p i (Swapped k) (λ e. away (sym e))) in rw e before)
-        | inl same ↦
-            elim (here_or p q) [
-              | inr other ↦ (let e : page_at (put s.tables j p (Swapped k)) i q ≡ page_at s.tables i q = rw same (put_other s.tables i p q (Swapped k) other) in rw e before)
-              | inl here ↦ absurd (let z = leaves.1 in
-                  let y : 1 ≤ tally (one_if p) (pinned_by s.pins j) = subst (λ a. 1 ≤ tally (one_if a) (pinned_by s.pins j)) here (subst (λ a. 1 ≤ tally (one_if q) (pinned_by s.pins a)) (sym same) some) in omega arith)
-            ]
-      ]);
-  of = sound.of;
-}
+pins_evicted s j p f k others x sound leaves there = search (rules, here_or, put_other_row, put_other)
 
 -- a page that goes to a slot leaves everything sound
 pub is_sound_evicted : (s : Space) (j p f k : ℕ) (others : List ℕ) (x : Page) → IsSound s → CanLeave s j p → page_at s.tables j p ≡ Some x → StoodOn x f → slice_get s.slots.uses k ≡ Some Vacant → s.slots.vacant ≡ others ++ k ∷ [] → IsSound (evicted s j p f k others)

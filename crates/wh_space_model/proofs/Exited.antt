@@ -1,8 +1,8 @@
 -- An instance that goes leaves everything sound.
-use Rattle.std.proofs.Common.{◌≡◌, ◌≢◌, ℕ, ◌+◌, ◌-◌, ◌<◌, ◌≤◌, ◌==◌, ◌⊎◌, inl, inr, cond, min, nat_lt, true, false, Bool, List, [], ◌∷◌, Option, Some, None, length, slice_get, slice_set, get_or, suc, refl, sym, ap, ◌∙◌, subst, arith, length-set}
+use Rattle.std.proofs.Common.{◌≡◌, ◌≢◌, ℕ, ◌+◌, ◌-◌, ◌<◌, ◌≤◌, ◌==◌, ◌⊎◌, inl, inr, cond, min, nat_lt, true, false, Bool, List, [], ◌∷◌, Option, Some, None, length, slice_get, slice_set, get_or, suc, refl, sym, ap, ◌∙◌, subst, arith, length-set, rules}
 use Rattle.std.proofs.lemmas.Bool.Decides.{nat_tests}
 use Rattle.std.proofs.lemmas.List.{get_or-set_same, get_or-set_other}
-use Rattle.wh_space_model.specs.{tally, one_if, ExitsSoundly, fetches_into, ticket_of, has_pins, unpinned, unpinned_of, Exits, freed_by, released_mark, released_use, FramesAreSound, HasHash, HasTable, IsSound, IsUsed, LeavesBy, Names, SlotsAreSound, Occupant, Pins, Space, kept, occupant_at, of_occupant, pinned_by, sharers, at, comes_from, count, count_of, leaving, lies_in, owns, page_at, resident, shares, settled, stays_occupant}
+use Rattle.wh_space_model.specs.{tally, one_if, ExitsSoundly, fetches_into, ticket_of, has_pins, unpinned, unpinned_of, Exits, freed_by, released_mark, released_use, FramesAreSound, HasHash, HasTable, IsSound, IsUsed, LeavesBy, Names, SlotsAreSound, Occupant, Pins, Space, kept, occupant_at, of_occupant, pinned_by, sharers, at, comes_from, count, count_of, leaving, lies_in, owns, page_at, shares, settled, stays_occupant}
 use Rattle.wh_space_model.proofs.Tally.{one_same, tally-append}
 use Rattle.wh_space_model.specs.declared.Tax.{Tax}
 use Rattle.wh_space_model.specs.declared.states.Page.{Page}
@@ -226,14 +226,8 @@ names_gone : (s s2 : Space) (i f t : ℕ) (m : Mark) → s2.pool.frames ≡ s.po
     → ((j q : ℕ) → j ≢ i → page_at s2.tables j q ≡ page_at s.tables j q) → Names s f (Some m) → Names s2 f (Some (released_mark i t m))
 names_gone s s2 i f t Plain frames share away names = let z : sharers s f ≡ 0 = names in omega arith
 names_gone s s2 i f t (Hint hash j q) frames share away names = elim (here_or i j) [
-  | inl same ↦
-      (let e : cond (i == j) Plain (Hint hash j q) ≡ Plain = rw same (cond_here i Plain (Hint hash i q)) in
-      let z : Names s2 f (Some Plain) = (let a = names.1 in omega arith) in
-      subst (λ m. Names s2 f (Some m)) (sym e) z)
-  | inr other ↦
-      (let e : cond (i == j) Plain (Hint hash j q) ≡ Hint hash j q = cond_other i j Plain (Hint hash j q) (λ e. other e) in
-      let z : Names s2 f (Some (Hint hash j q)) = (ap (at (owns f)) (away j q (λ e. other e)) ∙ names.0, (let a = names.1 in omega arith)) in
-      subst (λ m. Names s2 f (Some m)) (sym e) z)
+  | inl same ↦ search (rules, cond_here)
+  | inr other ↦ search (rules, cond_other)
 ]
 names_gone s s2 i f t (Sharers hash n) frames share away names = go (nat_lt t n) refl where
   less : nat_lt t n ≡ true → t < n
@@ -319,11 +313,7 @@ gone_before : (s : Space) (i j : ℕ) (mine t : Occupant) → occupant_at s i mi
 unfolding marked_gone
 gone_before s i j mine t was is = elim (here_or i j) [
   | inr other ↦ (t, sym (gone_away s i j mine (λ e. other e)) ∙ is, refl, refl, inl (λ e. other e, refl))
-  | inl same ↦
-      (let is2 : slice_get (slice_set s.occupants i (Some (marked_gone mine))) i ≡ Some (Some t) = subst (λ z. slice_get (slice_set s.occupants i (Some (marked_gone mine))) z ≡ Some (Some t)) same is in
-      let both : Some (Some (marked_gone mine)) ≡ Some (Some t) = sym (gone_now s i mine was) ∙ is2 in
-      let one : marked_gone mine ≡ t = cc in
-      (mine, subst (λ z. occupant_at s z mine) (sym same) was, ap (λ (a : Occupant). a.number) one, ap (λ (a : Occupant). a.leaves) one, inr (same, sym (ap (λ (a : Occupant). a.stands) one))))
+  | inl same ↦ search (rules, marked_gone, gone_now)
 ]
 
 gone_after : (s : Space) (i j : ℕ) (mine u : Occupant) → occupant_at s i mine → occupant_at s j u
@@ -353,22 +343,12 @@ used_gone s s2 i k c d Taken lies comes vacant here away used = go (nat_lt 0 c) 
   go true e = let l = some e in (let a = used.0 in omega arith, let a = used.1 in omega arith, let a = used.2 in let b = used.0 in omega arith)
   go false e = let l = none e in (let a = used.0 in omega arith, let a = used.1 in omega arith, let a = used.2 in omega arith)
 used_gone s s2 i k c d (Evicting j q) lies comes vacant here away used = elim (here_or i j) [
-  | inl same ↦
-      (let e : cond (i == j) (EvictVoid j) (Evicting j q) ≡ EvictVoid j = rw same (cond_here i (EvictVoid i) (Evicting i q)) in
-      let z : IsUsed s2 k (Some (EvictVoid j)) = (let a = used.0 in omega arith, let a = used.1 in omega arith, let a = used.2 in let b = used.0 in omega arith) in
-      subst (λ m. IsUsed s2 k (Some m)) (sym e) z)
-  | inr other ↦
-      (let e : cond (i == j) (EvictVoid j) (Evicting j q) ≡ Evicting j q = cond_other i j (EvictVoid j) (Evicting j q) (λ e. other e) in
-      let z : IsUsed s2 k (Some (Evicting j q)) = (let a = used.0 in omega arith, let a = used.1 in omega arith, let a = used.2 in let b = used.0 in omega arith, ap (at leaving) (away j q (λ e. other e)) ∙ used.3) in
-      subst (λ m. IsUsed s2 k (Some m)) (sym e) z)
+  | inl same ↦ search (rules, cond_here)
+  | inr other ↦ search (rules, cond_other)
 ]
 used_gone s s2 i k c d (EvictVoid j) lies comes vacant here away used = (let a = used.0 in omega arith, let a = used.1 in omega arith, let a = used.2 in let b = used.0 in omega arith)
 used_gone s s2 i k c d (Fetching j q f) lies comes vacant here away used = elim (here_or i j) [
-  | inl same ↦
-      (let e : cond (i == j) (FetchVoid j f) (Fetching j q f) ≡ FetchVoid j f = rw same (cond_here i (FetchVoid i f) (Fetching i q f)) in
-      let some = here q (subst (λ z. page_at s.tables z q ≡ Some (Coming k)) same used.3) in
-      let z : IsUsed s2 k (Some (FetchVoid j f)) = (let a = used.0 in omega arith, let a = used.1 in omega arith, let a = used.2 in let b = used.0 in omega arith) in
-      subst (λ m. IsUsed s2 k (Some m)) (sym e) z)
+  | inl same ↦ search (rules, cond_here)
   | inr other ↦
       (let e : cond (i == j) (FetchVoid j f) (Fetching j q f) ≡ Fetching j q f = cond_other i j (FetchVoid j f) (Fetching j q f) (λ e. other e) in
       let there : page_at s2.tables j q ≡ Some (Coming k) = away j q (λ e. other e) ∙ used.3 in
@@ -393,10 +373,7 @@ slots_gone s i mine free marks uses vacant sound was live within left =
           let by2 : LeavesBy j (Some (released_use i (count_of (lies_in k) s.tables i) old.0)) = subst (λ z. LeavesBy j (Some z)) (sym old.2) (subst (LeavesBy j) is by) in
           subst (LeavesBy j) (sym old.1) (subst (λ (T : Type 0). T) (use_leaver i (count_of (lies_in k) s.tables i) j old.0) by2))
     ] in
-    let leaver2 : (j k : ℕ) → LeavesBy j (slice_get s.slots.uses k) → LeavesBy j (slice_get uses k) = λ j k by. elim (option_of (slice_get s.slots.uses k)) [
-      | inl none ↦ absurd (subst (LeavesBy j) none by)
-      | inr (x, is) ↦ subst (LeavesBy j) (sym (left.used k x is)) (subst (λ (T : Type 0). T) (sym (use_leaver i (count_of (lies_in k) s.tables i) j x)) (subst (LeavesBy j) is by))
-    ] in
+    let leaver2 : (j k : ℕ) → LeavesBy j (slice_get s.slots.uses k) → LeavesBy j (slice_get uses k) = search (rules, option_of, use_leaver) in
     record {
       used = λ k. (let a = lies k in let b = comes k in let c = left.vacants k in elim (option_of (slice_get uses k)) [
         | inl none ↦
@@ -413,10 +390,7 @@ slots_gone s i mine free marks uses vacant sound was live within left =
       ]);
       by_one = λ j k by. (let found = sound.by_one j k (leaver j k by) in let now = gone_after s i j mine found.0 was found.1 in (now.0, now.1, now.2 ∙ found.2));
       by_this = λ j k t is at_it. (let x = gone_before s i j mine t was is in leaver2 j k (sound.by_this j k x.0 x.1 (x.3 ∙ at_it)));
-      leaving = λ j q is.
-          (let before = kind_left s i j q leaving within is in
-          let found = sound.leaving j q before.1 in
-          (found.0, left.used found.0 (Evicting j q) found.1 ∙ ap Some (cond_other i j (EvictVoid j) (Evicting j q) before.0)));
+      leaving = search (rules, kind_left, cond_other);
       voids = λ j k f is.
           (let old = use_before s i k (FetchVoid j f) free marks uses vacant left is in
           elim (use_void i (count_of (lies_in k) s.tables i) j f old.0 old.2) [
@@ -448,15 +422,7 @@ but_gone s i mine free marks uses vacant sound was live left =
     record {
       frames = frames_gone s i mine free marks uses vacant sound.frames within left;
       slots = slots_gone s i mine free marks uses vacant sound.slots was live within left;
-      pins = record {
-        few = unpinned_few s i sound.pins.few;
-        there = λ j q some. (let less = unpinned_less s i j q some in ap (at resident) (row_away s i j q less.0) ∙ sound.pins.there j q less.1);
-        of = λ pins is.
-            (let place = unpinned_place s i pins is in
-            let found = sound.pins.of pins place.0 in
-            let now = gone_after s i pins.place mine found.0 was found.1 in
-            (now.0, now.1, ap (λ (a : Occupant). a.live) (now.4 place.1) ∙ found.2));
-      };
+      pins = search (rules, unpinned_few, unpinned_less, row_away, unpinned_place, gone_after);
       admissible = ((let a = same_sum (λ t. t.min) refl in let b = sound.admissible.0 in omega arith), (let a = same_sum (λ t. (t.max - t.min) + 1) refl in let c = left.many in let b = sound.admissible.1 in omega arith));
       tables = length-set s.tables i [] ∙ (sound.occupants.tables ∙ sym (length-set s.occupants i _));
       touched = length-set s.touched i [] ∙ (sound.occupants.touched ∙ sym (length-set s.occupants i _));
@@ -470,10 +436,7 @@ but_gone s i mine free marks uses vacant sound was live left =
             let has2 : HasTable (Some (marked_gone mine)) [] = (has.0, has.1, omega arith, λ gone. refl, has.4, has.5, has.6, (0, refl)) in
             subst (λ z. HasTable o (get_or s2.tables z [])) (sym same) (subst (HasTable o) (sym here) (subst (λ z. HasTable z []) one has2)))
       ];
-      marks = λ j. elim (here_or i j) [
-        | inr other ↦ ap length (get_or-set_other s.touched i j [] [] (λ e. other e)) ∙ (sound.occupants.marks j ∙ sym (ap length (away j (λ e. other e))))
-        | inl same ↦ rw same (ap length (get_or-set_same s.touched i [] [] within2) ∙ sym (ap length here))
-      ];
+      marks = search (rules, here_or, get_or-set_other, get_or-set_same);
       numbers = λ j h t u a b same. (let x = before j t a in let y = before h u b in sound.occupants.numbers j h x.0 y.0 x.1 y.1 (x.2 ∙ (same ∙ sym y.2)));
       released = λ j t apart is gone. (let x = before j t is in elim x.4 [
         | inr bad ↦ absurd (apart bad.0)
@@ -514,11 +477,9 @@ exits_is s i s2 exits =
     let gone_row : List (Option Occupant) = slice_set s.occupants i (Some (record mine { live = false; stands = None })) in
     let within = there_of s.occupants i (Some mine) exits.was.0 in
     let now : get_or gone_row i None ≡ Some (record mine { live = false; stands = None }) = get_or-set_same s.occupants i (Some (record mine { live = false; stands = None })) None within in
-    let ticket : tally (ticket_of i) s2.slots.uses ≡ n =
-    pointwise (ticket_of i) s.slots.uses s2.slots.uses exits.slots (λ k x is. (released_use i (count_of (lies_in k) s.tables i) x, exits.uses k x is, use_ticket i (count_of (lies_in k) s.tables i) i x)) in
+    let ticket : tally (ticket_of i) s2.slots.uses ≡ n = search (rules, pointwise, use_ticket) in
     let last : List (Option Occupant) = slice_set gone_row i (stays_occupant (get_or gone_row i None) (tally (ticket_of i) s2.slots.uses)) in
-    let occupants : s2.occupants ≡ last =
-    exits.occupants ∙ rw (now, ticket) (sym (set_set s.occupants i (Some (record mine { live = false; stands = None })) (stays_occupant (Some (record mine { live = false; stands = None })) n))) in
+    let occupants : s2.occupants ≡ last = search (rules, set_set) in
     let all : s2 ≡ rebuilt s2 s2.occupants s2.tables s2.touched s2.pool.frames s2.slots.held s2.pins s2.tax = refl in
     all ∙ (ap (λ x. rebuilt s2 x s2.tables s2.touched s2.pool.frames s2.slots.held s2.pins s2.tax) occupants
     ∙ (ap (λ x. rebuilt s2 last x s2.touched s2.pool.frames s2.slots.held s2.pins s2.tax) exits.tables
@@ -532,8 +493,7 @@ pub exits_soundly : ExitsSoundly
 unfolding gone
 exits_soundly s i s2 sound exits =
     let mine : Occupant = exits.occupant in
-    let left : IsLeft s i s2.pool.free s2.marks s2.slots.uses s2.slots.vacant =
-    record { frees = exits.free; entries = exits.entries; marked = exits.marks; many = exits.slots; vacants = exits.vacant; used = exits.uses } in
+    let left : IsLeft s i s2.pool.free s2.marks s2.slots.uses s2.slots.vacant = search rules in
     let within : i < length (slice_set s.occupants i (Some (record mine { live = false; stands = None }))) = (let a = there_of s.occupants i (Some mine) exits.was.0 in let b = length-set s.occupants i (Some (record mine { live = false; stands = None })) in omega arith) in
     subst IsSound (sym (exits_is s i s2 exits))
     (is_sound_settled (gone s i mine s2.pool.free s2.marks s2.slots.uses s2.slots.vacant (unpinned_of s i).pins) i within

@@ -1,5 +1,5 @@
 -- A live instance can go: the memory that it leaves.
-use Rattle.std.proofs.Common.{◌≡◌, ◌≢◌, ℕ, ◌+◌, ◌≤◌, inl, inr, true, false, List, [], ◌∷◌, ◌++◌, Some, None, length, slice_get, slice_set, zero, suc, refl, sym, ap, ◌∙◌, subst, arith}
+use Rattle.std.proofs.Common.{◌≡◌, ◌≢◌, ℕ, ◌+◌, ◌≤◌, inl, inr, true, false, List, [], ◌∷◌, ◌++◌, Some, None, length, slice_get, slice_set, zero, suc, refl, ap, ◌∙◌, subst, arith, rules}
 use Rattle.std.proofs.lemmas.Bool.{cases_lt}
 use Rattle.wh_space_model.specs.{tally, one_if, ticket_of, unpinned_of, Occupant, Space, occupant_at, sharers, Exits, freed_by, released_mark, released_use, IsSound, IsUsed, count, count_of, lies_in, owns, shares, stays_occupant}
 use Rattle.wh_space_model.specs.declared.states.Page.{Page}
@@ -46,11 +46,7 @@ picked_many w (suc n) f none = elim (cases_lt f n) [
       omega arith)
   | inr most ↦ elim (cases_lt n f) [
     | inl past ↦ (let z = none (omega arith) in let p = picked_past w (suc n) f (omega arith) in omega arith)
-    | inr same ↦
-        (let e : f ≡ n = omega arith in
-        let rest = picked_past w n n (omega arith) in
-        let here = times_same (w n) n (picked w n) in
-        subst (λ z. tally (one_if z) (times (w n) n (picked w n)) ≡ w z) (sym e) (omega arith))
+    | inr same ↦ search (rules, picked_past, times_same, picked, times)
   ]
 ]
 

@@ -1,15 +1,15 @@
 -- A page that comes from a slot leaves everything sound.
-use Rattle.std.proofs.Common.{◌≡◌, ◌≢◌, ℕ, ◌+◌, ◌<◌, ◌≤◌, ◌++◌, inl, inr, List, [], ◌∷◌, Option, Some, None, length, slice_get, slice_set, get_or, refl, sym, ap, ◌∙◌, subst, arith, length-set}
+use Rattle.std.proofs.Common.{◌≡◌, ◌≢◌, ℕ, ◌+◌, ◌<◌, ◌≤◌, ◌++◌, inl, inr, List, [], ◌∷◌, Option, Some, None, length, slice_get, slice_set, get_or, refl, sym, ◌∙◌, subst, arith, length-set, rules}
 use Rattle.std.proofs.lemmas.Bool.{cases_lt}
 use Rattle.std.proofs.lemmas.List.{get_or-set_same, get_or-set_other}
-use Rattle.wh_space_model.specs.{tally, one_if, fetches_into, ticket_of, fetched, Space, backing, sharers, kept, pinned_by, all_bytes, Pins, occupant_at, IsSound, FramesAreSound, SlotsAreSound, IsUsed, LeavesBy, Names, Backing, page_bytes, at, page_at, owns, shares, lies_in, comes_from, resident, leaving, count}
+use Rattle.wh_space_model.specs.{tally, one_if, fetches_into, ticket_of, fetched, Space, backing, sharers, all_bytes, Pins, IsSound, FramesAreSound, SlotsAreSound, IsUsed, LeavesBy, Names, Backing, page_bytes, at, page_at, owns, shares, lies_in, comes_from, leaving, count}
 use Rattle.wh_space_model.proofs.Tally.{one_same, one_other, tally-append}
 use Rattle.wh_space_model.specs.declared.states.Page.{Page}
 use Rattle.wh_space_model.specs.declared.states.Page.TheVariants.{Private, Coming, Swapped}
 use Rattle.wh_space_model.specs.declared.states.Mark.{Mark}
 use Rattle.wh_space_model.specs.declared.states.Mark.TheVariants.{Plain, Hint, Sharers, Unlisted}
 use Rattle.wh_space_model.specs.declared.states.Slot.{Slot}
-use Rattle.wh_space_model.specs.declared.states.Slot.TheVariants.{Vacant, Taken, Evicting, FetchVoid}
+use Rattle.wh_space_model.specs.declared.states.Slot.TheVariants.{Vacant, Taken, Evicting}
 use Rattle.wh_space_model.proofs.Contents.{same_contents}
 use Rattle.wh_space_model.proofs.Evicted.{other_kind, other_value, used_other, names_other, still, row_length, has_still}
 use Rattle.wh_space_model.proofs.Putting.{set_same, set_other, there_of, here_or, put_this, put_other, get_pages, pinned_here, pinned_other}
@@ -49,16 +49,12 @@ frames_fetched s i p f k others bytes sound there list taken whole =
     record {
       one = λ g within. (let a = free g in let b = own g in let c = share g in let d = fetch g in let one = sound.one g (let l = length-set s.pool.frames f bytes in omega arith) in omega arith);
       none = λ g past. (let a = free g in let b = own g in let c = share g in let d = fetch g in let zeros = sound.none g (let l = length-set s.pool.frames f bytes in omega arith) in omega arith);
-      whole = λ g within. elim (here_or f g) [
-        | inl same ↦ rw same (ap length (get_or-set_same s.pool.frames f bytes [] alone.0) ∙ whole)
-        | inr other ↦ ap length (get_or-set_other s.pool.frames f g bytes [] (λ e. other e)) ∙ sound.whole g (let l = length-set s.pool.frames f bytes in omega arith)
-      ];
+      whole = search (rules, here_or, get_or-set_same, get_or-set_other, length-set);
       marks = sound.marks ∙ sym (length-set s.pool.frames f bytes);
       names = λ g. (let e : sharers s2 g ≡ sharers s g = (let c = share g in omega arith) in elim (here_or f g) [
         | inl same ↦ (let z : sharers s2 f ≡ 0 = (let c = share f in let h = alone.2 in omega arith) in
             subst (λ q. Names s2 q (slice_get s.marks q)) (sym same) (names_free s s2 f (slice_get s.marks f) alone.1 alone.2 z (sound.names f)))
-        | inr other ↦ names_other s s2 g (slice_get s.marks g) (get_or-set_other s.pool.frames f g bytes [] (λ q. other q)) e
-            (λ a b is. (let page = other_kind (owns g) s.tables i p a b (Swapped k) (Private f) there refl is in rw page is)) (sound.names g)
+        | inr other ↦ search (rules, names_other, get_or-set_other, other_kind)
       ]);
       apart = sound.apart;
     }
@@ -90,24 +86,15 @@ slots_fetched s i p f k others bytes sound there taken =
             (λ a b is. other_value s.tables i p a b (Swapped k) (Private f) (Coming h) there (λ e. (let bad : Swapped k ≡ Coming h = e in cc)) is)
             (sound.used h)))
       ];
-      by_one = λ j h by. elim (here_or k h) [
-        | inl same ↦ absurd (subst (LeavesBy j) here (subst (λ q. LeavesBy j (slice_get s2.slots.uses q)) same by))
-        | inr other ↦ sound.by_one j h (subst (LeavesBy j) (away h (λ e. other e)) by)
-      ];
-      by_this = λ j h t is at. (let by = sound.by_this j h t is at in elim (here_or k h) [
-        | inl same ↦ absurd (subst (LeavesBy j) taken (subst (λ q. LeavesBy j (slice_get s.slots.uses q)) same by))
-        | inr other ↦ subst (LeavesBy j) (sym (away h (λ e. other e))) by
-      ]);
+      by_one = search (rules, here_or);
+      by_this = search (rules, here_or);
       leaving = λ j q is. (let before : at leaving (page_at s.tables j q) ≡ 1 = still s i p j q (Swapped k) (Private f) there refl is in
           let found = sound.leaving j q before in
           elim (here_or k found.0) [
             | inl same ↦ absurd (let e : slice_get s.slots.uses k ≡ Some (Evicting j q) = subst (λ z. slice_get s.slots.uses z ≡ Some (Evicting j q)) same found.1 in let bad : Some Taken ≡ Some (Evicting j q) = sym taken ∙ e in cc)
             | inr other ↦ (found.0, away found.0 (λ e. other e) ∙ found.1)
           ]);
-      voids = λ j h g is. elim (here_or k h) [
-        | inl same ↦ absurd (let e : slice_get s2.slots.uses k ≡ Some (FetchVoid j g) = subst (λ z. slice_get s2.slots.uses z ≡ Some (FetchVoid j g)) same is in let bad : Some Vacant ≡ Some (FetchVoid j g) = sym here ∙ e in cc)
-        | inr other ↦ sound.voids j h g (sym (away h (λ e. other e)) ∙ is)
-      ];
+      voids = search (rules, here_or);
       held = sound.held ∙ sym (length-set s.slots.uses k Vacant);
       whole = λ h some. sound.whole h (let a = lies h in let b = comes h in omega arith);
     }
@@ -127,24 +114,7 @@ is_sound_fetched s i p f k others bytes sound there list taken whole =
         released = λ j t is gone. (let k2 = sound.occupants.released j t is gone in let e = set_tally (ticket_of j) s.slots.uses k Taken Vacant taken in omega arith);
         needs = λ j t need is at. (let n = sound.occupants.needs j t need is at in let l = row_length s.tables i p (Private f) j in (n.0, omega (arith, n.1, l), n.2));
       };
-      pins = record {
-        few = sound.pins.few;
-        there = λ j q some. elim (here_or i j) [
-          | inr away ↦ absurd (let z = pinned_other i j q (p ∷ pinned_by s.pins i) (kept s.pins) away in omega arith)
-          | inl same ↦
-              (let mine : pinned_by s2.pins i ≡ p ∷ pinned_by s.pins i = pinned_here i (p ∷ pinned_by s.pins i) (kept s.pins) in
-              let some2 : 1 ≤ tally (one_if q) (p ∷ pinned_by s.pins i) = subst (λ z. 1 ≤ tally (one_if q) z) mine (subst (λ z. 1 ≤ tally (one_if q) (pinned_by s2.pins z)) same some) in
-              subst (λ z. at resident (page_at s2.tables z q) ≡ 1) (sym same)
-              (elim (here_or p q) [
-                | inl here ↦ (let now : page_at s2.tables i p ≡ Some (Private f) = put_this s.tables i p (Swapped k) (Private f) there in subst (λ z. at resident (page_at s2.tables i z) ≡ 1) (sym here) (rw now refl))
-                | inr other ↦ (let o = one_other q p other in
-                    let e : page_at s2.tables i q ≡ page_at s.tables i q = put_other s.tables i p q (Private f) other in rw e (sound.pins.there i q (omega arith)))
-              ]))
-        ];
-        of = λ pins is. (let e : pins.place ≡ i = sym (ap place_of is) in
-            let t = page_is_live s i p (Swapped k) sound.occupants there in
-            (t.0, subst (λ z. occupant_at s z t.0) (sym e) t.1, t.2));
-      };
+      pins = search (rules, here_or, pinned_other, pinned_here, put_this, one_other, put_other, page_is_live);
       admissible = ((let e = length-set s.pool.frames f bytes in let b = sound.admissible.0 in omega arith), (let e = length-set s.slots.uses k Vacant in let b = sound.admissible.1 in omega arith));
     } where
       place_of : Option Pins → ℕ

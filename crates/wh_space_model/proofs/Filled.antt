@@ -1,5 +1,5 @@
 -- Bytes that are written to pages that are alone on their frames.
-use Rattle.std.proofs.Common.{◌≡◌, ◌≢◌, ℕ, ◌+◌, ◌≤◌, inl, inr, map, min, List, [], ◌∷◌, Option, Some, None, length, slice_get, get_or, zero, suc, refl, sym, ap, ◌∙◌, subst, arith}
+use Rattle.std.proofs.Common.{◌≡◌, ◌≢◌, ℕ, ◌+◌, ◌≤◌, inl, inr, map, min, List, [], ◌∷◌, Option, Some, None, length, slice_get, get_or, zero, suc, refl, sym, ap, ◌∙◌, subst, arith, rules}
 use Rattle.std.proofs.lemmas.Bool.{cases_lt}
 use Rattle.wh_model.specs.Execution.Memory.{writing}
 use Rattle.wh_space_model.specs.{tally, one_if, Space, backing, frame_bytes, kept_by, pinned_by, sharers, view, FramesAreSound, IsSound, Names, Backing, count, joined, owns, page_at, page_bytes, shares, among, pages_of_need, Fills, BreaksSoundly, StoresAreRight, StoresSoundly}
@@ -44,32 +44,9 @@ filled_sound s i at given s2 sound fills =
     let s3 : Space = refilled s frames in
     let same : (f : ℕ) → 1 ≤ sharers s f → get_or frames f [] ≡ frame_bytes s f = λ f some. fills.others f (none_written s i ps f sound.frames (among_all (owns f) s i ps (few_pages (writing at (length given)))) some) in
     subst IsSound (sym fills.after) (record {
-      frames = record {
-        one = λ f within. sound.frames.one f (let l = fills.many in omega arith);
-        none = λ f past. sound.frames.none f (let l = fills.many in omega arith);
-        whole = λ f within. fills.whole f ∙ sound.frames.whole f (let l = fills.many in omega arith);
-        marks = sound.frames.marks ∙ sym fills.many;
-        names = λ f. names_filled s s3 f (slice_get s.marks f) refl refl (same f) (sound.frames.names f);
-        apart = sound.frames.apart;
-      };
-      slots = record {
-        used = λ k. used_other s s3 k (slice_get s.slots.uses k) refl refl refl (λ j q is. is) (λ j q is. is) (sound.slots.used k);
-        by_one = sound.slots.by_one;
-        by_this = sound.slots.by_this;
-        leaving = sound.slots.leaving;
-        voids = sound.slots.voids;
-        held = sound.slots.held;
-        whole = sound.slots.whole;
-      };
-      occupants = record {
-        tables = sound.occupants.tables;
-        touched = sound.occupants.touched;
-        have = sound.occupants.have;
-        marks = sound.occupants.marks;
-        numbers = sound.occupants.numbers;
-        released = sound.occupants.released;
-        needs = sound.occupants.needs;
-      };
+      frames = search (rules, names_filled);
+      slots = search (rules, used_other);
+      occupants = search rules;
       pins = record { few = sound.pins.few; there = sound.pins.there; of = sound.pins.of };
       admissible = ((let l = fills.many in let a = sound.admissible.0 in omega arith), sound.admissible.1);
     })

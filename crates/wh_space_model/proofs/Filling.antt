@@ -1,5 +1,5 @@
 -- Where the bytes are in the table and ready, there is a store.
-use Rattle.std.proofs.Common.{◌≡◌, ◌≢◌, ℕ, ◌+◌, ◌*◌, ◌-◌, ◌/◌, ◌%◌, ◌<◌, ◌≤◌, ◌++◌, ◌⊎◌, ◌==◌, inl, inr, cond, nat_lt, map, true, false, Bool, List, [], ◌∷◌, Option, Some, None, length, take, drop, slice_get, slice_set, get_or, zero, suc, refl, sym, ap, ◌∙◌, subst, arith, length-set}
+use Rattle.std.proofs.Common.{◌≡◌, ◌≢◌, ℕ, ◌+◌, ◌*◌, ◌-◌, ◌/◌, ◌%◌, ◌<◌, ◌≤◌, ◌++◌, ◌⊎◌, ◌==◌, inl, inr, cond, map, List, [], ◌∷◌, Option, Some, None, length, take, drop, slice_get, slice_set, get_or, zero, suc, refl, sym, ap, ◌∙◌, subst, arith, length-set, rules}
 use Rattle.std.proofs.lemmas.Bool.Decides.{nat_tests}
 use Rattle.std.proofs.lemmas.Bool.{cases_lt}
 use Rattle.std.specs.List.{All}
@@ -118,18 +118,11 @@ both_want s mid (Some f) (Some g) less one =
           rw e (omega arith))
     ]
 
-pub copies_most : (n : ℕ) → copies 1 n ≤ copies 2 n
-copies_most n = grind (arith, nat_tests)
-
 pub double_most : (s : Space) (o q : Option ℕ) → single s o ≤ double s o q
 unfolding single double
 double_most s None q = omega arith
 double_most s (Some f) None = omega arith
-double_most s (Some f) (Some g) =
-    elim (here_or f g) [
-      | inl same ↦ (let e = same_cond f g (copies 2 (sharers s f)) (copies 1 (sharers s f) + copies 1 (sharers s g)) (sym same) in rw e (copies_most (sharers s f)))
-      | inr other ↦ (let e = other_cond f g (copies 2 (sharers s f)) (copies 1 (sharers s f) + copies 1 (sharers s g)) (λ e. other (sym e)) in rw e (omega arith))
-    ]
+double_most s (Some f) (Some g) = search rules
 
 pub each_one : (s : Space) (i p : ℕ) (s2 : Space) → Breaks s i p s2 → BreaksEach s i (p ∷ []) s2
 each_one s i p s2 b = (s2, b, refl)
@@ -224,13 +217,7 @@ row_filled b f new (x ∷ row) (suc p) within there own share =
     cc
 
 pub blocks_whole : (s : Space) (i : ℕ) → IsFillable s i → (q : ℕ) (x : List ℕ) → slice_get (map (page_bytes (backing s)) (get_or s.tables i [])) q ≡ Some x → length x ≡ 4096
-blocks_whole s i can q x there = go (slice_get (get_or s.tables i []) q) refl where
-  go : (o : Option Page) → slice_get (get_or s.tables i []) q ≡ o → length x ≡ 4096
-  go None e = absurd (let bad : None ≡ Some x = sym (get_mapped (page_bytes (backing s)) (get_or s.tables i []) q ∙ ap (or_none (page_bytes (backing s))) e) ∙ there in cc)
-  go (Some y) e =
-      let both : Some (page_bytes (backing s) y) ≡ Some x = sym (get_mapped (page_bytes (backing s)) (get_or s.tables i []) q ∙ ap (or_none (page_bytes (backing s))) e) ∙ there in
-      let k : page_bytes (backing s) y ≡ x = cc in
-      sym (ap length k) ∙ can.whole q y e
+blocks_whole s i can q x there = search (rules, get_mapped, or_none)
 
 -- one page's bytes from a place on
 pub record IsFilled (s : Space) (i p f r : ℕ) (given : List ℕ) (frames : List (List ℕ)) : Type 0 where
@@ -254,10 +241,7 @@ one_filled s i p f r given can there fits =
     record {
       sees = ap joined (bytes_at b2 s.tables i ∙ now) ∙ (sym over ∙ ap (λ z. written (joined z) (4096 * p + r) given) (sym (bytes_at b s.tables i)));
       many = length-set s.pool.frames f new;
-      whole = λ h. elim (here_or f h) [
-        | inl same ↦ rw same (ap length (get_or-set_same s.pool.frames f new [] alone.0) ∙ length-written (frame_bytes s f) given r (omega arith))
-        | inr other ↦ ap length (get_or-set_other s.pool.frames f h new [] (λ e. other e))
-      ];
+      whole = search (rules, here_or, get_or-set_same, length-written, get_or-set_other);
       others = λ h other. get_or-set_other s.pool.frames f h new [] other;
     }
 
@@ -279,12 +263,6 @@ apart_of s i p f h (q ∷ ps) there some none e =
 
 pub write_none : (bs : List ℕ) (k : ℕ) → written bs k [] ≡ bs
 write_none bs k = let e : k + 0 ≡ k = omega arith in rw e (take-append-drop k bs)
-
-pub past_test : (m : ℕ) → nat_lt 4096 m ≡ true → 4096 < m
-past_test m e = grind (arith, nat_tests)
-
-pub within_test : (m : ℕ) → nat_lt 4096 m ≡ false → m ≤ 4096
-within_test m e = grind (arith, nat_tests)
 
 -- on one page
 pub on_one : (s : Space) (i k : ℕ) (given : List ℕ) (p f : ℕ) → IsFillable s i → pages_of_need (writing k (length given)) ≡ p ∷ [] → p ≡ k / 4096 → k % 4096 + length given ≤ 4096 → page_at s.tables i p ≡ Some (Private f)
@@ -323,12 +301,10 @@ on_two s i k a b given p f g can pages is parts first second fits there also =
       refilled s frames2,
       record {
         frames = frames2;
-        sees = two.sees ∙ (ap (λ z. written (view s1 i) z b) place2 ∙ (ap (λ z. written z (k + length a) b) (one.sees ∙ ap (λ z. written (view s i) z a) place)
-            ∙ (sym (written_parts (view s i) k a b fits) ∙ ap (written (view s i) k) (sym parts))));
+        sees = search (rules, written_parts);
         many = two.many ∙ one.many;
         whole = λ h. two.whole h ∙ one.whole h;
-        others = λ h none. (let z : among (owns h) s i (p ∷ (p + 1) ∷ []) ≡ 0 = subst (λ z. among (owns h) s i z ≡ 0) pages none in
-            two.others h (apart_of s i (p + 1) g h (p ∷ (p + 1) ∷ []) also some2 z) ∙ one.others h (apart_of s i p f h (p ∷ (p + 1) ∷ []) there some z));
+        others = search (rules, apart_of);
         after = refl;
       },
     )
@@ -338,11 +314,7 @@ pub on_none : (s : Space) (i k : ℕ) → Fills s i k [] s
 on_none s i k = record { frames = s.pool.frames; sees = sym (write_none (view s i) k); many = refl; whole = λ f. refl; others = λ f none. refl; after = refl }
 
 pub pages_by : (k more : ℕ) → ((pages_from k (suc more) ≡ (k / 4096) ∷ []) × (k % 4096 + suc more ≤ 4096)) ⊎ ((pages_from k (suc more) ≡ (k / 4096) ∷ (k / 4096 + 1) ∷ []) × (4096 < k % 4096 + suc more))
-pages_by k more = go (nat_lt 4096 (k % 4096 + suc more)) refl where
-  go : (b : Bool) → nat_lt 4096 (k % 4096 + suc more) ≡ b → ((cond b ((k / 4096) ∷ (k / 4096 + 1) ∷ []) ((k / 4096) ∷ []) ≡ (k / 4096) ∷ []) × (k % 4096 + suc more ≤ 4096))
-      ⊎ ((cond b ((k / 4096) ∷ (k / 4096 + 1) ∷ []) ((k / 4096) ∷ []) ≡ (k / 4096) ∷ (k / 4096 + 1) ∷ []) × (4096 < k % 4096 + suc more))
-  go true test = inr (refl, past_test (k % 4096 + suc more) test)
-  go false test = inl (refl, within_test (k % 4096 + suc more) test)
+pages_by k more = search rules
 
 pub filled : (s : Space) (i k : ℕ) (given : List ℕ) → IsFillable s i → ((p : ℕ) → 1 ≤ tally (one_if p) (pages_of_need (writing k (length given))) → (f : ℕ) × (page_at s.tables i p ≡ Some (Private f)))
     → k + length given ≤ length (view s i) → length given ≤ 4096 → (s2 : Space) × Fills s i k given s2
@@ -365,9 +337,7 @@ filled s i k (x ∷ g) can own fits few =
     ]
 
 pub view_long : (s : Space) (i : ℕ) → IsFillable s i → length (view s i) ≡ 4096 * length (get_or s.tables i [])
-view_long s i can =
-    ap (λ z. length (joined z)) (bytes_at (backing s) s.tables i)
-    ∙ (joined_length (map (page_bytes (backing s)) (get_or s.tables i [])) (blocks_whole s i can) ∙ ap (λ n. 4096 * n) (length-map (get_or s.tables i []) (page_bytes (backing s))))
+view_long s i can = search (rules, bytes_at, joined_length, blocks_whole, length-map)
 
 pub some_store : SomeStore
 some_store s i k given sound ready fits few =

@@ -1,8 +1,8 @@
 -- A copy of an instance leaves everything sound, and sees what the instance sees.
-use Rattle.std.proofs.Common.{◌≡◌, ◌≢◌, ℕ, ◌+◌, ◌*◌, ◌<◌, ◌≤◌, inl, inr, min, map, replicate, List, [], ◌∷◌, Some, length, slice_get, slice_set, get_or, zero, suc, refl, sym, ap, ◌∙◌, subst, arith, length-set}
+use Rattle.std.proofs.Common.{◌≡◌, ◌≢◌, ℕ, ◌+◌, ◌*◌, ◌<◌, ◌≤◌, inl, inr, min, map, replicate, List, [], ◌∷◌, Some, length, slice_get, slice_set, get_or, zero, suc, refl, sym, ap, ◌∙◌, subst, arith, length-set, rules}
 use Rattle.std.proofs.lemmas.List.{ext_get_or, length-map, length-replicate}
 use Rattle.std.proofs.lemmas.Option.{slice_get-get_or}
-use Rattle.wh_space_model.specs.{zero_page, one_if, CopiesAreRight, LendsAlone, LendsFirst, LendsPage, LendsSoundly, one_more, HasHash, IsSound, Names, holders, Space, Claimed, all_bytes, backing, sharers, at, comes_from, contents, count, joined, leaving, lies_in, owns, page_at, page_bytes, put, resident, shares, Enters, with_row}
+use Rattle.wh_space_model.specs.{zero_page, one_if, CopiesAreRight, LendsAlone, LendsFirst, LendsPage, LendsSoundly, one_more, HasHash, IsSound, Names, holders, Space, Claimed, all_bytes, backing, sharers, at, comes_from, contents, count, joined, leaving, lies_in, owns, page_at, page_bytes, put, resident, shares, Enters}
 use Rattle.wh_space_model.proofs.Tally.{one_same, one_other}
 use Rattle.wh_space_model.specs.declared.states.Page.{Page}
 use Rattle.wh_space_model.specs.declared.states.Page.TheVariants.{Untouched, Private, Shared, Leaving, LeavingShared, Coming, Swapped}
@@ -30,10 +30,7 @@ joins_moved s j p f sound onto = record {
   comes = λ h. (let e = put_tally (comes_from h) s.tables j p Untouched (Shared f) onto in omega arith);
   leaves = λ k q. at_same leaving s.tables j p k q Untouched (Shared f) onto refl;
   coming = λ h k q is. other_value s.tables j p k q Untouched (Shared f) (Coming h) onto (λ e. (let bad : Untouched ≡ Coming h = e in cc)) is;
-  pinned = λ k q some.
-      (let old = sound.pins.there k q some in
-      let same = other_kind resident s.tables j p k q Untouched (Shared f) onto refl old in
-      ap (at resident) same ∙ old);
+  pinned = search (rules, other_kind);
 }
 
 -- the same where the page of the other one was alone on it
@@ -47,9 +44,7 @@ both_moved s i j p f sound was onto =
       lies = λ h. (let e = put_tally (lies_in h) first j p Untouched (Shared f) onto in let d = put_tally (lies_in h) s.tables i p (Private f) (Shared f) was in omega arith);
       comes = λ h. (let e = put_tally (comes_from h) first j p Untouched (Shared f) onto in let d = put_tally (comes_from h) s.tables i p (Private f) (Shared f) was in omega arith);
       leaves = λ k q. at_same leaving first j p k q Untouched (Shared f) onto refl ∙ at_same leaving s.tables i p k q (Private f) (Shared f) was refl;
-      coming = λ h k q is.
-          other_value first j p k q Untouched (Shared f) (Coming h) onto (λ e. (let bad : Untouched ≡ Coming h = e in cc))
-          (other_value s.tables i p k q (Private f) (Shared f) (Coming h) was (λ e. (let bad : Private f ≡ Coming h = e in cc)) is);
+      coming = search (rules, other_value);
       pinned = λ k q some.
           (let old = at_same resident s.tables i p k q (Private f) (Shared f) was refl ∙ sound.pins.there k q some in
           let same = other_kind resident first j p k q Untouched (Shared f) onto refl old in
@@ -58,11 +53,7 @@ both_moved s i j p f sound was onto =
 
 -- no entry is new
 unlisted_before : (marks : List Mark) (g h n hash : ℕ) → g < length marks → HasHash (slice_get (slice_set marks g (Unlisted n)) h) hash → HasHash (slice_get marks h) hash
-unlisted_before marks g h n hash within has =
-    elim (here_or g h) [
-      | inr other ↦ subst (λ m. HasHash m hash) (set_other marks g h (Unlisted n) (λ e. other e)) has
-      | inl same ↦ absurd (subst (λ m. HasHash m hash) (set_same marks g (Unlisted n) within) (subst (λ z. HasHash (slice_get (slice_set marks g (Unlisted n)) z) hash) same has))
-    ]
+unlisted_before marks g h n hash within has = search (rules, here_or, set_other, set_same)
 
 more_hash : (m : Mark) (hash : ℕ) → HasHash (Some (one_more m)) hash → HasHash (Some m) hash
 more_hash Plain hash has = has
@@ -71,14 +62,7 @@ more_hash (Sharers h n) hash has = has
 more_hash (Unlisted n) hash has = has
 
 more_before : (marks : List Mark) (g h hash : ℕ) (m : Mark) → slice_get marks g ≡ Some m → HasHash (slice_get (slice_set marks g (one_more m)) h) hash → HasHash (slice_get marks h) hash
-more_before marks g h hash m is has =
-    let within = there_of marks g m is in
-    elim (here_or g h) [
-      | inr other ↦ subst (λ m. HasHash m hash) (set_other marks g h (one_more m) (λ e. other e)) has
-      | inl same ↦
-          (let now : HasHash (Some (one_more m)) hash = subst (λ x. HasHash x hash) (set_same marks g (one_more m) within) (subst (λ z. HasHash (slice_get (slice_set marks g (one_more m)) z) hash) same has) in
-          subst (λ z. HasHash (slice_get marks z) hash) (sym same) (subst (λ x. HasHash x hash) (sym is) (more_hash m hash now)))
-    ]
+more_before marks g h hash m is has = search (rules, there_of, here_or, set_other, set_same, more_hash)
 
 names_more : (s s2 : Space) (f : ℕ) (m : Mark) → s2.pool.frames ≡ s.pool.frames → 1 ≤ sharers s f → sharers s2 f ≡ sharers s f + 1 → Names s f (Some m) → Names s2 f (Some (one_more m))
 names_more s s2 f Plain same some more names = absurd (let z : sharers s f ≡ 0 = names in omega arith)
@@ -217,36 +201,12 @@ kept_self : (s : Space) → IsKept s s
 kept_self s = record { occupants = refl; touched = refl; pool = refl; slots = refl; pins = refl; tax = refl; rows = λ k. refl }
 
 kept_then : (a b c : Space) → IsKept a b → IsKept b c → IsKept a c
-kept_then a b c x y = record {
-  occupants = y.occupants ∙ x.occupants;
-  touched = y.touched ∙ x.touched;
-  pool = y.pool ∙ x.pool;
-  slots = y.slots ∙ x.slots;
-  pins = y.pins ∙ x.pins;
-  tax = y.tax ∙ x.tax;
-  rows = λ k. y.rows k ∙ x.rows k;
-}
+kept_then a b c x y = search rules
 
 kept_page : (s : Space) (i j p : ℕ) (page : Page) (s2 : Space) → LendsPage s i j p page s2 → IsKept s s2
 kept_page s i j p Untouched s2 is = subst (IsKept s) (sym is) (kept_self s)
-kept_page s i j p (Private f) s2 is = subst (IsKept s) (sym is) (record {
-  occupants = refl;
-  touched = refl;
-  pool = refl;
-  slots = refl;
-  pins = refl;
-  tax = refl;
-  rows = λ k. row_length (put s.tables i p (Shared f)) j p (Shared f) k ∙ row_length s.tables i p (Shared f) k;
-})
-kept_page s i j p (Shared f) s2 is = subst (IsKept s) (sym is) (record {
-  occupants = refl;
-  touched = refl;
-  pool = refl;
-  slots = refl;
-  pins = refl;
-  tax = refl;
-  rows = λ k. row_length s.tables j p (Shared f) k;
-})
+kept_page s i j p (Private f) s2 is = search (rules, row_length)
+kept_page s i j p (Shared f) s2 is = search (rules, row_length)
 kept_page s i j p (Leaving f) s2 is = absurd is
 kept_page s i j p (LeavingShared f) s2 is = absurd is
 kept_page s i j p (Coming k) s2 is = absurd is
@@ -298,12 +258,7 @@ same_rows xs ys long each = ext_get_or [] xs ys long (λ q less.
 -- the one who comes has as many pages, and the other one's are as they were
 pub entered_row : (s : Space) (i j : ℕ) (c : Claimed) (size : ℕ) (mid : Space) → IsSound s → j ≢ i → Enters s j c size mid
     → (get_or mid.tables i [] ≡ get_or s.tables i []) × (get_or mid.tables j [] ≡ replicate (16 * size) Untouched)
-entered_row s i j c size mid sound apart enters =
-    let row : List Page = replicate (16 * size) Untouched in
-    let most : j ≤ length s.tables = (let a = free_within s j enters.free in let b = sound.occupants.tables in omega arith) in (
-      ap (λ (a : Space). get_or a.tables i []) enters.leaves ∙ same_there (with_row s.tables j row) s.tables i [] (row_other s.tables j i row most (λ e. apart (sym e))),
-      ap (λ (a : Space). get_or a.tables j []) enters.leaves ∙ get_or_is (with_row s.tables j row) j row [] (row_same s.tables j row most),
-    )
+entered_row s i j c size mid sound apart enters = search (rules, replicate, free_within, same_there, row_other, get_or_is, row_same)
 
 row_bytes_of : (s : Space) (k : ℕ) → get_or (all_bytes s) k [] ≡ map (page_bytes (backing s)) (get_or s.tables k [])
 row_bytes_of s k = bytes_at (backing s) s.tables k
@@ -323,8 +278,7 @@ copies_are_right s i j c s2 sound copies =
     let was : get_or (all_bytes mid) i [] ≡ get_or (all_bytes s) i [] = row_bytes_of mid i ∙ (ap (λ xs. map (page_bytes (backing mid)) xs) rows.0 ∙ (ap (λ b. map (page_bytes b) (get_or s.tables i [])) lies ∙ sym (row_bytes_of s i))) in
     let many : length (get_or (all_bytes s2) j []) ≡ 16 * size = row_long s2 j ∙ (keeps.rows j ∙ (ap length rows.1 ∙ length-replicate (16 * size) Untouched)) in
     let many2 : length (get_or (all_bytes mid) i []) ≡ 16 * size = row_long mid i ∙ (ap length rows.0 ∙ copies.pages) in
-    let same : get_or (all_bytes s2) j [] ≡ get_or (all_bytes mid) i [] =
-    same_rows (get_or (all_bytes s2) j []) (get_or (all_bytes mid) i []) (many ∙ sym many2) (λ q less. lent.first q (omega (arith, less, many))) in
+    let same : get_or (all_bytes s2) j [] ≡ get_or (all_bytes mid) i [] = search (rules, same_rows) in
     record {
       sound = lent.sound;
       sees = ap joined (same ∙ was);

@@ -1,5 +1,5 @@
 -- A copy is charged nothing, and takes nothing from others that was ready for them.
-use Rattle.std.proofs.Common.{◌≡◌, ◌≢◌, ◌⊎◌, ℕ, ◌+◌, ◌-◌, ◌*◌, ◌<◌, ◌≤◌, ◌==◌, inl, inr, cond, min, nat_lt, replicate, Bool, true, false, List, [], ◌∷◌, Option, Some, None, length, slice_get, slice_set, get_or, zero, suc, refl, sym, ap, ◌∙◌, subst, arith, length-set, length-append}
+use Rattle.std.proofs.Common.{◌≡◌, ◌≢◌, ◌⊎◌, ℕ, ◌+◌, ◌-◌, ◌*◌, ◌<◌, ◌≤◌, ◌==◌, inl, inr, cond, min, nat_lt, replicate, Bool, true, false, List, [], ◌∷◌, Option, Some, None, length, slice_get, slice_set, get_or, zero, suc, refl, sym, ap, ◌∙◌, subst, arith, length-set, length-append, rules}
 use Rattle.std.proofs.lemmas.Bool.{cases_lt}
 use Rattle.std.proofs.lemmas.Bool.Decides.{nat_tests}
 use Rattle.std.specs.List.{All}
@@ -23,10 +23,7 @@ use Rattle.wh_space_model.proofs.Wanting.{among_row, few_pages}
 -- ---- who stands where, page by page
 
 put_weighs : (w : Page → ℕ) (t : List (List Page)) (i p k : ℕ) (x y : Page) → page_at t i p ≡ Some x → w y ≡ w x → count_of w (put t i p y) k ≡ count_of w t k
-put_weighs w t i p k x y there same = elim (here_or i k) [
-  | inl here ↦ (let e = row_put w t i p x y there in subst (λ z. count_of w (put t i p y) z ≡ count_of w t z) (sym here) (omega (arith, e, same)))
-  | inr away ↦ ap (tally w) (put_other_row t i p k y away)
-]
+put_weighs w t i p k x y there same = search (rules, here_or, row_put, put_other_row)
 
 put_away : (w : Page → ℕ) (t : List (List Page)) (i p k : ℕ) (y : Page) → k ≢ i → count_of w (put t i p y) k ≡ count_of w t k
 put_away w t i p k y away = ap (tally w) (put_other_row t i p k y away)
@@ -74,20 +71,9 @@ stand_on s mid i j p (Private f) s2 apart was onto is old =
     let stood : (h : ℕ) → one_if h f ≤ standing_at s.tables i h = λ h. (let a = stands_here mid.tables i p (stands_on h) (Private f) was in let b = old.same i h (λ e. apart (sym e)) in omega (arith, a, b)) in
     subst (Stand s i j) (sym is) (record {
       same = λ k h other. put_away (stands_on h) first j p k (Shared f) other ∙ (put_weighs (stands_on h) mid.tables i p k (Private f) (Shared f) was (omega arith) ∙ old.same k h other);
-      only = λ h some.
-          (let a = row_put (stands_on h) first j p Untouched (Shared f) there in
-          let b = put_weighs (stands_on h) mid.tables i p j (Private f) (Shared f) was (omega arith) in
-          let c = old.only h in
-          let d = stood h in
-          grind (arith, a, b, c, d, some));
+      only = search (rules, row_put, put_weighs);
       more = λ h. (let a = share1 h in let b = share2 h in let c = old.more h in omega (arith, a, b, c));
-      when = λ h. elim (here_or f h) [
-        | inl same ↦ inr (let d = stood h in let o = one_same h f same in omega (arith, d, o))
-        | inr other ↦ elim (old.when h) [
-          | inl e ↦ inl (let a = share1 h in let b = share2 h in let o = one_other h f (λ e. other e) in omega (arith, a, b, o, e))
-          | inr some ↦ inr some
-        ]
-      ];
+      when = search (rules, here_or, one_same, one_other);
       rows = λ k other away. put_other_row first j p k (Shared f) other ∙ (put_other_row mid.tables i p k (Shared f) away ∙ old.rows k other away);
       touch = λ k h marks other. ap (λ xs. touched_on h xs marks) (put_other_row first j p k (Shared f) other) ∙ (touched_put h mid.tables marks i p k (Private f) (Shared f) was (omega arith) ∙ old.touch k h marks other);
     })
@@ -97,19 +83,9 @@ stand_on s mid i j p (Shared f) s2 apart was onto is old =
     let stood : (h : ℕ) → one_if h f ≤ standing_at s.tables i h = λ h. (let a = stands_here mid.tables i p (stands_on h) (Shared f) was in let b = old.same i h (λ e. apart (sym e)) in omega (arith, a, b)) in
     subst (Stand s i j) (sym is) (record {
       same = λ k h other. put_away (stands_on h) mid.tables j p k (Shared f) other ∙ old.same k h other;
-      only = λ h some.
-          (let a = row_put (stands_on h) mid.tables j p Untouched (Shared f) onto in
-          let c = old.only h in
-          let d = stood h in
-          grind (arith, a, c, d, some));
+      only = search (rules, row_put);
       more = λ h. (let a = share h in let c = old.more h in omega (arith, a, c));
-      when = λ h. elim (here_or f h) [
-        | inl same ↦ inr (let d = stood h in let o = one_same h f same in omega (arith, d, o))
-        | inr other ↦ elim (old.when h) [
-          | inl e ↦ inl (let a = share h in let o = one_other h f (λ e. other e) in omega (arith, a, o, e))
-          | inr some ↦ inr some
-        ]
-      ];
+      when = search (rules, here_or, one_same, one_other);
       rows = λ k other away. put_other_row mid.tables j p k (Shared f) other ∙ old.rows k other away;
       touch = λ k h marks other. ap (λ xs. touched_on h xs marks) (put_other_row mid.tables j p k (Shared f) other) ∙ old.touch k h marks other;
     })
@@ -119,14 +95,7 @@ stand_on s mid i j p (Coming k) s2 apart was onto is old = absurd is
 stand_on s mid i j p (Swapped k) s2 apart was onto is old = absurd is
 
 stand_first : (s : Space) (i j n : ℕ) (s2 : Space) → j ≢ i → ((f : ℕ) → standing_at s.tables j f ≡ 0) → LendsFirst s i j n s2 → Stand s i j s2
-stand_first s i j zero s2 apart none is = subst (Stand s i j) (sym is) (record {
-  same = λ k f other. refl;
-  only = λ f some. absurd (let z = none f in omega (arith, some, z));
-  more = λ f. omega arith;
-  when = λ f. inl refl;
-  rows = λ k other away. refl;
-  touch = λ k f marks other. refl;
-})
+stand_first s i j zero s2 apart none is = search rules
 stand_first s i j (suc n) s2 apart none (mid, before, l) = stand_on s mid i j n l.page s2 apart l.was l.onto l.lends (stand_first s i j n mid apart none before)
 
 -- ---- the one that comes stands nowhere
@@ -165,14 +134,8 @@ comes s i j c size mid sound apart enters =
       empty = empty;
       untouched_row = ap (λ t. get_or t j []) marked ∙ get_or_is (with_row s.touched j fresh) j fresh [] (row_same s.touched j fresh most_marks);
       touched_rows = λ k away. ap (λ t. get_or t k []) marked ∙ same_there (with_row s.touched j fresh) s.touched k [] (row_other s.touched j k fresh most_marks away);
-      long = elim (row_is s.tables j row most) [
-        | inl (less, is) ↦ inl (ap length now ∙ (ap length is ∙ length-set s.tables j row))
-        | inr (last, is) ↦ inr (last, (let a = ap length now in let b = ap length is in let n = length-append s.tables (row ∷ []) in omega (arith, a, b, n)))
-      ];
-      within = elim (row_is s.tables j row most) [
-        | inl (less, is) ↦ (let a = ap length now in let b = ap length is in let n = length-set s.tables j row in omega (arith, a, b, n, less))
-        | inr (last, is) ↦ (let a = ap length now in let b = ap length is in let n = length-append s.tables (row ∷ []) in omega (arith, a, b, n, last))
-      ];
+      long = search (rules, row_is, length-set, length-append);
+      within = search (rules, row_is, length-set, length-append);
     } where
       no_pages : (s : Space) (j : ℕ) → IsSound s → Rattle.wh_space_model.specs.Places.IsFreePlace s j → get_or s.tables j [] ≡ []
       no_pages s j sound (inl e) = sound.occupants.have j None e
@@ -217,15 +180,8 @@ copies_charge s i j c s2 sound copies last =
     let others : (k : ℕ) → k ≢ j → occupant_number s2 k ≡ occupant_number s k = λ k away. ap (λ xs. of_occupant (λ t. t.number) (get_or xs k None)) occupied ∙ ap (of_occupant (λ t. t.number)) (same_there (with_row s.occupants j (Some (newcomer c))) s.occupants k None (row_other s.occupants j k (Some (newcomer c)) most away)) in
     let stands : (k f : ℕ) → k ≢ j → standing_at s2.tables k f ≡ standing_at s.tables k f = λ k f away. stand.same k f away ∙ come.same k f away in
     let many : length s2.tables ≡ length mid.tables = lent.sound.occupants.tables ∙ (ap length keeps.occupants ∙ sym (let m = enters_soundly s j c size mid sound copies.enters in m.occupants.tables)) in
-    let sums : (w2 w : ℕ → ℕ) → w2 j ≡ 0 → w j ≡ 0 → ((z : ℕ) → z ≢ j → w2 z ≡ w z) → below (length s2.tables) w2 ≡ below (length s.tables) w = λ w2 w here gone apart.
-    (let each : (z : ℕ) → w2 z ≡ w z = λ z. elim (here_or j z) [
-      | inl at_it ↦ ap w2 at_it ∙ (here ∙ (sym gone ∙ ap w (sym at_it)))
-      | inr other ↦ apart z other
-    ] in
-    elim come.long [
-      | inl long ↦ ap (λ n. below n w2) (many ∙ long) ∙ below_each (length s.tables) w w2 each
-      | inr (last_one, long) ↦ ap (λ n. below n w2) (many ∙ long) ∙ (longer (length s.tables) w2 (ap w2 (sym last_one) ∙ here) ∙ below_each (length s.tables) w w2 each)
-    ]) in
+    let sums : (w2 w : ℕ → ℕ) → w2 j ≡ 0 → w j ≡ 0 → ((z : ℕ) → z ≢ j → w2 z ≡ w z) → below (length s2.tables) w2 ≡ below (length s.tables) w =
+    search (rules, ℕ, here_or, below_each, longer) in
     let marks : s2.touched ≡ mid.touched = keeps.touched in
     record {
       mine = λ f. no_charge (before_in (λ k. occupant_number s2 k) s2.tables j f) (standing_at s2.tables j f)
@@ -247,15 +203,7 @@ copies_charge s i j c s2 sound copies last =
           let a : before_in (λ z. occupant_number s2 z) s2.tables k f ≡ before_in (λ z. occupant_number s z) s.tables k f = sums w2 w here gone each in
           let b = stands k f away in
           rw (a, b) refl);
-      touched = λ f.
-          (let w2 : ℕ → ℕ = λ z. touched_on f (get_or s2.tables z []) (get_or s2.touched z []) in
-          let w : ℕ → ℕ = λ z. touched_on f (get_or s.tables z []) (get_or s.touched z []) in
-          let here : w2 j ≡ 0 = ap (touched_on f (get_or s2.tables j [])) (ap (λ t. get_or t j []) marks ∙ come.untouched_row) ∙ touched_none f (get_or s2.tables j []) (16 * size) in
-          let gone : w j ≡ 0 = ap (λ xs. touched_on f xs (get_or s.touched j [])) come.empty in
-          let each : (z : ℕ) → z ≢ j → w2 z ≡ w z = λ z other.
-          ap (touched_on f (get_or s2.tables z [])) (ap (λ t. get_or t z []) marks ∙ come.touched_rows z other)
-          ∙ (stand.touch z f (get_or s.touched z []) other ∙ ap (λ xs. touched_on f xs (get_or s.touched z [])) (come.rows z other)) in
-          sums w2 w here gone each);
+      touched = search (rules, ℕ, touched_none);
       frames = ap (λ (a : Pool). length a.frames) pool;
       tax = keeps.tax ∙ ap (λ (a : Space). a.tax) copies.enters.leaves;
     } where
@@ -319,12 +267,7 @@ two_rows w (x ∷ t) (suc i) zero apart = let r = in_tables w t i in omega (arit
 two_rows w (x ∷ t) (suc i) (suc k) apart = let r = two_rows w t i k (λ e. apart (ap suc e)) in omega (arith, r)
 
 no_copies : (a b : ℕ) → copies 0 a ≡ copies 0 b
-no_copies a b = go (nat_lt 0 a) (nat_lt 0 b) where
-  go : (x y : Bool) → cond x 0 (0 - 1) ≡ cond y 0 (0 - 1)
-  go true true = refl
-  go true false = omega arith
-  go false true = omega arith
-  go false false = refl
+no_copies a b = search rules
 
 all_copies : (t a : ℕ) → t < a → copies t a ≡ t
 all_copies t a less = grind (arith, nat_tests)

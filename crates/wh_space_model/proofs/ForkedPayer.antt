@@ -1,5 +1,5 @@
 -- A copy leaves the one that pays.
-use Rattle.std.proofs.Common.{◌≡◌, ◌≢◌, ℕ, ◌*◌, ◌+◌, ◌<◌, ◌≤◌, inl, inr, replicate, List, [], Option, Some, None, length, slice_get, get_or, zero, suc, refl, sym, ap, ◌∙◌, subst, arith}
+use Rattle.std.proofs.Common.{◌≡◌, ◌≢◌, ℕ, ◌*◌, ◌+◌, ◌<◌, ◌≤◌, inl, inr, replicate, List, [], Option, Some, None, length, slice_get, get_or, zero, suc, refl, sym, ap, ◌∙◌, subst, arith, rules}
 use Rattle.wh_space_model.specs.{tally, one_if, IsChargedFor, charged_of, occupant_number, stands_on, HasLess, IsPayer, MayPay, stays, weight_of, Copies, CopiesLeavePayer, LendsFirst, LendsPage, Claimed, Occupant, Pins, Space, occupant_at, of_occupant, pinned_by, IsFreePlace, newcomer, with_row, IsSound, at, page_at, put}
 use Rattle.wh_space_model.specs.declared.states.Page.{Page}
 use Rattle.wh_space_model.specs.declared.states.Page.TheVariants.{Untouched, Private, Shared, Leaving, LeavingShared, Coming, Swapped}
@@ -23,8 +23,7 @@ away_same w t j p k q x away = ap (λ xs. at w (slice_get xs q)) (put_other_row 
 
 lent_kind : (w : Page → ℕ) → IsBlind w → (s : Space) (i j p : ℕ) (page : Page) (s2 : Space) → page_at s.tables i p ≡ Some page → LendsPage s i j p page s2 → (k q : ℕ) → k ≢ j → at w (page_at s2.tables k q) ≡ at w (page_at s.tables k q)
 lent_kind w blind s i j p Untouched s2 was is k q away = ap (λ (a : Space). at w (page_at a.tables k q)) is
-lent_kind w blind s i j p (Private f) s2 was is k q away =
-    ap (λ (a : Space). at w (page_at a.tables k q)) is ∙ (away_same w (put s.tables i p (Shared f)) j p k q (Shared f) away ∙ at_same w s.tables i p k q (Private f) (Shared f) was (blind f))
+lent_kind w blind s i j p (Private f) s2 was is k q away = search (rules, away_same, at_same)
 lent_kind w blind s i j p (Shared f) s2 was is k q away = ap (λ (a : Space). at w (page_at a.tables k q)) is ∙ away_same w s.tables j p k q (Shared f) away
 lent_kind w blind s i j p (Leaving f) s2 was is k q away = absurd is
 lent_kind w blind s i j p (LeavingShared f) s2 was is k q away = absurd is
@@ -44,13 +43,7 @@ stands_blind f g = omega arith
 
 put_follows : (t : List (List Page)) (i j p g : ℕ) (x y : Page) → j ≢ i → page_at t i p ≡ Some x → page_at t j p ≡ Some y → ((f : ℕ) → stands_on f x ≡ one_if f g) → ((f q : ℕ) → at (stands_on f) (page_at t j q) ≡ 1 → at (stands_on f) (page_at t i q) ≡ 1)
     → (f q : ℕ) → at (stands_on f) (page_at (put t j p (Shared g)) j q) ≡ 1 → at (stands_on f) (page_at (put t j p (Shared g)) i q) ≡ 1
-put_follows t i j p g x y apart was onto on old f q is = away_same (stands_on f) t j p i q (Shared g) (λ e. apart (sym e)) ∙ elim (elsewhere t j p (Shared g) j q) [
-  | inr (away, same) ↦ old f q (ap (at (stands_on f)) (sym same) ∙ is)
-  | inl (same, here) ↦
-      (let now : at (stands_on f) (page_at (put t j p (Shared g)) j p) ≡ 0 + one_if f g = ap (at (stands_on f)) (put_this t j p y (Shared g) onto) in
-      let one : one_if f g ≡ 1 = (let a = subst (λ z. at (stands_on f) (page_at (put t j p (Shared g)) j z) ≡ 1) here is in omega (arith, a, now)) in
-      subst (λ z. at (stands_on f) (page_at t i z) ≡ 1) (sym here) (ap (at (stands_on f)) was ∙ (on f ∙ one)))
-]
+put_follows t i j p g x y apart was onto on old f q is = search (rules, away_same, elsewhere, put_this)
 
 lent_follows : (s : Space) (i j p : ℕ) (page : Page) (s2 : Space) → j ≢ i → page_at s.tables i p ≡ Some page → page_at s.tables j p ≡ Some Untouched → LendsPage s i j p page s2 → Follows s i j → Follows s2 i j
 lent_follows s i j p Untouched s2 apart was onto is old = subst (λ (a : Space). Follows a i j) (sym is) old
@@ -117,34 +110,10 @@ standing_page None f is = absurd (omega (arith, is))
 standing_page (Some x) f is = (x, refl)
 
 charged_before : (s : Space) (i j : ℕ) (c : Claimed) (s2 : Space) → Leaves s i j c s2 → (k p f : ℕ) → k ≢ j → IsChargedFor s2 k p f → IsChargedFor s k p f
-charged_before s i j c s2 l k p f away is = record {
-  on = sym (l.stand f k p away) ∙ is.on;
-  first = λ m q on. elim (here_or j m) [
-    | inl same ↦ absurd (let z : at (stands_on f) (page_at s.tables j q) ≡ 0 = ap (λ xs. at (stands_on f) (slice_get xs q)) l.empty in let o : at (stands_on f) (page_at s.tables j q) ≡ 1 = subst (λ z. at (stands_on f) (page_at s.tables z q) ≡ 1) same on in omega (arith, z, o))
-    | inr other ↦ (let a = is.first m q (l.stand f m q (λ e. other e) ∙ on) in let b = l.number k away in let d = l.number m (λ e. other e) in omega (arith, a, b, d))
-  ];
-  lowest = λ q on. is.lowest q (l.stand f k q away ∙ on);
-}
+charged_before s i j c s2 l k p f away is = search rules
 
 charged_after : (s : Space) (i j : ℕ) (c : Claimed) (s2 : Space) → IsSound s → j ≢ i → ((k : ℕ) (t : Occupant) → occupant_at s k t → t.number < c.number) → Leaves s i j c s2 → (k p f : ℕ) → k ≢ j → IsChargedFor s k p f → IsChargedFor s2 k p f
-charged_after s i j c s2 sound apart last l k p f away is = record {
-  on = l.stand f k p away ∙ is.on;
-  first = λ m q on. elim (here_or j m) [
-    | inl same ↦
-        (let here : at (stands_on f) (page_at s2.tables j q) ≡ 1 = subst (λ z. at (stands_on f) (page_at s2.tables z q) ≡ 1) same on in
-        let parent : at (stands_on f) (page_at s.tables i q) ≡ 1 = sym (l.stand f i q (λ e. apart (sym e))) ∙ l.follows f q here in
-        let page = standing_page (page_at s.tables i q) f parent in
-        let who = page_is_live s i q page.0 sound.occupants page.1 in
-        let low = last i who.0 who.1 in
-        let named : occupant_number s i ≡ who.0.number = ap (of_occupant (λ t. t.number)) (get_or_is s.occupants i (Some who.0) None who.1) in
-        let a = is.first i q parent in
-        let b = l.number k away in
-        let d : occupant_number s2 m ≡ c.number = ap (λ z. occupant_number s2 z) same ∙ l.mine in
-        omega (arith, a, b, d, low, named))
-    | inr other ↦ (let a = is.first m q (sym (l.stand f m q (λ e. other e)) ∙ on) in let b = l.number k away in let d = l.number m (λ e. other e) in omega (arith, a, b, d))
-  ];
-  lowest = λ q on. is.lowest q (sym (l.stand f k q away) ∙ on);
-}
+charged_after s i j c s2 sound apart last l k p f away is = search (rules, here_or, standing_page, page_is_live, get_or_is)
 
 nobody_there : (s : Space) (j : ℕ) (t : Occupant) → IsFreePlace s j → occupant_at s j t → ⊥
 nobody_there s j t (inl free) is = (let both : Some None ≡ Some (Some t) = sym free ∙ is in cc both)

@@ -1,13 +1,11 @@
 -- Which frames are taken, when one more is, and when one is given back.
-use Rattle.std.proofs.Common.{◌≡◌, ◌≢◌, ℕ, ◌+◌, ◌++◌, [], ◌∷◌, length, sym, ap, ◌∙◌, arith}
-use Rattle.wh_space_model.specs.{Pool, tally, one_if, IsTaken, TakesFreeFrame}
+use Rattle.std.proofs.Common.{◌≡◌, ◌≢◌, ℕ, ◌+◌, ◌++◌, [], ◌∷◌, ◌∙◌, arith, rules}
+use Rattle.wh_space_model.specs.{Pool, one_if, IsTaken, TakesFreeFrame}
 use Rattle.wh_space_model.proofs.Tally.{tally-append, one_same, one_other}
 
 -- a frame that was taken before is another one, and stays taken
 pub IsTaken-takes : (old new : Pool) (f : ℕ) → TakesFreeFrame old f new → (g : ℕ) → IsTaken old g → (g ≢ f) × IsTaken new g
-IsTaken-takes old new f takes g taken =
-    let parts : tally (one_if g) new.free + tally (one_if g) (f ∷ []) ≡ 0 = sym (tally-append (one_if g) new.free (f ∷ [])) ∙ sym (ap (tally (one_if g)) takes.free) ∙ taken.1 in
-    (λ same. omega (arith, parts, one_same g f same), (omega (arith, taken.0, ap length takes.frames), omega (arith, parts)))
+IsTaken-takes old new f takes g taken = search (rules, tally-append, one_same)
 
 -- the others stay taken
 pub IsTaken-gives : (pool : Pool) (f g : ℕ) → g ≢ f → IsTaken pool g → IsTaken (record pool { free = pool.free ++ f ∷ [] }) g

@@ -1,5 +1,5 @@
 -- A frame that is taken, from the free ones or from those that are earmarked.
-use Rattle.std.proofs.Common.{◌≡◌, ◌≢◌, ℕ, ◌+◌, ◌<◌, ◌≤◌, ◌++◌, ◌==◌, inl, inr, cond, true, false, Bool, List, [], ◌∷◌, Option, Some, None, length, slice_set, refl, sym, ap, ◌∙◌, subst, arith, length-append}
+use Rattle.std.proofs.Common.{◌≡◌, ◌≢◌, ℕ, ◌+◌, ◌<◌, ◌≤◌, ◌++◌, ◌==◌, inl, inr, cond, true, false, Bool, List, [], ◌∷◌, Option, Some, None, length, slice_set, refl, sym, ap, ◌∙◌, subst, arith, length-append, rules}
 use Rattle.std.proofs.lemmas.Bool.Decides.{nat_tests}
 use Rattle.std.proofs.lemmas.Bool.{cases_lt}
 use Rattle.wh_space_model.specs.{Pool, tally, one_if, Space, Pins, kept, kept_by, pinned_by, sharers, FramesAreSound, count, owns, may_take, TakesFrame}
@@ -74,14 +74,7 @@ lent s i g bytes s2 (inr (rest, (before, behind, was, now), is)) =
       frames = refl;
       sum = λ h. (let k = without h g before behind in rw (mine.0, now) (omega arith));
       free = λ h. omega arith;
-      pins = record {
-        pinned = λ j. elim (here_or i j) [
-          | inl same ↦ rw same (cond_here i (pinned_by s.pins i) [])
-          | inr other ↦ cond_other i j (pinned_by s.pins i) [] other ∙ sym (ap (λ o. pinned_by o j) mine.1.1 ∙ pinned_away old j (others j other))
-        ];
-        few = (let k = shorter g before behind in rw (mine.0, now) (omega arith));
-        of = λ x e. (old, mine.1.1, mine.1.2 ∙ ap (λ (o : Pins). o.place) (let both : Some new ≡ Some x = e in let one : new ≡ x = cc in one));
-      };
+      pins = search (rules, here_or, cond_here, cond_other, pinned_away, shorter);
       kept = λ j other. cond_other i j rest [] other ∙ sym (ap (λ o. kept_by o j) mine.1.1 ∙ kept_away old j (others j other));
       fewer = λ h. (let here : kept_by (Some new) i ≡ rest = kept_at new i refl in let k = without h g before behind in rw (here, was, now) (omega arith));
       takes = (let here : kept_by (Some new) i ≡ rest = kept_at new i refl in let k = shorter g before behind in rw (here, was, now) (omega arith));

@@ -1,5 +1,5 @@
 -- An offer of a page on a shared frame that has no entry leaves everything sound, and so does every offer.
-use Rattle.std.proofs.Common.{◌≡◌, ◌≢◌, ℕ, ◌+◌, ◌<◌, ◌≤◌, ◌++◌, inl, inr, cond, nat_lt, min, true, false, Bool, ◌⊎◌, List, [], ◌∷◌, Some, None, length, slice_get, slice_set, get_or, refl, sym, ap, ◌∙◌, subst, arith, length-set}
+use Rattle.std.proofs.Common.{◌≡◌, ◌≢◌, ℕ, ◌+◌, ◌<◌, ◌≤◌, ◌++◌, inl, inr, cond, nat_lt, min, true, false, Bool, ◌⊎◌, List, [], ◌∷◌, Some, None, length, slice_get, slice_set, get_or, refl, sym, ap, ◌∙◌, subst, arith, length-set, rules}
 use Rattle.wh_space_model.specs.{zero_page, tally, one_if, one_more, OffersSoundly, one_fewer, FindsHint, FindsNone, FindsShared, IsOffered, MayBeListed, OffersUnlisted, gone_from, joined_to, listed_under, listed_for, moved_to, Space, all_bytes, backing, frame_bytes, sharers, kept, OffersQuietly, fetches_into, FramesAreSound, IsSound, Names, holders, count, owns, page_at, put, shares}
 use Rattle.wh_space_model.proofs.Tally.{one_same, one_other}
 use Rattle.wh_space_model.specs.declared.states.Page.TheVariants.{Untouched, Private, Shared, Coming}
@@ -83,8 +83,7 @@ frames_gone s i p f sound there =
     let new : Mark = cond b (one_fewer (slice_get s.marks f)) Plain in
     let share : (g : ℕ) → sharers s2 g + shares g (Shared f) ≡ sharers s g + 0 = λ g. put_tally (shares g) s.tables i p (Shared f) Untouched there in
     let one = one_same f f refl in
-    let left : ((b ≡ true) × (1 < sharers s f) × (sharers s2 f + 1 ≡ sharers s f)) ⊎ ((b ≡ false) × (sharers s2 f ≡ 0)) =
-    elim (lt_cases (sharers s f)) [ inl many ↦ inl (many.0, many.1, (let a = share f in omega arith)) | inr few ↦ inr (few.0, (let a = share f in let c = few.1 in omega arith)) ] in
+    let left : ((b ≡ true) × (1 < sharers s f) × (sharers s2 f + 1 ≡ sharers s f)) ⊎ ((b ≡ false) × (sharers s2 f ≡ 0)) = search (rules, lt_cases) in
     record {
       one = sum_gone s i p f sound there;
       none = none_gone s i p f sound there;
@@ -134,9 +133,7 @@ moved_sound s i p f n g hash m sound may found =
     (subst (λ z. IsSound (record s1 { tables = put s1.tables i p (Shared g); marks = slice_set s1.marks g z })) is joined)
 
 pub joined_here_sound : (s : Space) (i p f n g hash j q : ℕ) → IsSound s → MayBeListed s i p f n → frame_bytes s f ≢ zero_page → FindsHint s hash g j q → IsOffered s j q g → IsSound (joined_to (listed_for s g f hash n) j q g f hash n)
-joined_here_sound s i p f n g hash j q sound may some found offered =
-    joined_sound (listed_for s g f hash n) j q g f hash n (listed_for_sound s g f hash n j q sound may.1 some found) offered
-    (set_same (slice_set s.marks g Plain) f (Sharers hash n) (let a = there_of s.marks f (Unlisted n) may.1 in let b = length-set s.marks g Plain in omega arith))
+joined_here_sound s i p f n g hash j q sound may some found offered = search (rules, joined_sound, listed_for_sound, set_same, there_of, length-set)
 
 -- ---- an offer
 

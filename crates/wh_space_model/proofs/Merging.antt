@@ -1,5 +1,5 @@
 -- A merge leaves everything sound, and so does every offer of a page that is alone on its frame.
-use Rattle.std.proofs.Common.{◌≡◌, ◌≢◌, ℕ, ◌+◌, ◌<◌, ◌≤◌, ◌++◌, inl, inr, min, List, [], ◌∷◌, Some, length, slice_get, slice_set, refl, sym, ◌∙◌, subst, arith, length-set}
+use Rattle.std.proofs.Common.{◌≡◌, ◌≢◌, ℕ, ◌+◌, ◌<◌, ◌≤◌, ◌++◌, inl, inr, min, List, [], ◌∷◌, Some, length, slice_get, slice_set, refl, sym, ◌∙◌, subst, arith, length-set, rules}
 use Rattle.wh_space_model.specs.{zero_page, tally, one_if, FindsHint, FindsShared, IsOffered, OffersAlone, gives_up, joined_to, paired_with, FramesAreSound, HasHash, IsSound, Names, holders, Space, frame_bytes, sharers, at, comes_from, count, leaving, lies_in, owns, page_at, put, resident, shares}
 use Rattle.wh_space_model.proofs.Tally.{one_same, one_other, tally-append}
 use Rattle.wh_space_model.specs.declared.states.Page.{Page}
@@ -18,13 +18,7 @@ use Rattle.wh_space_model.proofs.Steady.{untouched_soundly}
 -- the hashes of the entries are among those that there were
 entry_before : (marks : List Mark) (g f h hash m x : ℕ) → g < length marks → f < length marks → HasHash (slice_get marks f) hash
     → HasHash (slice_get (slice_set (slice_set marks g Plain) f (Sharers hash m)) h) x → HasHash (slice_get marks h) x
-entry_before marks g f h hash m x within within2 had has =
-    elim (here_or f h) [
-      | inr other ↦ plain_before marks g h x within (subst (λ a. HasHash a x) (set_other (slice_set marks g Plain) f h (Sharers hash m) (λ e. other e)) has)
-      | inl same ↦
-          (let is : hash ≡ x = subst (λ a. HasHash a x) (set_same (slice_set marks g Plain) f (Sharers hash m) (let l = length-set marks g Plain in omega arith)) (subst (λ z. HasHash (slice_get (slice_set (slice_set marks g Plain) f (Sharers hash m)) z) x) same has) in
-          subst (λ z. HasHash (slice_get marks z) x) (sym same) (subst (HasHash (slice_get marks f)) is had))
-    ]
+entry_before marks g f h hash m x within within2 had has = search (rules, here_or, plain_before, set_other, set_same, length-set)
 
 -- frame g is free, and m pages share frame f
 pub merged_frames : (s : Space) (tables : List (List Page)) (i p g f hash m : ℕ) → IsSound s → IsOffered s i p g → f ≢ g → f < length s.pool.frames → HasHash (slice_get s.marks f) hash → frame_bytes s f ≢ zero_page
@@ -59,8 +53,7 @@ merged_frames s tables i p g f hash m sound offered apart within had bytes own s
               (let now : slice_get s2.marks g ≡ Some Plain = set_other (slice_set s.marks g Plain) f g (Sharers hash m) (λ e. apart (sym e)) ∙ set_same s.marks g Plain within_g in
               let zeros : sharers s2 g ≡ 0 = share g (λ e. apart (sym e)) ∙ here.2 in
               subst (λ z. Names s2 z (slice_get s2.marks z)) (sym same) (subst (Names s2 g) (sym now) zeros))
-          | inr away ↦ same_entry s tables (s.pool.free ++ g ∷ []) (slice_set (slice_set s.marks g Plain) f (Sharers hash m)) h
-              (set_other (slice_set s.marks g Plain) f h (Sharers hash m) (λ e. other e) ∙ set_other s.marks g h Plain (λ e. away e)) (share h (λ e. other e)) (keeps h (λ e. other e) (λ e. away e)) sound.frames
+          | inr away ↦ search (rules, same_entry, set_other)
         ]
       ];
       apart = λ a b x x1 x2. sound.frames.apart a b x (entry_before s.marks g f a hash m x within_g within_f had x1) (entry_before s.marks g f b hash m x within_g within_f had x2);

@@ -1,5 +1,5 @@
 -- An offer leaves everything sound, whatever the hash.
-use Rattle.std.proofs.Common.{◌≡◌, ◌≢◌, ℕ, ◌+◌, ◌<◌, ◌≤◌, ◌++◌, inl, inr, List, [], ◌∷◌, Some, length, slice_get, slice_set, get_or, refl, sym, ap, ◌∙◌, subst, arith, length-set}
+use Rattle.std.proofs.Common.{◌≡◌, ◌≢◌, ℕ, ◌+◌, ◌<◌, ◌≤◌, ◌++◌, inl, inr, List, [], ◌∷◌, Some, length, slice_get, slice_set, get_or, refl, sym, ap, ◌∙◌, subst, arith, length-set, rules}
 use Rattle.std.proofs.lemmas.Bool.{cases_lt}
 use Rattle.wh_space_model.specs.{tally, one_if, FindsHint, FindsNone, IsOffered, gives_up, hinted, FramesAreSound, HasHash, IsSound, Names, Space, pinned_by, sharers, at, comes_from, count, leaving, lies_in, owns, page_at, put, resident, shares}
 use Rattle.wh_space_model.proofs.Tally.{one_same, one_other, tally-append}
@@ -66,15 +66,7 @@ moved_page s i p x y sound there free was plain other_page = record {
   comes = λ h. (let e = put_tally (comes_from h) s.tables i p x y there in let a = (was.0 h).1 in let z = (plain.0 h).1 in omega arith);
   leaves = λ j q. at_same leaving s.tables i p j q x y there (plain.1 ∙ sym was.1);
   coming = λ h j q is. other_value s.tables i p j q x y (Coming h) there (other_page h) is;
-  pinned = λ j q some. elim (here_or i j) [
-    | inr away ↦ ap (λ xs. at resident (slice_get xs q)) (put_other_row s.tables i p j y away) ∙ sound.pins.there j q some
-    | inl same ↦
-        elim (here_or p q) [
-          | inl here ↦ absurd (free (subst (λ z. 1 ≤ tally (one_if z) (pinned_by s.pins i)) here (subst (λ z. 1 ≤ tally (one_if q) (pinned_by s.pins z)) same some)))
-          | inr other ↦ subst (λ z. at resident (page_at (put s.tables i p y) z q) ≡ 1) (sym same)
-              (ap (at resident) (put_other s.tables i p q y other) ∙ subst (λ z. at resident (page_at s.tables z q) ≡ 1) same (sound.pins.there j q some))
-        ]
-  ];
+  pinned = search (rules, here_or, put_other_row, put_other);
 }
 
 pub moved_once : (s : Space) (i p g : ℕ) (y : Page) → IsSound s → IsOffered s i p g → IsPlain y → IsMoved s (put s.tables i p y)
@@ -95,15 +87,10 @@ owned s i p g sound there =
 pub same_entry : (s : Space) (tables : List (List Page)) (free : List ℕ) (marks : List Mark) (h : ℕ) → slice_get marks h ≡ slice_get s.marks h → count (shares h) tables ≡ sharers s h
     → ((i q : ℕ) → at (owns h) (page_at s.tables i q) ≡ 1 → at (owns h) (page_at tables i q) ≡ 1) → FramesAreSound s → Names (remade s tables free marks) h (slice_get marks h)
 unfolding remade
-same_entry s tables free marks h mark share own sound =
-    subst (Names (remade s tables free marks) h) (sym mark) (names_other s (remade s tables free marks) h (slice_get s.marks h) refl share own (sound.names h))
+same_entry s tables free marks h mark share own sound = search rules
 
 pub plain_before : (marks : List Mark) (g h hash : ℕ) → g < length marks → HasHash (slice_get (slice_set marks g Plain) h) hash → HasHash (slice_get marks h) hash
-plain_before marks g h hash within has =
-    elim (here_or g h) [
-      | inr other ↦ subst (λ m. HasHash m hash) (set_other marks g h Plain (λ e. other e)) has
-      | inl same ↦ absurd (subst (λ m. HasHash m hash) (set_same marks g Plain within) (subst (λ z. HasHash (slice_get (slice_set marks g Plain) z) hash) same has))
-    ]
+plain_before marks g h hash within has = search (rules, here_or, set_other, set_same)
 
 zeroed_frames : (s : Space) (i p g : ℕ) → IsSound s → IsOffered s i p g → FramesAreSound (remade s (put s.tables i p Untouched) (s.pool.free ++ g ∷ []) (slice_set s.marks g Plain))
 unfolding remade
@@ -132,9 +119,7 @@ zeroed_frames s i p g sound offered =
 -- the page is zero
 pub zeroed_sound : (s : Space) (i p g : ℕ) → IsSound s → IsOffered s i p g → IsSound (gives_up s i p g Untouched)
 unfolding remade IsPlain
-zeroed_sound s i p g sound offered =
-    is_sound_remade s (put s.tables i p Untouched) (s.pool.free ++ g ∷ []) (slice_set s.marks g Plain) sound
-    (moved_once s i p g Untouched sound offered (λ h. (refl, refl), refl)) (zeroed_frames s i p g sound offered)
+zeroed_sound s i p g sound offered = search (rules, is_sound_remade, moved_once, zeroed_frames)
 
 -- the page is the hint, where no other entry has the hash
 -- its frame has an entry, where no other entry has the hash
@@ -155,20 +140,7 @@ entry_frames s marks g hash m sound inside long names apart none is_named is_und
         | inl same ↦ subst (λ z. Names s2 z (slice_get s2.marks z)) (sym same) (subst (Names s2 g) (sym now) (names_other s s2 g (Some m) refl refl (λ j q is. is) is_named))
         | inr other ↦ subst (Names s2 h) (sym (set_other marks g h m (λ e. other e))) (names_other s s2 h (slice_get marks h) refl refl (λ j q is. is) (names h))
       ];
-      apart = λ a b x has also. elim (here_or g a) [
-        | inl same ↦ elim (here_or g b) [
-          | inl too ↦ same ∙ sym too
-          | inr other ↦ absurd
-              (let h : hash ≡ x = is_under x (subst (λ m. HasHash m x) now (subst (λ z. HasHash (slice_get s2.marks z) x) same has)) in
-              none b (subst (λ z. HasHash (slice_get marks b) z) (sym h) (subst (λ m. HasHash m x) (set_other marks g b m (λ e. other e)) also)))
-        ]
-        | inr away ↦ elim (here_or g b) [
-          | inr other ↦ apart a b x (subst (λ m. HasHash m x) (set_other marks g a m (λ e. away e)) has) (subst (λ m. HasHash m x) (set_other marks g b m (λ e. other e)) also)
-          | inl too ↦ absurd
-              (let h : hash ≡ x = is_under x (subst (λ m. HasHash m x) now (subst (λ z. HasHash (slice_get s2.marks z) x) too also)) in
-              none a (subst (λ z. HasHash (slice_get marks a) z) (sym h) (subst (λ m. HasHash m x) (set_other marks g a m (λ e. away e)) has)))
-        ]
-      ];
+      apart = search (rules, here_or, set_other);
     }
 
 -- the page is the hint, where no other entry has the hash
@@ -184,9 +156,7 @@ still_moved s sound = record { many = refl; rows = λ i. refl; lies = λ h. refl
 
 pub hinted_sound : (s : Space) (i p g hash : ℕ) → IsSound s → IsOffered s i p g → FindsNone s hash → IsSound (hinted s i p g hash)
 unfolding remade
-hinted_sound s i p g hash sound offered none =
-    is_sound_remade s s.tables s.pool.free (slice_set s.marks g (Hint hash i p)) sound (still_moved s sound)
-    (hint_frames s s.marks i p g hash sound offered refl sound.frames.names sound.frames.apart none)
+hinted_sound s i p g hash sound offered none = search (rules, is_sound_remade, still_moved, hint_frames)
 
 -- what the entries are without a hint: none has its hash
 pub record IsCleared (s : Space) (f hash : ℕ) : Type 0 where
@@ -200,19 +170,12 @@ cleared s f j q hash sound found =
     let has : HasHash (slice_get s.marks f) hash = subst (λ m. HasHash m hash) (sym found) refl in
     let names : Names s f (Some (Hint hash j q)) = subst (Names s f) found (sound.frames.names f) in
     record {
-      names = λ h. elim (here_or f h) [
-        | inl same ↦ subst (λ z. Names s z (slice_get (slice_set s.marks f Plain) z)) (sym same) (subst (Names s f) (sym (set_same s.marks f Plain within)) names.1)
-        | inr other ↦ subst (Names s h) (sym (set_other s.marks f h Plain (λ e. other e))) (sound.frames.names h)
-      ];
+      names = search (rules, here_or, set_same, set_other);
       apart = λ a b x x1 x2. sound.frames.apart a b x (plain_before s.marks f a x within x1) (plain_before s.marks f b x within x2);
-      none = λ h also. (let same : h ≡ f = sound.frames.apart h f hash (plain_before s.marks f h hash within also) has in
-          subst (λ m. HasHash m hash) (set_same s.marks f Plain within) (subst (λ z. HasHash (slice_get (slice_set s.marks f Plain) z) hash) same also));
+      none = search (rules, plain_before, set_same);
     }
 
 -- a hint whose page has another hash by now goes first
 pub stale_sound : (s : Space) (i p g f j q hash : ℕ) → IsSound s → IsOffered s i p g → FindsHint s hash f j q → IsSound (hinted (record s { marks = slice_set s.marks f Plain }) i p g hash)
 unfolding remade
-stale_sound s i p g f j q hash sound offered found =
-    let clear = cleared s f j q hash sound found in
-    is_sound_remade s s.tables s.pool.free (slice_set (slice_set s.marks f Plain) g (Hint hash i p)) sound (still_moved s sound)
-    (hint_frames s (slice_set s.marks f Plain) i p g hash sound offered (length-set s.marks f Plain) clear.names clear.apart clear.none)
+stale_sound s i p g f j q hash sound offered found = search (rules, cleared, is_sound_remade, still_moved, hint_frames, length-set)

@@ -1,5 +1,5 @@
 -- The page that must leave is one page.
-use Rattle.std.proofs.Common.{◌≡◌, ◌∙◌, ℕ, ◌<◌, ◌≤◌, ◌⊎◌, inl, inr, Option, Some, None, refl, sym, subst, arith}
+use Rattle.std.proofs.Common.{◌≡◌, ◌∙◌, ℕ, ◌<◌, ◌≤◌, ◌⊎◌, inl, inr, Option, Some, None, sym, subst, arith, rules}
 use Rattle.wh_model.specs.declared.memory.Need.{Need}
 use Rattle.wh_space_model.specs.{one_if, occupant_number, IsBeside, IsFirstIdle, IsPayer, IsShed, IsTakenFrom, OnePageMustLeave, Space, Occupant, occupant_at, IsSound, at, page_at, shares}
 use Rattle.wh_space_model.specs.declared.states.Page.{Page}
@@ -9,19 +9,7 @@ three : (m n : ℕ) → (m < n) ⊎ ((n < m) ⊎ (m ≡ n))
 three m n = grind arith
 
 first_idle : (can busy : ℕ → Type 0) (p q : ℕ) → IsFirstIdle can busy p → IsFirstIdle can busy q → p ≡ q
-first_idle can busy p q a b = elim a.1 [
-  | inl x ↦ elim b.1 [
-    | inl y ↦ elim (three p q) [
-      | inl less ↦ absurd (x.0 (y.1 p less a.0))
-      | inr other ↦ elim other [ inl more ↦ absurd (y.0 (x.1 q more b.0)) | inr same ↦ same ]
-    ]
-    | inr y ↦ absurd (x.0 (y p a.0).0)
-  ]
-  | inr x ↦ elim b.1 [
-    | inl y ↦ absurd (y.0 (x q b.0).0)
-    | inr y ↦ (let m = (x q b.0).1 in let n = (y p a.0).1 in omega (arith, m, n))
-  ]
-]
+first_idle can busy p q a b = search rules
 
 -- who stands at a place is one occupant
 one_occupant : (s : Space) (i : ℕ) (t u : Occupant) → occupant_at s i t → occupant_at s i u → t ≡ u
@@ -63,16 +51,7 @@ abbrev IsAbove : Space → ℕ → ℕ → ℕ → ℕ → Type 0
 IsAbove s j p k q = (occupant_number s k < occupant_number s j) ⊎ ((k ≡ j) × (q ≤ p))
 
 greatest : (s : Space) (j p k q : ℕ) → IsAbove s j p k q → IsAbove s k q j p → (j ≡ k) × (p ≡ q)
-greatest s j p k q a b = elim a [
-  | inl less ↦ elim b [
-    | inl more ↦ absurd (omega (arith, less, more))
-    | inr same ↦ absurd (let e : occupant_number s k ≡ occupant_number s j = rw same.0 refl in omega (arith, less, e))
-  ]
-  | inr same ↦ elim b [
-    | inl more ↦ absurd (let e : occupant_number s k ≡ occupant_number s j = rw same.0 refl in omega (arith, more, e))
-    | inr again ↦ (again.0, (let m = same.1 in let n = again.1 in omega (arith, m, n)))
-  ]
-]
+greatest s j p k q a b = search rules
 
 shed : (s : Space) (i j p k q : ℕ) (need : Need) → IsShed s i need j p → IsShed s i need k q → (j ≡ k) × (p ≡ q)
 shed s i j p k q need a b =

@@ -1,5 +1,5 @@
 -- What each offer of a full pass leaves.
-use Rattle.std.proofs.Common.{◌≡◌, ◌≢◌, ℕ, ◌+◌, ◌-◌, cond, nat_lt, true, Bool, ◌<◌, ◌≤◌, ◌++◌, inl, inr, false, List, [], ◌∷◌, Option, Some, None, length, slice_get, slice_set, get_or, suc, refl, sym, ap, ◌∙◌, subst, arith, length-set}
+use Rattle.std.proofs.Common.{◌≡◌, ◌≢◌, ℕ, ◌+◌, ◌-◌, cond, nat_lt, true, Bool, ◌<◌, ◌≤◌, ◌++◌, inl, inr, false, List, [], ◌∷◌, Option, Some, None, length, slice_get, slice_set, get_or, suc, refl, sym, ap, ◌∙◌, subst, arith, length-set, rules}
 use Rattle.std.proofs.lemmas.Bool.{cases_lt}
 use Rattle.wh_space_model.specs.{zero_page, tally, one_if, is_ticket, tickets, frame_of, one_fewer, Slots, Space, all_bytes, backing, frame_bytes, kept, pinned_by, sharers, FindsShared, IsHinted, IsOffered, MayBeListed, OffersAlone, OffersUnlisted, gives_up, gone_from, hinted, joined_to, listed_under, listed_for, moved_to, paired_with, IsContent, IsHashOf, MadeUnder, FramesAreSound, IsSound, Names, SlotsAreSound, at, count, leaving, owns, page_at, page_bytes, put, resident, shares}
 use Rattle.wh_space_model.proofs.Tally.{one_same, one_other, tally-append}
@@ -41,16 +41,7 @@ pub none_leaves : (s : Space) (i p : ℕ) → SlotsAreSound s → tickets s ≡ 
 none_leaves s i p sound none is = (let found = sound.leaving i p is in let k = get_tally is_ticket s.slots.uses found.0 _ found.1 in omega arith)
 
 pub owner_is : (s : Space) (i p f : ℕ) → SlotsAreSound s → tickets s ≡ 0 → at (owns f) (page_at s.tables i p) ≡ 1 → page_at s.tables i p ≡ Some (Private f)
-owner_is s i p f sound none is = go (page_at s.tables i p) refl where
-  go : (o : Option Page) → page_at s.tables i p ≡ o → o ≡ Some (Private f)
-  go None e = absurd (let z = ap (at (owns f)) e in omega arith)
-  go (Some Untouched) e = absurd (let z = ap (at (owns f)) e in omega arith)
-  go (Some (Private g)) e = elim (here_or f g) [ inl same ↦ ap (λ x. Some (Private x)) same | inr other ↦ absurd (let z = ap (at (owns f)) e in let o = one_other f g (λ e. other (sym e)) in omega arith) ]
-  go (Some (Shared g)) e = absurd (let z = ap (at (owns f)) e in omega arith)
-  go (Some (Leaving g)) e = absurd (none_leaves s i p sound none (ap (at leaving) e))
-  go (Some (LeavingShared g)) e = absurd (let z = ap (at (owns f)) e in omega arith)
-  go (Some (Coming k)) e = absurd (let z = ap (at (owns f)) e in omega arith)
-  go (Some (Swapped k)) e = absurd (let z = ap (at (owns f)) e in omega arith)
+owner_is s i p f sound none is = search (rules, here_or, one_other, none_leaves)
 
 -- a page that counts is there
 row_has : (w : Page → ℕ) (xs : List Page) → 1 ≤ tally w xs → (p : ℕ) × (x : Page) × (slice_get xs p ≡ Some x) × (1 ≤ w x)
@@ -106,18 +97,10 @@ alone_frame s i p g sound there =
 
 -- a page that is alone on its frame still was so
 put_private : (t : List (List Page)) (i p : ℕ) (x y : Page) (j q g : ℕ) → page_at t i p ≡ Some x → y ≢ Private g → page_at (put t i p y) j q ≡ Some (Private g) → page_at t j q ≡ Some (Private g)
-put_private t i p x y j q g there other is = elim (elsewhere t i p y j q) [
-  | inr (away, same) ↦ sym same ∙ is
-  | inl (same, here) ↦ absurd (let now = put_this t i p x y there in
-      let at_it : page_at (put t i p y) i p ≡ Some (Private g) = subst (λ z. page_at (put t i p y) z p ≡ Some (Private g)) same (subst (λ z. page_at (put t i p y) j z ≡ Some (Private g)) here is) in
-      let both : Some y ≡ Some (Private g) = sym now ∙ at_it in other (cc both))
-]
+put_private t i p x y j q g there other is = search (rules, elsewhere, put_this)
 
 put_resident : (t : List (List Page)) (i p : ℕ) (x y : Page) (j q : ℕ) → page_at t i p ≡ Some x → resident x ≡ 1 → at resident (page_at (put t i p y) j q) ≡ 1 → at resident (page_at t j q) ≡ 1
-put_resident t i p x y j q there one is = elim (elsewhere t i p y j q) [
-  | inr (away, same) ↦ ap (at resident) (sym same) ∙ is
-  | inl (same, here) ↦ subst (λ z. at resident (page_at t z q) ≡ 1) (sym same) (subst (λ z. at resident (page_at t i z) ≡ 1) (sym here) (ap (at resident) there ∙ one))
-]
+put_resident t i p x y j q there one is = search (rules, elsewhere)
 
 untouched_not : (g : ℕ) → Untouched ≢ Private g
 untouched_not g e = cc e
@@ -165,19 +148,10 @@ abbrev ScriptState : (List ℕ → ℕ) → List (List ℕ) → List Mark → Ty
 ScriptState hashes frames marks = (f hash n : ℕ) → slice_get marks f ≡ Some (Sharers hash n) → hashes (get_or frames f []) ≡ hash
 
 made_with : (hashes : List ℕ → ℕ) (frames : List (List ℕ)) (marks : List Mark) (g : ℕ) (m : Mark) → ScriptState hashes frames marks → g < length marks → ((x n : ℕ) → m ≢ Sharers x n) → ScriptState hashes frames (slice_set marks g m)
-made_with hashes frames marks g m made within never f x n is = elim (here_or g f) [
-  | inr other ↦ made f x n (sym (set_other marks g f m (λ e. other e)) ∙ is)
-  | inl same ↦ absurd (let both : Some m ≡ Some (Sharers x n) = sym (set_same marks g m within) ∙ subst (λ z. slice_get (slice_set marks g m) z ≡ Some (Sharers x n)) same is in never x n (cc both))
-]
+made_with hashes frames marks g m made within never f x n is = search (rules, here_or, set_other, set_same)
 
 made_shared : (hashes : List ℕ → ℕ) (frames : List (List ℕ)) (marks : List Mark) (g hash k : ℕ) → ScriptState hashes frames marks → g < length marks → hashes (get_or frames g []) ≡ hash → ScriptState hashes frames (slice_set marks g (Sharers hash k))
-made_shared hashes frames marks g hash k made within own f x n is = elim (here_or g f) [
-  | inr other ↦ made f x n (sym (set_other marks g f (Sharers hash k) (λ e. other e)) ∙ is)
-  | inl same ↦
-      (let both : Some (Sharers hash k) ≡ Some (Sharers x n) = sym (set_same marks g (Sharers hash k) within) ∙ subst (λ z. slice_get (slice_set marks g (Sharers hash k)) z ≡ Some (Sharers x n)) same is in
-      let e : hash ≡ x = cc in
-      ap (λ z. hashes (get_or frames z [])) same ∙ (own ∙ e))
-]
+made_shared hashes frames marks g hash k made within own f x n is = search (rules, here_or, set_other, set_same)
 
 plain_never : (x n : ℕ) → Plain ≢ Sharers x n
 plain_never x n e = cc e
@@ -193,19 +167,11 @@ WasUnlisted s s2 j q = (f n : ℕ) → page_at s2.tables j q ≡ Some (Shared f)
 
 -- a page that shared a frame
 put_shared : (t : List (List Page)) (i p : ℕ) (x y : Page) (j q f : ℕ) → page_at t i p ≡ Some x → y ≢ Shared f → page_at (put t i p y) j q ≡ Some (Shared f) → page_at t j q ≡ Some (Shared f)
-put_shared t i p x y j q f there other is = elim (elsewhere t i p y j q) [
-  | inr (away, same) ↦ sym same ∙ is
-  | inl (same, here) ↦ absurd (let now = put_this t i p x y there in
-      let at_it : page_at (put t i p y) i p ≡ Some (Shared f) = subst (λ z. page_at (put t i p y) z p ≡ Some (Shared f)) same (subst (λ z. page_at (put t i p y) j z ≡ Some (Shared f)) here is) in
-      let both : Some y ≡ Some (Shared f) = sym now ∙ at_it in other (cc both))
-]
+put_shared t i p x y j q f there other is = search (rules, elsewhere, put_this)
 
 -- an entry that is none
 pub unlisted_other : (marks : List Mark) (g f n : ℕ) (m : Mark) → g < length marks → m ≢ Unlisted n → slice_get (slice_set marks g m) f ≡ Some (Unlisted n) → slice_get marks f ≡ Some (Unlisted n)
-unlisted_other marks g f n m within never is = elim (here_or g f) [
-  | inr other ↦ sym (set_other marks g f m (λ e. other e)) ∙ is
-  | inl same ↦ absurd (let both : Some m ≡ Some (Unlisted n) = sym (set_same marks g m within) ∙ subst (λ z. slice_get (slice_set marks g m) z ≡ Some (Unlisted n)) same is in never (cc both))
-]
+unlisted_other marks g f n m within never is = search (rules, here_or, set_other, set_same)
 
 pub plain_listed : (n : ℕ) → Plain ≢ Unlisted n
 plain_listed n e = cc e
@@ -239,11 +205,7 @@ scanning_after hashes s s2 scan sound bytes less slots pins made = record {
 still_settled : (hashes : List ℕ → ℕ) (s s2 : Space) (j q : ℕ) → s2.pool.frames ≡ s.pool.frames → ((g : ℕ) → page_at s2.tables j q ≡ Some (Private g) → page_at s.tables j q ≡ Some (Private g))
     → ((g : ℕ) → page_at s2.tables j q ≡ Some (Private g) → page_at s.tables j q ≡ Some (Private g) → (a b : ℕ) → slice_get s.marks g ≡ Some (Hint (hashes (frame_bytes s g)) a b) → (c : ℕ) × (d : ℕ) × (slice_get s2.marks g ≡ Some (Hint (hashes (frame_bytes s g)) c d)))
     → WasUnlisted s s2 j q → IsSettled hashes s j q → IsSettled hashes s2 j q
-still_settled hashes s s2 j q frames before marks was_unlisted old = record {
-  entry = λ g is. (let was = before g is in let e = old.entry g was in let m = marks g is was e.0 e.1 e.2 in (m.0, m.1, m.2 ∙ ap (λ z. Some (Hint (hashes (get_or z g [])) m.0 m.1)) (sym frames)));
-  some = λ g is z. old.some g (before g is) (ap (λ x. get_or x g []) (sym frames) ∙ z);
-  listed = λ f n there mark. (let w = was_unlisted f n there mark in old.listed f w.0 w.1 w.2);
-}
+still_settled hashes s s2 j q frames before marks was_unlisted old = search rules
 
 one_private : (o : Option Page) (f g : ℕ) → o ≡ Some (Private f) → o ≡ Some (Private g) → g ≡ f
 one_private o f g a b = (let both : Some (Private f) ≡ Some (Private g) = sym a ∙ b in cc)
@@ -317,12 +279,7 @@ merge_step hashes s i p hash g f n s2 scan offered offer own there_f frames free
     let made : ScriptState hashes s.pool.frames (slice_set (slice_set s.marks g Plain) f (Sharers hash n)) = made_shared hashes s.pool.frames (slice_set s.marks g Plain) f hash n (made_with hashes s.pool.frames s.marks g Plain scan.made_under within plain_never) within_f own in
     record {
       scanning = scanning_after hashes s s2 scan sound (offers_quiet hashes s i p hash Merged s2 offer) less slots pins (λ h x m is. ap (λ z. hashes (get_or z h [])) frames ∙ made h x m (ap (λ z. slice_get z h) (sym marks) ∙ is));
-      now = record {
-        entry = λ h there. absurd (gone h there);
-        some = λ h there. absurd (gone h there);
-        listed = λ h k there mark. (let one : Some (Shared f) ≡ Some (Shared h) = sym here ∙ there in let same : f ≡ h = cc in
-            let both : Some (Sharers hash n) ≡ Some (Unlisted k) = sym counted ∙ subst (λ z. slice_get s2.marks z ≡ Some (Unlisted k)) (sym same) mark in cc both);
-      };
+      now = search rules;
       stays = λ j q old. still_settled hashes s s2 j q frames (λ h there. private j q h there)
           (λ h there was a b mark.
           (let away : h ≢ g = not_given s2 j q g h s.pool.free sound.frames there free in
@@ -357,8 +314,7 @@ alone_step hashes s i p hash Skipped s2 scan its (is, inr (g, f, j, q, offered, 
 alone_step hashes s i p hash Skipped s2 scan its (is, inr (g, f, j, q, offered, some, found, inr (apart, not))) = absurd (not (hint_offered hashes s f hash j q scan found))
 alone_step hashes s i p hash FalseMatch s2 scan its (is, (g, f, offered, some, differ, inl (n, found))) =
     absurd (differ (scan.apart (frame_bytes s g) (frame_bytes s f) (owned_content s i p g offered.0) (shared_content s f (named_sharers s f hash n scan.sound.frames found)) (its.0 g offered.0 ∙ sym (scan.made_under f hash n found))))
-alone_step hashes s i p hash FalseMatch s2 scan its (is, (g, f, offered, some, differ, inr (j, q, apart, hint))) =
-    absurd (differ (scan.apart (frame_bytes s g) (frame_bytes s f) (owned_content s i p g offered.0) (owned_content s j q f hint.1.0) (its.0 g offered.0 ∙ sym hint.2)))
+alone_step hashes s i p hash FalseMatch s2 scan its (is, (g, f, offered, some, differ, inr (j, q, apart, hint))) = search rules
 alone_step hashes s i p hash Zeroed s2 scan its (g, offered, zeros, is) = zeroed_step hashes s i p hash g s2 scan offered zeros is
 alone_step hashes s i p hash Hinted s2 scan its (g, offered, some, none, is) =
     subst (IsStep hashes s i p) (sym is) (hint_step hashes s i p hash g Hinted s.marks scan its offered some (inl (g, offered, some, none, refl)) refl scan.made_under (λ h a b other mark. mark) (λ f n mark. mark))
@@ -367,8 +323,7 @@ alone_step hashes s i p hash Stale s2 scan its (g, f, j, q, offered, some, found
     (made_with hashes s.pool.frames s.marks f Plain scan.made_under (there_of s.marks f (Hint hash j q) found) plain_never)
     (λ h a b other mark. elim (here_or f h) [
       | inr away ↦ set_other s.marks f h Plain (λ e. away e) ∙ mark
-      | inl same ↦ absurd (changed (let at_it : slice_get s.marks f ≡ Some (Hint (hashes (frame_bytes s f)) a b) = subst (λ z. slice_get s.marks z ≡ Some (Hint (hashes (frame_bytes s z)) a b)) same mark in
-          let both : Some (Hint hash j q) ≡ Some (Hint (hashes (frame_bytes s f)) a b) = sym found ∙ at_it in cc))
+      | inl same ↦ search rules
     ])
     (λ h n mark. unlisted_other s.marks f h n Plain (there_of s.marks f (Hint hash j q) found) (plain_listed n) mark))
 alone_step hashes s i p hash Merged s2 scan its (g, f, offered, some, same, inl (n, found, is)) =
@@ -533,8 +488,7 @@ unlisted_step : (hashes : List ℕ → ℕ) (s : Space) (i p hash : ℕ) (answer
 unlisted_step hashes s i p hash Skipped s2 scan its (is, (f, n, g, j, q, may, some, found, not)) = absurd (not (hint_offered hashes s g hash j q scan found))
 unlisted_step hashes s i p hash FalseMatch s2 scan its (is, (f, n, g, may, some, differ, inl (m, found))) =
     absurd (differ (scan.apart (frame_bytes s f) (frame_bytes s g) (shared_content s f (some_sharers s i p f may.0)) (shared_content s g (named_sharers s g hash m scan.sound.frames found)) (its.1 f may.0 (n, may.1) ∙ sym (scan.made_under g hash m found))))
-unlisted_step hashes s i p hash FalseMatch s2 scan its (is, (f, n, g, may, some, differ, inr (j, q, hint))) =
-    absurd (differ (scan.apart (frame_bytes s f) (frame_bytes s g) (shared_content s f (some_sharers s i p f may.0)) (owned_content s j q g hint.1.0) (its.1 f may.0 (n, may.1) ∙ sym hint.2)))
+unlisted_step hashes s i p hash FalseMatch s2 scan its (is, (f, n, g, may, some, differ, inr (j, q, hint))) = search rules
 unlisted_step hashes s i p hash Zeroed s2 scan its (f, n, may, zeros, is) = zero_step hashes s i p hash f n s2 scan may zeros is
 unlisted_step hashes s i p hash Hinted s2 scan its (f, n, may, some, none, is) =
     subst (IsStep hashes s i p) (sym is) (listed_step hashes s i p hash f n Hinted s.marks scan its may (inr (f, n, may, some, none, refl)) refl scan.made_under (λ h a b mark. mark) (λ h k mark. mark))
@@ -544,8 +498,7 @@ unlisted_step hashes s i p hash Stale s2 scan its (f, n, g, j, q, may, some, fou
     (made_with hashes s.pool.frames s.marks g Plain scan.made_under within plain_never)
     (λ h a b mark. elim (here_or g h) [
       | inr away ↦ set_other s.marks g h Plain (λ e. away e) ∙ mark
-      | inl same ↦ absurd (changed (let at_it : slice_get s.marks g ≡ Some (Hint (hashes (frame_bytes s g)) a b) = subst (λ z. slice_get s.marks z ≡ Some (Hint (hashes (frame_bytes s z)) a b)) same mark in
-          let both : Some (Hint hash j q) ≡ Some (Hint (hashes (frame_bytes s g)) a b) = sym found ∙ at_it in cc))
+      | inl same ↦ search rules
     ])
     (λ h k mark. unlisted_other s.marks g h k Plain within (plain_listed k) mark))
 unlisted_step hashes s i p hash Merged s2 scan its (f, n, g, may, some, alike, inl (m, found, is)) = move_step hashes s i p hash f n g m s2 scan may some alike found is

@@ -1,5 +1,5 @@
 -- What an instance reads: bytes of its pages, which stand in frames.
-use Rattle.std.proofs.Common.{◌≡◌, ℕ, ◌+◌, ◌*◌, ◌-◌, ◌/◌, ◌%◌, ◌<◌, ◌≤◌, ◌++◌, inl, inr, List, [], ◌∷◌, Some, length, take, drop, slice_get, get_or, map, replicate, zero, suc, refl, sym, ◌∙◌, ap, arith}
+use Rattle.std.proofs.Common.{◌≡◌, ℕ, ◌+◌, ◌*◌, ◌-◌, ◌/◌, ◌%◌, ◌<◌, ◌≤◌, ◌++◌, inl, inr, List, [], ◌∷◌, Some, length, take, drop, slice_get, get_or, map, replicate, zero, suc, refl, sym, ◌∙◌, ap, arith, rules}
 use Rattle.std.proofs.lemmas.Bool.{cases_lt}
 use Rattle.std.proofs.Math.Seq.{drop-append-add}
 use Rattle.std.proofs.lemmas.List.{length-drop, take-append-le, drop-append-le, drop-drop, take-replicate, drop-replicate}
@@ -43,18 +43,10 @@ taken_under s i p (Swapped k) f sound there on = absurd (cc on)
 -- ---- bytes in one block of a list of blocks
 
 read_first : (x rest : List ℕ) (r n : ℕ) → r + n ≤ length x → bytes_at (x ++ rest) r n ≡ bytes_at x r n
-read_first x rest r n within =
-    let at : r ≤ length x = omega arith in
-    let e = drop-append-le r x rest at in
-    let l : (r + n) - r ≤ length (drop r x) = simp length-drop (omega arith) in
-    let e2 = take-append-le ((r + n) - r) (drop r x) rest l in
-    rw (e, e2) refl
+read_first x rest r n within = search (rules, drop-append-le, length-drop, take-append-le)
 
 read_past : (x rest : List ℕ) (k n : ℕ) → bytes_at (x ++ rest) (length x + k) n ≡ bytes_at rest k n
-read_past x rest k n =
-    let e = drop-append-add x rest k in
-    let a : ((length x + k) + n) - (length x + k) ≡ (k + n) - k = omega arith in
-    rw (e, a) refl
+read_past x rest k n = search (rules, drop-append-add)
 
 pub read_block : (xss : List (List ℕ)) → ((q : ℕ) (x : List ℕ) → slice_get xss q ≡ Some x → length x ≡ 4096) → (p : ℕ) (x : List ℕ) → slice_get xss p ≡ Some x → (r n : ℕ) → r + n ≤ 4096
     → bytes_at (joined xss) (4096 * p + r) n ≡ bytes_at x r n

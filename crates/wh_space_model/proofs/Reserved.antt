@@ -1,5 +1,5 @@
 -- Pins and earmarks that change leave everything sound.
-use Rattle.std.proofs.Common.{◌≡◌, ℕ, ◌+◌, ◌≤◌, ◌++◌, inl, inr, cond, nat_eq, true, false, Bool, List, [], ◌∷◌, Option, Some, None, length, min, slice_get, refl, sym, ap, subst, arith, length-append}
+use Rattle.std.proofs.Common.{◌≡◌, ℕ, ◌+◌, ◌≤◌, ◌++◌, inl, inr, cond, nat_eq, true, false, Bool, List, [], ◌∷◌, Option, Some, None, length, min, refl, sym, ap, subst, arith, length-append, rules}
 use Rattle.std.proofs.lemmas.Bool.Decides.{nat_tests}
 use Rattle.wh_model.specs.declared.memory.Need.{Need}
 use Rattle.wh_space_model.specs.{tally, one_if, BeginsEvict, Reserves, Earmarks, pinned, residents, unpinned, IsSound, PinsAreSound, Occupant, Pins, Space, kept, occupant_at, pinned_by, sharers, among, below, copies, frames_for, frames_in_all, pages_of_need, at, page_at, resident, shares, swapped, untouched}
@@ -22,32 +22,9 @@ pub is_sound_repinned : (s : Space) (pins : Option Pins) (others : List ℕ) →
     → PinsAreSound (repinned s pins others) → IsSound (repinned s pins others)
 unfolding repinned
 is_sound_repinned s pins others sound sums well = record {
-  frames = record {
-    one = λ f within. (let a = sums f in let b = sound.frames.one f within in omega arith);
-    none = λ f past. (let a = sums f in let b = sound.frames.none f past in omega arith);
-    whole = sound.frames.whole;
-    marks = sound.frames.marks;
-    names = λ f. names_other s (repinned s pins others) f (slice_get s.marks f) refl refl (λ i q is. is) (sound.frames.names f);
-    apart = sound.frames.apart;
-  };
-  slots = record {
-    used = λ k. used_other s (repinned s pins others) k (slice_get s.slots.uses k) refl refl refl (λ i q is. is) (λ i q is. is) (sound.slots.used k);
-    by_one = sound.slots.by_one;
-    by_this = sound.slots.by_this;
-    leaving = sound.slots.leaving;
-    voids = sound.slots.voids;
-    held = sound.slots.held;
-    whole = sound.slots.whole;
-  };
-  occupants = record {
-    tables = sound.occupants.tables;
-    touched = sound.occupants.touched;
-    have = sound.occupants.have;
-    marks = sound.occupants.marks;
-    numbers = sound.occupants.numbers;
-    released = sound.occupants.released;
-    needs = sound.occupants.needs;
-  };
+  frames = search (rules, names_other);
+  slots = search (rules, used_other);
+  occupants = search rules;
   pins = well;
   admissible = sound.admissible;
 }
@@ -91,11 +68,7 @@ is_sound_pinned s i need sound t =
     let pages : List ℕ = residents s i (pages_of_need need) in
     is_sound_repinned s (Some (record { place = i; pages = pages; frames = [] })) (s.pool.free ++ kept s.pins) sound (λ f. (let a = tally-append (one_if f) s.pool.free (kept s.pins) in omega arith)) (record {
       few = omega arith;
-      there = λ j p some. elim (here_or i j) [
-        | inr away ↦ absurd (let z = pinned_other i j p pages [] away in omega arith)
-        | inl same ↦ subst (λ z. at resident (page_at s.tables z p) ≡ 1) (sym same)
-            (residents_are s i p (pages_of_need need) (subst (λ z. 1 ≤ tally (one_if p) z) (pinned_here i pages []) (subst (λ z. 1 ≤ tally (one_if p) (pinned_by (Some (record { place = i; pages = pages; frames = [] })) z)) same some)))
-      ];
+      there = search (rules, here_or, pinned_other, residents_are, pinned_here);
       of = λ pins is. mine_live s i pages [] t pins is;
     })
 
@@ -107,11 +80,7 @@ is_sound_earmarked s i n s2 sound t few moves =
     subst IsSound (sym moves.leaves) (is_sound_repinned s (Some (record { place = i; pages = pages; frames = frames })) moves.others sound
     (λ f. (let a = tally-append (one_if f) (kept s.pins) moves.frames in let b = tally-append (one_if f) moves.others moves.frames in let c = ap (tally (one_if f)) moves.free in omega arith)) (record {
       few = (let a = length-append (kept s.pins) moves.frames in let b = moves.many in omega arith);
-      there = λ j p some. elim (here_or i j) [
-        | inr away ↦ absurd (let z = pinned_other i j p pages frames away in omega arith)
-        | inl same ↦ subst (λ z. at resident (page_at s.tables z p) ≡ 1) (sym same)
-            (sound.pins.there i p (subst (λ z. 1 ≤ tally (one_if p) z) (pinned_here i pages frames) (subst (λ z. 1 ≤ tally (one_if p) (pinned_by (Some (record { place = i; pages = pages; frames = frames })) z)) same some)))
-      ];
+      there = search (rules, here_or, pinned_other, pinned_here);
       of = λ pins is. mine_live s i pages frames t pins is;
     }))
 

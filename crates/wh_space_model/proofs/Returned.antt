@@ -1,6 +1,6 @@
 -- A ticket that comes back while its page is leaving leaves everything sound.
-use Rattle.std.proofs.Common.{◌≡◌, ◌≢◌, ℕ, ◌+◌, ◌-◌, ◌⊎◌, inl, inr, true, false, [], ◌∷◌, Option, Some, None, slice_get, get_or, refl, sym, ap, ◌∙◌, subst, arith, length-set}
-use Rattle.wh_space_model.specs.{tally, one_if, HasTable, IsSound, IsUsed, LeavesBy, SlotsAreSound, Occupant, Space, occupant_at, of_occupant, sharers, as_before, not_sent, with_leaving, at, comes_from, count, leaving, lies_in, owns, page_at, resident, shares, fetches_into, ticket_of, stays}
+use Rattle.std.proofs.Common.{◌≡◌, ◌≢◌, ℕ, ◌+◌, ◌-◌, ◌⊎◌, inl, inr, [], ◌∷◌, Option, Some, None, slice_get, get_or, refl, sym, ap, ◌∙◌, subst, arith, length-set, rules}
+use Rattle.wh_space_model.specs.{tally, one_if, HasTable, IsSound, IsUsed, LeavesBy, SlotsAreSound, Occupant, Space, occupant_at, of_occupant, sharers, as_before, not_sent, with_leaving, at, comes_from, count, leaving, lies_in, owns, page_at, resident, shares, fetches_into, stays}
 use Rattle.wh_space_model.proofs.Tally.{one_same, one_other, tally-append}
 use Rattle.wh_space_model.specs.declared.states.Page.{Page}
 use Rattle.wh_space_model.specs.declared.states.Page.TheVariants.{Untouched, Private, Shared, Leaving, LeavingShared, Coming, Swapped}
@@ -32,15 +32,7 @@ back_away s j i other = set_other s.occupants j i _ other
 
 pub back_before : (s : Space) (j : ℕ) (mine : Occupant) (i : ℕ) (t : Occupant) → occupant_at s j mine → occupant_at (with_leaving s j None) i t
     → (u : Occupant) × occupant_at s i u × (u.number ≡ t.number) × (u.live ≡ t.live) × (u.stands ≡ t.stands) × (((i ≢ j) × (u.leaves ≡ t.leaves)) ⊎ ((i ≡ j) × (t.leaves ≡ None)))
-back_before s j mine i t was is =
-    elim (here_or j i) [
-      | inr apart ↦ (t, sym (back_away s j i apart) ∙ is, refl, refl, refl, inl (apart, refl))
-      | inl same ↦
-          (let is2 : occupant_at (with_leaving s j None) j t = subst (λ z. occupant_at (with_leaving s j None) z t) same is in
-          let both : Some (Some t) ≡ Some (Some (record mine { leaves = None })) = sym is2 ∙ back_now s j mine was in
-          let one : record mine { leaves = None } ≡ t = cc in
-          (mine, subst (λ z. occupant_at s z mine) (sym same) was, ap (λ (a : Occupant). a.number) one, ap (λ (a : Occupant). a.live) one, ap (λ (a : Occupant). a.stands) one, inr (same, sym (ap (λ (a : Occupant). a.leaves) one))))
-    ]
+back_before s j mine i t was is = search (rules, here_or, back_away, back_now)
 
 pub back_after : (s : Space) (j i : ℕ) (u : Occupant) → occupant_at s i u → (t : Occupant) × occupant_at (with_leaving s j None) i t × (t.live ≡ u.live)
 back_after s j i u is =
@@ -108,30 +100,8 @@ slots_returned s j p k page old sound was there as_it =
             let found = sound.by_one i h before in
             (found.0, back_away s j i apart ∙ found.1, found.2))
       ];
-      by_this = λ i h t is at_it. (let x = back_before s j mine.0 i t mine.1 is in elim x.5 [
-        | inr gone ↦ absurd (let bad : None ≡ Some h = sym gone.1 ∙ at_it in cc)
-        | inl other ↦
-            (let by = sound.by_this i h x.0 x.1 (other.1 ∙ at_it) in
-            elim (here_or k h) [
-              | inl same ↦ absurd (other.0 (sym (subst (LeavesBy i) was (subst (λ q. LeavesBy i (slice_get s.slots.uses q)) same by))))
-              | inr apart ↦ subst (LeavesBy i) (sym (away h (λ e. apart e))) by
-            ])
-      ]);
-      leaving = λ i q is. elim (at_put leaving s.tables j p i q page old there) [
-        | inl found ↦ absurd (let z = found.2 in let y = (kinds_back page old 0 as_it).5 in omega arith)
-        | inr e ↦
-            (let found = sound.leaving i q (sym (ap (at leaving) e) ∙ is) in
-            elim (here_or k found.0) [
-              | inr other ↦ (found.0, away found.0 (λ a. other a) ∙ found.1)
-              | inl same ↦ absurd
-                  (let a : slice_get s.slots.uses k ≡ Some (Evicting i q) = subst (λ z. slice_get s.slots.uses z ≡ Some (Evicting i q)) same found.1 in
-                  let both : Some (Evicting j p) ≡ Some (Evicting i q) = sym was ∙ a in
-                  let one : j ≡ i = cc in
-                  let two : p ≡ q = cc in
-                  let now : page_at s2.tables i q ≡ Some old = subst (λ z. page_at s2.tables z q ≡ Some old) one (subst (λ z. page_at s2.tables j z ≡ Some old) two (put_this s.tables j p page old there)) in
-                  let z : at leaving (page_at s2.tables i q) ≡ 0 = ap (at leaving) now ∙ (kinds_back page old 0 as_it).5 in omega arith)
-            ])
-      ];
+      by_this = search (rules, back_before, here_or);
+      leaving = search (rules, at_put, kinds_back, here_or, put_this);
       voids = λ i h g is. elim (here_or k h) [
         | inl same ↦ absurd (let a : slice_get s2.slots.uses k ≡ Some (FetchVoid i g) = subst (λ z. slice_get s2.slots.uses z ≡ Some (FetchVoid i g)) same is in let bad : Some Vacant ≡ Some (FetchVoid i g) = sym here ∙ a in cc)
         | inr other ↦ (let found = sound.voids i h g (sym (away h (λ a. other a)) ∙ is) in let now = back_after s j i found.0 found.1 in (now.0, now.1, now.2 ∙ found.2))
@@ -172,19 +142,8 @@ is_sound_returned s j p k page old sound was there as_it =
           | inr apart ↦ has_still o (get_or s.tables i []) (get_or s2.tables i []) (row_length s.tables j p old i) (sound.occupants.have i o (sym (back_away s j i apart) ∙ is))
         ];
         marks = λ i. sound.occupants.marks i ∙ sym (row_length s.tables j p old i);
-        numbers = λ i h t u a b same. (let x = back_before s j mine.0 i t mine.1 a in let y = back_before s j mine.0 h u mine.1 b in
-            sound.occupants.numbers i h x.0 y.0 x.1 y.1 (x.2 ∙ (same ∙ sym y.2)));
-        released = λ i t is gone. (let x = back_before s j mine.0 i t mine.1 is in
-            let before = sound.occupants.released i x.0 x.1 (x.3 ∙ gone) in
-            let less = set_tally (ticket_of i) s.slots.uses k (Evicting j p) Vacant was in
-            elim (here_or j i) [
-              | inr apart ↦ (let o = one_other i j (λ e. apart e) in omega arith)
-              | inl same ↦ absurd
-                  (let live = page_is_live s j p page sound.occupants there in
-                  let u : occupant_at s j x.0 = subst (λ z. occupant_at s z x.0) same x.1 in
-                  let one : live.0 ≡ x.0 = one_at s j live.0 x.0 live.1 u in
-                  let bad : true ≡ false = sym live.2 ∙ (ap (λ (a : Occupant). a.live) one ∙ (x.3 ∙ gone)) in cc)
-            ]);
+        numbers = search (rules, back_before);
+        released = search (rules, back_before, set_tally, here_or, one_other, page_is_live, one_at);
         needs = λ i t need is at_it. (let x = back_before s j mine.0 i t mine.1 is in
             let n = sound.occupants.needs i x.0 need x.1 (x.4 ∙ at_it) in let l = row_length s.tables j p old i in (sym x.3 ∙ n.0, omega (arith, n.1, l), n.2));
       };

@@ -1,5 +1,5 @@
 -- A page that is in its slot when its ticket comes back leaves everything sound.
-use Rattle.std.proofs.Common.{◌≡◌, ℕ, ◌+◌, ◌≤◌, ◌==◌, ◌⊎◌, inl, inr, cond, true, false, Bool, List, [], ◌∷◌, Option, Some, None, length, slice_get, slice_set, get_or, zero, suc, refl, sym, ap, ◌∙◌, subst, arith}
+use Rattle.std.proofs.Common.{◌≡◌, ℕ, ◌+◌, ◌≤◌, ◌==◌, ◌⊎◌, inl, inr, cond, true, false, Bool, List, [], ◌∷◌, Option, Some, None, slice_get, slice_set, get_or, zero, suc, refl, sym, ap, ◌∙◌, subst, arith, rules}
 use Rattle.wh_space_model.specs.{tally, one_if, CanLeave, stays, CommitsEvictSoundly, IsSound, IsUsed, LeavesBy, PinsAreSound, Occupant, Pins, Space, frame_bytes, kept, occupant_at, pinned_by, sharers, as_before, not_sent, sent_off, unpinned_page, without, at, leaving, page_at, put, shares, evicted, frame_of}
 use Rattle.wh_space_model.specs.declared.states.Page.{Page}
 use Rattle.wh_space_model.specs.declared.states.Page.TheVariants.{Untouched, Private, Shared, Leaving, LeavingShared, Coming, Swapped}
@@ -35,37 +35,19 @@ kept_still (Some pins) j p = refl
 
 pinned_less : (pins : Option Pins) (j p i h : ℕ) → tally (one_if h) (pinned_by (unpinned_page pins j p) i) ≤ tally (one_if h) (pinned_by pins i)
 pinned_less None j p i h = omega arith
-pinned_less (Some pins) j p i h = go (pins.place == i) (pins.place == j) where
-  go : (b c : Bool) → tally (one_if h) (cond b (cond c (without p pins.pages) pins.pages) []) ≤ tally (one_if h) (cond b pins.pages [])
-  go false c = omega arith
-  go true true = without_less p h pins.pages
-  go true false = omega arith
+pinned_less (Some pins) j p i h = search (rules, without_less)
 
 pinned_none : (pins : Option Pins) (j p : ℕ) → tally (one_if p) (pinned_by (unpinned_page pins j p) j) ≡ 0
 pinned_none None j p = refl
-pinned_none (Some pins) j p = go (pins.place == j) where
-  go : (b : Bool) → tally (one_if p) (cond b (cond b (without p pins.pages) pins.pages) []) ≡ 0
-  go true = without_this p pins.pages
-  go false = refl
+pinned_none (Some pins) j p = search (rules, without_this)
 
 place_still : (s : Space) (j p : ℕ) (old : Option Pins) → PinsAreSound s → s.pins ≡ old → (pins : Pins) → unpinned_page old j p ≡ Some pins → (t : Occupant) × occupant_at s pins.place t × (t.live ≡ true)
 place_still s j p None sound is pins at_it = absurd (let bad : None ≡ Some pins = at_it in cc)
-place_still s j p (Some was) sound is pins at_it =
-    let found = sound.of was is in
-    let e : was.place ≡ pins.place = ap place_of at_it in
-    (found.0, subst (λ z. occupant_at s z found.0) e found.1, found.2) where
-      place_of : Option Pins → ℕ
-      place_of None = 0
-      place_of (Some a) = a.place
+place_still s j p (Some was) sound is pins at_it = search (rules, ℕ)
 
 is_sound_unpinned_page : (s : Space) (j p : ℕ) → IsSound s → IsSound (repinned s (unpinned_page s.pins j p) s.pool.free)
 unfolding repinned
-is_sound_unpinned_page s j p sound =
-    is_sound_repinned s (unpinned_page s.pins j p) s.pool.free sound (λ f. (let e = ap (tally (one_if f)) (kept_still s.pins j p) in omega arith)) (record {
-      few = (let e = ap length (kept_still s.pins j p) in let l = sound.pins.few in omega arith);
-      there = λ i h some. sound.pins.there i h (let l = pinned_less s.pins j p i h in omega arith);
-      of = λ pins is. place_still s j p s.pins sound.pins refl pins is;
-    })
+is_sound_unpinned_page s j p sound = search (rules, is_sound_repinned, kept_still, pinned_less, place_still)
 
 pub set_set : {X : Type 0} (xs : List X) (p : ℕ) (x y : X) → slice_set (slice_set xs p x) p y ≡ slice_set xs p y
 set_set [] p x y = refl

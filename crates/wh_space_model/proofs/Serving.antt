@@ -1,9 +1,9 @@
 -- What each move leaves of the way to a ready step.
-use Rattle.std.proofs.Common.{◌≡◌, ◌≢◌, ℕ, ◌+◌, ◌<◌, ◌≤◌, ◌==◌, ◌++◌, ◌⊎◌, inl, inr, cond, nat_eq, true, false, Bool, List, [], ◌∷◌, Option, Some, None, length, slice_get, slice_set, refl, sym, ap, ◌∙◌, subst, arith, length-append, min}
+use Rattle.std.proofs.Common.{◌≡◌, ◌≢◌, ℕ, ◌+◌, ◌<◌, ◌≤◌, ◌==◌, ◌++◌, ◌⊎◌, inl, inr, cond, nat_eq, true, false, Bool, List, [], ◌∷◌, Option, Some, None, length, slice_get, slice_set, refl, sym, ap, ◌∙◌, subst, arith, length-append, min, rules}
 use Rattle.std.specs.List.{All}
 use Rattle.std.proofs.lemmas.List.Elements.{All-nil, All-cons}
 use Rattle.wh_model.specs.declared.memory.Need.{Need}
-use Rattle.wh_space_model.specs.{tally, one_if, frame_charge, charged_of, stands_on, stays, CanLeave, IsShed, MustLeave, NoneMustLeave, is_ticket, tickets, Evicts, Fetches, residents, pinned, Earmarks, Space, Occupant, Pins, occupant_at, kept, kept_by, pinned_by, IsServing, HasPages, IsOnTheWay, LacksFree, far, IsAtHand, among, pages_of_need, frames_to_write, FramesAreSound, IsSound, at, page_at, put, resident, swapped, untouched, count}
+use Rattle.wh_space_model.specs.{tally, one_if, frame_charge, charged_of, stays, CanLeave, IsShed, MustLeave, NoneMustLeave, is_ticket, tickets, Evicts, Fetches, residents, pinned, Earmarks, Space, Occupant, Pins, occupant_at, kept, kept_by, pinned_by, IsServing, HasPages, IsOnTheWay, LacksFree, far, IsAtHand, among, pages_of_need, frames_to_write, FramesAreSound, IsSound, at, page_at, put, resident, swapped, untouched, count}
 use Rattle.wh_space_model.proofs.Tally.{one_same, one_other}
 use Rattle.wh_space_model.specs.declared.states.Page.{Page}
 use Rattle.wh_space_model.specs.declared.states.Page.TheVariants.{Untouched, Private, Shared, Leaving, LeavingShared, Coming, Swapped}
@@ -42,12 +42,7 @@ residents_of s i p (q ∷ ps) = go (nat_eq (at resident (page_at s.tables i q)) 
 -- at first
 pub started : (s : Space) (i : ℕ) (need : Need) → HasPages s i need → tickets s ≡ 0 → IsOnTheWay s i need 0 (pinned s i need)
 started s i need has none = record {
-  serving = record {
-    pinned = λ p some there. rw (pinned_here i (residents s i (pages_of_need need)) []) (residents_in s i p (pages_of_need need) some there);
-    only = λ p some. let k = residents_of s i p (pages_of_need need) in let l = rw (pinned_here i (residents s i (pages_of_need need)) []) at some in omega arith;
-    others = λ j p other. pinned_other i j p (residents s i (pages_of_need need)) [] other;
-    kept = refl;
-  };
+  serving = search (rules, pinned_here, residents_in, residents_of, pinned_other);
   has_pages = has;
   none_out = none;
   occupants = refl;
@@ -68,16 +63,8 @@ among_same kind a b i (p ∷ ps) each =
 kept_page : (s : Space) (i j p q : ℕ) (need : Need) (y : Page) → IsServing s i need → CanLeave s j p → 1 ≤ tally (one_if q) (pages_of_need need) → page_at (put s.tables j p y) i q ≡ page_at s.tables i q
 kept_page s i j p q need y serving leaves some =
     elim (here_or p q) [
-      | inr other ↦
-          elim (here_or i j) [
-            | inl same ↦ rw same (put_other s.tables i p q y other)
-            | inr away ↦ ap (λ xs. slice_get xs q) (put_other_row s.tables j p i y (λ e. away (sym e)))
-          ]
-      | inl here ↦
-          elim (here_or i j) [
-            | inr away ↦ ap (λ xs. slice_get xs q) (put_other_row s.tables j p i y (λ e. away (sym e)))
-            | inl same ↦ absurd (go (leaves_of same here))
-          ]
+      | inr other ↦ search (rules, here_or, put_other, put_other_row)
+      | inl here ↦ search (rules, here_or, put_other_row)
     ] where
       leaves_of : j ≡ i → q ≡ p → CanLeave s i q
       leaves_of same here = rw (← same, here) leaves
@@ -111,13 +98,7 @@ shed_charged : (s : Space) (i : ℕ) (need : Need) (j p : ℕ) → IsSound s →
 shed_charged s i need j p sound shed other =
     elim (cases_lt 0 (frame_charge s j shed.frame)) [
       | inr zeros ↦ omega arith
-      | inl some ↦
-          (let mine = shed.sheds.charged in
-          let few = charge_few s i shed.frame in let a = few.1 in
-          let few2 = charge_few s j shed.frame in let b = few2.1 in
-          let t = occupied (stands_on shed.frame) s i sound.occupants (omega arith) in
-          let u = occupied (stands_on shed.frame) s j sound.occupants (omega arith) in
-          absurd (other (sym (charged_once s i j shed.frame t.0 u.0 sound.occupants t.1 u.1 (omega arith) some))))
+      | inl some ↦ search (rules, charge_few, occupied, charged_once)
     ]
 
 min_on : (m a b c : ℕ) → min m a ≤ b → min m b ≤ c → min m a ≤ c
@@ -176,12 +157,7 @@ evict_on s0 i need n s j p s2 sound way taken moves =
     let before = way.revoked in
     let none = way.none_out in (
       record {
-        serving = record {
-          pinned = λ q some there. rw pins (way.serving.pinned q some (rw (page q some) at there));
-          only = λ q some. way.serving.only q (rw pins at some);
-          others = λ k q other. rw pins (way.serving.others k q other);
-          kept = rw pins way.serving.kept;
-        };
+        serving = search rules;
         has_pages = λ q some. rw (page q some) (way.has_pages q some);
         none_out = omega arith;
         occupants = occupants ∙ way.occupants;
@@ -236,22 +212,8 @@ fetch_on s0 i need n s p bytes s2 sound way member moves taken =
     let none = way.none_out in
     let pages : pinned_by s2.pins i ≡ p ∷ pinned_by s.pins i = rw pins (pinned_here i (p ∷ pinned_by s.pins i) (kept s.pins)) in (
       record {
-        serving = record {
-          pinned = λ q some there. rw pages (elim (here_or q p) [
-            | inl same ↦ let o = one_same q p (sym same) in omega arith
-            | inr other ↦ let k = way.serving.pinned q some (rw (page q (λ e. other (sym e))) at there) in omega arith
-          ]);
-          only = λ q some. elim (here_or q p) [
-            | inl same ↦ rw (← same) member
-            | inr other ↦ way.serving.only q (let k = rw pages at some in let o = one_other q p (λ e. other (sym e)) in omega arith)
-          ];
-          others = λ k q other. rw pins (pinned_other i k q (p ∷ pinned_by s.pins i) (kept s.pins) other);
-          kept = rw pins way.serving.kept;
-        };
-        has_pages = λ q some. elim (here_or q p) [
-          | inl same ↦ rw (← same, here) refl
-          | inr other ↦ rw (page q (λ e. other (sym e))) (way.has_pages q some)
-        ];
+        serving = search (rules, here_or, one_same, one_other, pinned_other);
+        has_pages = search (rules, here_or);
         none_out = omega arith;
         occupants = occupants ∙ way.occupants;
         revoked = omega arith;

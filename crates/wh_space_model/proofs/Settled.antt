@@ -1,5 +1,5 @@
 -- Where only the place of one that was released isn't sound yet, it is once the place is settled.
-use Rattle.std.proofs.Common.{◌≡◌, ◌≢◌, ℕ, ◌+◌, ◌*◌, ◌-◌, ◌<◌, ◌≤◌, ◌==◌, ◌⊎◌, inl, inr, cond, true, false, Bool, List, [], Option, Some, None, length, slice_get, get_or, refl, sym, ap, ◌∙◌, subst, arith, length-set}
+use Rattle.std.proofs.Common.{◌≡◌, ◌≢◌, ℕ, ◌+◌, ◌*◌, ◌-◌, ◌<◌, ◌≤◌, ◌==◌, ◌⊎◌, inl, inr, cond, true, false, Bool, List, [], Option, Some, None, length, slice_get, get_or, refl, sym, ap, ◌∙◌, subst, arith, length-set, rules}
 use Rattle.std.proofs.lemmas.Bool.Decides.{nat_tests}
 use Rattle.wh_model.specs.declared.memory.Need.{Need}
 use Rattle.wh_space_model.specs.{tally, ticket_of, settled, stays_occupant, FramesAreSound, HasTable, IsAdmissible, IsSound, LeavesBy, PinsAreSound, SlotsAreSound, Occupant, Space, occupant_at, of_occupant}
@@ -75,10 +75,7 @@ settled_before s i j t is = elim (here_or i j) [
 settled_after : (s : Space) (i j : ℕ) (t : Occupant) → occupant_at s j t → (t.live ≡ true) ⊎ (1 ≤ tally (ticket_of j) s.slots.uses) → occupant_at (settled s i) j t
 settled_after s i j t is why = elim (here_or i j) [
   | inr other ↦ settled_away s i j (λ e. other e) ∙ is
-  | inl same ↦
-      (let is2 : occupant_at s i t = subst (λ z. occupant_at s z t) same is in
-      let why2 : (t.live ≡ true) ⊎ (1 ≤ tally (ticket_of i) s.slots.uses) = subst (λ z. (t.live ≡ true) ⊎ (1 ≤ tally (ticket_of z) s.slots.uses)) same why in
-      subst (λ z. occupant_at (settled s i) z t) (sym same) (settled_now s i (Some t) is2 ∙ ap Some (stays_there t (tally (ticket_of i) s.slots.uses) why2)))
+  | inl same ↦ search (rules, settled_now, stays_there)
 ]
 
 -- a ticket with which a page leaves is a ticket of its instance
@@ -127,14 +124,7 @@ pub is_sound_settled : (s : Space) (i : ℕ) → i < length s.occupants → IsSo
 is_sound_settled s i within sound =
     let s2 : Space = settled s i in
     record {
-      frames = record {
-        one = sound.frames.one;
-        none = sound.frames.none;
-        whole = sound.frames.whole;
-        marks = sound.frames.marks;
-        names = λ f. names_other s s2 f (slice_get s.marks f) refl refl (λ j q is. is) (sound.frames.names f);
-        apart = sound.frames.apart;
-      };
+      frames = search (rules, names_other);
       slots = record {
         used = λ k. used_other s s2 k (slice_get s.slots.uses k) refl refl refl (λ j q is. is) (λ j q is. is) (sound.slots.used k);
         by_one = λ j k by. (let found = sound.slots.by_one j k by in (found.0, settled_after s i j found.0 found.1 (inr (leaver_ticket s.slots.uses j k (slice_get s.slots.uses k) refl by)), found.2));
@@ -162,10 +152,6 @@ is_sound_settled s i within sound =
         ]);
         needs = λ j t need is at_it. sound.needs j t need (settled_before s i j t is).0 at_it;
       };
-      pins = record {
-        few = sound.pins.few;
-        there = sound.pins.there;
-        of = λ pins is. (let found = sound.pins.of pins is in (found.0, settled_after s i pins.place found.0 found.1 (inl found.2), found.2));
-      };
+      pins = search (rules, settled_after);
       admissible = ((let a = less_sum s i (λ t. t.min) within in let b = sound.admissible.0 in omega arith), (let a = less_sum s i (λ t. (t.max - t.min) + 1) within in let b = sound.admissible.1 in omega arith));
     }

@@ -1,5 +1,5 @@
 -- What a slot is used for, from a page or from the list of vacant ones.
-use Rattle.std.proofs.Common.{◌≡◌, ℕ, ◌+◌, ◌≤◌, ◌++◌, List, [], ◌∷◌, Option, Some, None, slice_get, refl, arith}
+use Rattle.std.proofs.Common.{◌≡◌, ℕ, ◌+◌, ◌≤◌, ◌++◌, List, [], ◌∷◌, Option, Some, None, slice_get, refl, arith, rules}
 use Rattle.wh_space_model.specs.{tally, one_if, Space, SlotsAreSound, IsUsed, page_at, lies_in, count}
 use Rattle.wh_space_model.proofs.Tally.{one_same, tally-append}
 use Rattle.wh_space_model.specs.declared.states.Page.TheVariants.{Swapped}
@@ -34,6 +34,4 @@ one_vacant s k (Some (FetchVoid i f)) used some = absurd (let z = used.2 in omeg
 
 -- the number of a vacant slot is a vacant slot's
 pub vacant_there : (s : Space) (k : ℕ) (others : List ℕ) → SlotsAreSound s → s.slots.vacant ≡ others ++ k ∷ [] → slice_get s.slots.uses k ≡ Some Vacant
-vacant_there s k others sound list =
-    let e : tally (one_if k) s.slots.vacant ≡ tally (one_if k) others + 1 = rw list (let a = tally-append (one_if k) others (k ∷ []) in let o = one_same k k refl in omega arith) in
-    one_vacant s k (slice_get s.slots.uses k) (sound.used k) (omega arith)
+vacant_there s k others sound list = search (rules, tally-append, one_same, one_vacant)

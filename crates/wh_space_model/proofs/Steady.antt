@@ -1,5 +1,5 @@
 -- Moves that change marks of touch, who stands, or what a slot holds leave everything sound.
-use Rattle.std.proofs.Common.{◌≡◌, ◌≢◌, ℕ, ◌+◌, ◌*◌, ◌-◌, ◌≤◌, ◌⊎◌, inl, inr, cond, map, true, false, Bool, List, [], ◌∷◌, Option, Some, None, length, slice_get, slice_set, get_or, zero, suc, refl, sym, ap, ◌∙◌, subst, arith, length-set}
+use Rattle.std.proofs.Common.{◌≡◌, ◌≢◌, ℕ, ◌+◌, ◌*◌, ◌-◌, ◌≤◌, ◌⊎◌, inl, inr, cond, map, true, false, Bool, List, [], ◌∷◌, Option, Some, None, length, slice_get, slice_set, get_or, zero, suc, refl, sym, ◌∙◌, subst, arith, length-set, rules}
 use Rattle.std.proofs.lemmas.List.{get_or-set_other}
 use Rattle.wh_model.specs.declared.memory.Need.{Need}
 use Rattle.wh_model.specs.Execution.{reading}
@@ -19,32 +19,9 @@ is_sound_retouched : (s : Space) (touched : List (List Bool)) (held : List (List
     → ((k : ℕ) → 1 ≤ count (lies_in k) s.tables + count (comes_from k) s.tables → get_or held k [] ≡ get_or s.slots.held k []) → IsSound (retouched s touched held)
 unfolding retouched
 is_sound_retouched s touched held sound many each slots same = record {
-  frames = record {
-    one = sound.frames.one;
-    none = sound.frames.none;
-    whole = sound.frames.whole;
-    marks = sound.frames.marks;
-    names = λ f. names_other s (retouched s touched held) f (slice_get s.marks f) refl refl (λ i q is. is) (sound.frames.names f);
-    apart = sound.frames.apart;
-  };
-  slots = record {
-    used = λ k. used_other s (retouched s touched held) k (slice_get s.slots.uses k) refl refl refl (λ i q is. is) (λ i q is. is) (sound.slots.used k);
-    by_one = sound.slots.by_one;
-    by_this = sound.slots.by_this;
-    leaving = sound.slots.leaving;
-    voids = sound.slots.voids;
-    held = slots ∙ sound.slots.held;
-    whole = λ k some. ap length (same k some) ∙ sound.slots.whole k some;
-  };
-  occupants = record {
-    tables = sound.occupants.tables;
-    touched = many ∙ sound.occupants.touched;
-    have = sound.occupants.have;
-    marks = λ i. each i ∙ sound.occupants.marks i;
-    numbers = sound.occupants.numbers;
-    released = sound.occupants.released;
-    needs = sound.occupants.needs;
-  };
+  frames = search (rules, names_other, retouched);
+  slots = search (rules, used_other, retouched);
+  occupants = search rules;
   pins = record { few = sound.pins.few; there = sound.pins.there; of = sound.pins.of };
   admissible = sound.admissible;
 }
@@ -108,11 +85,7 @@ stood_before : (s : Space) (i : ℕ) (need : Option Need) (mine : Occupant) (j :
 stood_before s i need mine j t was is =
     elim (here_or i j) [
       | inr apart ↦ (t, sym (stood_away s i need j apart) ∙ is, refl, refl, refl, inl (apart, refl))
-      | inl same ↦
-          (let is2 : occupant_at (stood s i need) i t = subst (λ z. occupant_at (stood s i need) z t) same is in
-          let both : Some (Some t) ≡ Some (Some (record mine { stands = need })) = sym is2 ∙ stood_now s i need mine was in
-          let one : record mine { stands = need } ≡ t = cc in
-          (mine, subst (λ z. occupant_at s z mine) (sym same) was, ap (λ (a : Occupant). a.number) one, ap (λ (a : Occupant). a.live) one, ap (λ (a : Occupant). a.leaves) one, inr (same, sym (ap (λ (a : Occupant). a.stands) one))))
+      | inl same ↦ search (rules, stood_now)
     ]
 
 -- and who is there now
@@ -129,14 +102,7 @@ pub waits_soundly : WaitsSoundly
 waits_soundly s i mine need sound was fits =
     let s2 : Space = stood s i need in
     record {
-      frames = record {
-        one = sound.frames.one;
-        none = sound.frames.none;
-        whole = sound.frames.whole;
-        marks = sound.frames.marks;
-        names = λ f. names_other s s2 f (slice_get s.marks f) refl refl (λ i q is. is) (sound.frames.names f);
-        apart = sound.frames.apart;
-      };
+      frames = search (rules, names_other);
       slots = record {
         used = λ k. used_other s s2 k (slice_get s.slots.uses k) refl refl refl (λ i q is. is) (λ i q is. is) (sound.slots.used k);
         by_one = λ j k by. (let found = sound.slots.by_one j k by in let now = stood_after s i need j found.0 found.1 in (now.0, now.1, now.3 ∙ found.2));
@@ -164,12 +130,7 @@ waits_soundly s i mine need sound was fits =
         released = λ j t is gone. (let x = stood_before s i need mine j t was is in sound.occupants.released j x.0 x.1 (x.3 ∙ gone));
         needs = λ j t want is at_it. (let x = stood_before s i need mine j t was is in elim x.5 [
           | inl other ↦ (let n = sound.occupants.needs j x.0 want x.1 (sym other.1 ∙ at_it) in (sym x.3 ∙ n.0, n.1, n.2))
-          | inr here ↦
-              (let f = fits want (sym here.1 ∙ at_it) in
-              let u : occupant_at s i x.0 = subst (λ z. occupant_at s z x.0) here.0 x.1 in
-              let both : Some (Some mine) ≡ Some (Some x.0) = sym was ∙ u in
-              let one : mine ≡ x.0 = cc in
-              (sym x.3 ∙ (sym (ap (λ (a : Occupant). a.live) one) ∙ f.0), subst (λ z. want.at + want.length ≤ 4096 * length (get_or s.tables z [])) (sym here.0) f.1, f.2))
+          | inr here ↦ search rules
         ]);
       };
       pins = record {

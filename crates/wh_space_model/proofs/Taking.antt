@@ -1,5 +1,5 @@
 -- Where a step lacks a frame, there is a page to take, and a slot for it.
-use Rattle.std.proofs.Common.{◌≡◌, ◌≢◌, ℕ, ◌+◌, ◌-◌, ◌<◌, ◌≤◌, ◌==◌, ◌⊎◌, inl, inr, cond, true, false, Bool, List, [], ◌∷◌, Option, Some, None, length, slice_get, get_or, zero, suc, refl, ap, arith}
+use Rattle.std.proofs.Common.{◌≡◌, ◌≢◌, ℕ, ◌+◌, ◌-◌, ◌<◌, ◌≤◌, ◌==◌, ◌⊎◌, inl, inr, cond, true, false, Bool, List, [], ◌∷◌, Option, Some, None, length, slice_get, get_or, zero, suc, refl, ap, arith, rules}
 use Rattle.std.proofs.lemmas.Bool.Decides.{nat_tests}
 use Rattle.std.proofs.lemmas.Bool.{cases_lt}
 use Rattle.wh_model.specs.declared.memory.Need.{Need}
@@ -122,10 +122,7 @@ stays_there s i p sound none there =
     let parts = stays_or (page_at s.tables i p) in
     let most = most_one (page_at s.tables i p) in
     elim (cases_lt 0 (at leaving (page_at s.tables i p))) [
-      | inl some ↦
-          let found = sound.leaving i p (omega (arith, most.1)) in
-          let one = get_tally is_ticket s.slots.uses found.0 _ found.1 in
-          absurd (omega arith)
+      | inl some ↦ search (rules, get_tally)
       | inr zeros ↦ omega (arith, most.0)
     ]
 
@@ -187,8 +184,7 @@ own_on : (s : Space) (i f : ℕ) (need : Need) (t : Occupant) → IsSound s → 
 own_on s i f need t sound none serving lacks is =
     elim (beyond (stands_on f) (get_or s.tables i []) (pages_of_need need)) [
       | inl few ↦ few
-      | inr found ↦ absurd (let k = on_once f (page_at s.tables i found.0) in let a = k.1 in let b = found.1 in
-          lacks.1 found.0 (leaver s i found.0 t sound.slots none is (omega arith) (not_pinned s i need found.0 serving found.2)))
+      | inr found ↦ search (rules, on_once, leaver, not_pinned)
     ]
 
 -- all pages of a kind are in one table, or one is in another
@@ -295,12 +291,7 @@ charge_room : (c a t sh : ℕ) → c ≤ 1 → c ≤ a → t ≤ a → (1 ≤ t 
 charge_room c a t sh one own some shed =
     elim (cases_lt t sh) [
       | inr most ↦ (let e = copies_less t sh most in omega arith)
-      | inl less ↦
-          (let e = copies_all t sh less in
-          elim (cases_lt 0 t) [
-            | inr zeros ↦ omega arith
-            | inl more ↦ (let z = shed more less in omega arith)
-          ])
+      | inl less ↦ search (rules, copies_all, cases_lt)
     ]
 
 among_on : (s : Space) (i f : ℕ) (ps : List ℕ) → among (shares f) s i ps ≤ among (stands_on f) s i ps
@@ -411,10 +402,7 @@ slot_there s i need t sound none kept is lacking =
     let maxima = sound.admissible.1 in
     elim lacking [
       | inl zeros ↦ omega arith
-      | inr less ↦
-          let writes = frames_to_write_room s i need in
-          let own = among_all untouched s i (pages_of_need need) (few_pages need) in
-          omega arith
+      | inr less ↦ search (rules, frames_to_write_room, among_all, few_pages)
     ]
 
 -- All tables together have no more pages than there are frames and slots: so much room is enough for whatever is kept of

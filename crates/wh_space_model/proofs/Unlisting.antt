@@ -1,5 +1,5 @@
 -- A frame comes to be shared without an entry by a page that is lent, and by nothing else.
-use Rattle.std.proofs.Common.{◌≡◌, ℕ, ◌-◌, ◌<◌, inl, inr, cond, nat_lt, true, false, Bool, List, [], ◌∷◌, Option, Some, None, length, slice_get, slice_set, refl, sym, ap, ◌∙◌, subst, arith, length-set}
+use Rattle.std.proofs.Common.{◌≡◌, ℕ, ◌-◌, ◌<◌, inl, inr, cond, nat_lt, true, false, Bool, List, [], ◌∷◌, Option, Some, None, length, slice_get, slice_set, refl, sym, ap, ◌∙◌, arith, length-set, rules}
 use Rattle.std.proofs.lemmas.Bool.{cases_lt}
 use Rattle.wh_model.specs.declared.memory.Need.{Need}
 use Rattle.wh_space_model.specs.declared.states.EvictEnd.{EvictEnd}
@@ -41,12 +41,7 @@ left_unlisted false o n e = absurd (cc e)
 departed_keeps : (marks : List Mark) (g f n : ℕ) (b : Bool) → slice_get (slice_set marks g (cond b (one_fewer (slice_get marks g)) Plain)) f ≡ Some (Unlisted n) → (m : ℕ) × (slice_get marks f ≡ Some (Unlisted m))
 departed_keeps marks g f n b is = elim (here_or g f) [
   | inr other ↦ (n, sym (set_other marks g f (cond b (one_fewer (slice_get marks g)) Plain) (λ e. other e)) ∙ is)
-  | inl same ↦
-      (let new : Mark = cond b (one_fewer (slice_get marks g)) Plain in
-      let within : g < length marks = (let l = length-set marks g new in let t = there_of (slice_set marks g new) f (Unlisted n) is in omega arith) in
-      let both : Some new ≡ Some (Unlisted n) = sym (set_same marks g new within) ∙ subst (λ z. slice_get (slice_set marks g new) z ≡ Some (Unlisted n)) same is in
-      let was = left_unlisted b (slice_get marks g) n (cc both) in
-      (was.0, subst (λ z. slice_get marks z ≡ Some (Unlisted was.0)) (sym same) was.1))
+  | inl same ↦ search (rules, length-set, there_of, set_same, left_unlisted)
 ]
 
 cond_listed : (b : Bool) (m : Mark) (n : ℕ) → cond b m Plain ≡ Unlisted n → m ≡ Unlisted n
@@ -71,10 +66,7 @@ released_keeps i t (Unlisted k) n e = (k, refl)
 
 -- another entry was put
 set_unlisted : (marks : List Mark) (g f n : ℕ) (m : Mark) → (m ≡ Unlisted n → ⊥) → slice_get (slice_set marks g m) f ≡ Some (Unlisted n) → slice_get marks f ≡ Some (Unlisted n)
-set_unlisted marks g f n m never is = elim (cases_lt g (length marks)) [
-  | inl within ↦ unlisted_other marks g f n m within never is
-  | inr past ↦ sym (set_other marks g f m (λ e. (let l = length-set marks g m in let t = there_of (slice_set marks g m) f (Unlisted n) is in omega arith))) ∙ is
-]
+set_unlisted marks g f n m never is = search (rules, cases_lt, unlisted_other, set_other, length-set, there_of)
 
 -- each entry comes from one that there was
 each_keeps : (s s2 : Space) (new : ℕ → Mark → Mark) → length s2.marks ≡ length s.marks → ((f : ℕ) (m : Mark) → slice_get s.marks f ≡ Some m → slice_get s2.marks f ≡ Some (new f m))
@@ -110,10 +102,7 @@ listed_keeps hashes s i p hash Zeroed s2 (g, k, may, zeros, is) f (n, mark) = de
 listed_keeps hashes s i p hash Merged s2 (g, k, h, may, some, same, inl (m, found, is)) f (n, mark) =
     departed_keeps s.marks g f n (nat_lt 1 (sharers s g)) (set_unlisted (slice_set s.marks g (cond (nat_lt 1 (sharers s g)) (one_fewer (slice_get s.marks g)) Plain)) h f n (Sharers hash _) (shared_listed hash _ n) (ap (λ (a : Space). slice_get a.marks f) (sym is) ∙ mark))
 listed_keeps hashes s i p hash Merged s2 (g, k, h, may, some, same, inr (j, q, hint, is)) f (n, mark) =
-    let m1 : List Mark = slice_set s.marks h Plain in
-    let m2 : List Mark = slice_set m1 g (Sharers hash k) in
-    let m3 : List Mark = slice_set m2 h Plain in
-    (n, set_unlisted s.marks h f n Plain (plain_listed n) (set_unlisted m1 g f n (Sharers hash k) (shared_listed hash k n) (set_unlisted m2 h f n Plain (plain_listed n) (set_unlisted m3 g f n (Sharers hash _) (shared_listed hash _ n) (ap (λ (a : Space). slice_get a.marks f) (sym is) ∙ mark)))))
+    search (rules, set_unlisted, plain_listed, shared_listed)
 
 -- ---- tickets, and provisions
 
@@ -123,14 +112,12 @@ reserved_keeps s i need s2 reserves = keeps_marks s s2 (ap (λ (a : Space). a.ma
 begun_evict : (s : Space) (i : ℕ) (slot : Option ℕ) (bytes : List ℕ) (s2 : Space) → BeginsEvict s i slot bytes s2 → Keeps s s2
 begun_evict s i None bytes s2 (inl (none, is)) = keeps_marks s s2 (ap (λ (a : Space). a.marks) is)
 begun_evict s i None bytes s2 (inr (need, waits, reserves, why)) = reserved_keeps s i need s2 reserves
-begun_evict s i (Some k) bytes s2 (need, waits, s1, reserves, few, j, p, f, must, old, new, there, on, turns, same, others, vacant, is) =
-    keeps_then s s1 s2 (reserved_keeps s i need s1 reserves) (keeps_marks s1 s2 (ap (λ (a : Space). a.marks) is))
+begun_evict s i (Some k) bytes s2 (need, waits, s1, reserves, few, j, p, f, must, old, new, there, on, turns, same, others, vacant, is) = search rules
 
 begun_fetch : (s : Space) (i : ℕ) (slot : Option ℕ) (s2 : Space) → BeginsFetch s i slot s2 → Keeps s s2
 begun_fetch s i None s2 (inl (none, is)) = keeps_marks s s2 (ap (λ (a : Space). a.marks) is)
 begun_fetch s i None s2 (inr (need, waits, reserves, why)) = reserved_keeps s i need s2 reserves
-begun_fetch s i (Some k) s2 (need, waits, s1, reserves, p, f, first, there, others, kept, is) =
-    keeps_then s s1 s2 (reserved_keeps s i need s1 reserves) (keeps_marks s1 s2 (ap (λ (a : Space). a.marks) is))
+begun_fetch s i (Some k) s2 (need, waits, s1, reserves, p, f, first, there, others, kept, is) = search rules
 
 come_evict : (s : Space) (k : ℕ) (wrote : Bool) (bytes : List ℕ) (end : EvictEnd) (s2 : Space) → CommitsEvict s k wrote bytes end s2 → Keeps s s2
 come_evict s k wrote bytes end s2 (inl (j, void, e, is)) f (n, mark) = keeps_marks s s2 (ap (λ (a : Space). a.marks) is) f (n, mark)

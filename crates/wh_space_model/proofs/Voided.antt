@@ -1,8 +1,8 @@
 -- A void ticket that comes back leaves everything sound.
-use Rattle.std.proofs.Common.{◌≡◌, ◌≢◌, ℕ, ◌+◌, ◌-◌, ◌⊎◌, inl, inr, [], ◌∷◌, Some, None, slice_get, get_or, refl, sym, ap, ◌∙◌, subst, arith, length-set}
+use Rattle.std.proofs.Common.{◌≡◌, ◌≢◌, ℕ, ◌+◌, ◌-◌, ◌⊎◌, inl, inr, [], ◌∷◌, Some, None, slice_get, get_or, refl, sym, ap, ◌∙◌, subst, arith, length-set, rules}
 use Rattle.wh_space_model.specs.{tally, one_if, fetches_into, ticket_of, settled, with_free, with_leaving, without_slot, HasTable, IsSound, IsUsed, LeavesBy, Occupant, Space, occupant_at, of_occupant}
 use Rattle.wh_space_model.proofs.Tally.{one_same, one_other, tally-append}
-use Rattle.wh_space_model.specs.declared.states.Slot.TheVariants.{Vacant, Evicting, EvictVoid, FetchVoid}
+use Rattle.wh_space_model.specs.declared.states.Slot.TheVariants.{Vacant, EvictVoid, FetchVoid}
 use Rattle.wh_space_model.proofs.Evicted.{names_other, used_other}
 use Rattle.wh_space_model.proofs.Putting.{get_or_is, here_or, set_other, set_same, there_of}
 use Rattle.wh_space_model.proofs.Returned.{back_after, back_away, back_before, back_now, one_at}
@@ -30,16 +30,7 @@ but_evict_void s k j sound was =
         apart = sound.frames.apart;
       };
       slots = record {
-        used = λ h. elim (here_or k h) [
-          | inl same ↦
-              (let o = one_same k k refl in let c = split k in
-              let now : IsUsed s2 k (Some Vacant) = (used.0, used.1, omega (arith, c, used.2, o)) in
-              subst (λ q. IsUsed s2 q (slice_get s2.slots.uses q)) (sym same) (subst (IsUsed s2 k) (sym here) now))
-          | inr other ↦
-              (let o = one_other h k other in let c = split h in
-              subst (IsUsed s2 h) (sym (away h (λ e. other e)))
-              (used_other s s2 h (slice_get s.slots.uses h) refl refl (omega (arith, c, o)) (λ a b is. is) (λ a b is. is) (sound.slots.used h)))
-        ];
+        used = search (rules, here_or, one_same, one_other, used_other);
         by_one = λ i h by. elim (here_or k h) [
           | inl same ↦ absurd (subst (LeavesBy i) here (subst (λ q. LeavesBy i (slice_get s2.slots.uses q)) same by))
           | inr other ↦
@@ -48,19 +39,8 @@ but_evict_void s k j sound was =
               let apart : i ≢ j = λ same. other (only i h found.0 found.1 found.2 same) in
               (found.0, back_away s j i apart ∙ found.1, found.2))
         ];
-        by_this = λ i h t is at_it. (let x = before i t is in elim x.5 [
-          | inr gone ↦ absurd (let bad : None ≡ Some h = sym gone.1 ∙ at_it in cc)
-          | inl other ↦
-              (let by = sound.slots.by_this i h x.0 x.1 (other.1 ∙ at_it) in
-              elim (here_or k h) [
-                | inl same ↦ absurd (other.0 (sym (subst (LeavesBy i) was (subst (λ q. LeavesBy i (slice_get s.slots.uses q)) same by))))
-                | inr apart ↦ subst (LeavesBy i) (sym (away h (λ e. apart e))) by
-              ])
-        ]);
-        leaving = λ i q is. (let found = sound.slots.leaving i q is in elim (here_or k found.0) [
-          | inl same ↦ absurd (let e : slice_get s.slots.uses k ≡ Some (Evicting i q) = subst (λ z. slice_get s.slots.uses z ≡ Some (Evicting i q)) same found.1 in let bad : Some (EvictVoid j) ≡ Some (Evicting i q) = sym was ∙ e in cc)
-          | inr other ↦ (found.0, away found.0 (λ e. other e) ∙ found.1)
-        ]);
+        by_this = search (rules, here_or);
+        leaving = search (rules, here_or);
         voids = λ i h g is. elim (here_or k h) [
           | inl same ↦ absurd (let e : slice_get s2.slots.uses k ≡ Some (FetchVoid i g) = subst (λ z. slice_get s2.slots.uses z ≡ Some (FetchVoid i g)) same is in let bad : Some Vacant ≡ Some (FetchVoid i g) = sym here ∙ e in cc)
           | inr other ↦ (let found = sound.slots.voids i h g (sym (away h (λ a. other a)) ∙ is) in let now = back_after s j i found.0 found.1 in (now.0, now.1, now.2 ∙ found.2))
@@ -88,8 +68,7 @@ but_evict_void s k j sound was =
       ];
       marks = sound.occupants.marks;
       numbers = λ i h t u a b same. (let x = before i t a in let y = before h u b in sound.occupants.numbers i h x.0 y.0 x.1 y.1 (x.2 ∙ (same ∙ sym y.2)));
-      released = λ i t apart is gone. (let x = before i t is in let a = sound.occupants.released i x.0 x.1 (x.3 ∙ gone) in
-          let less = set_tally (ticket_of i) s.slots.uses k (EvictVoid j) Vacant was in let o = one_other i j (λ e. apart e) in omega arith);
+      released = search (rules, set_tally, one_other);
       needs = λ i t need is at_it. (let x = before i t is in let n = sound.occupants.needs i x.0 need x.1 (x.4 ∙ at_it) in (sym x.3 ∙ n.0, n.1, n.2));
     } where
       mine_of : (t : Occupant) × occupant_at s j t × (t.leaves ≡ Some k)
@@ -122,44 +101,8 @@ but_fetch_void s k i f sound was =
     let free : (h : ℕ) → tally (one_if h) s2.pool.free ≡ tally (one_if h) s.pool.free + one_if h f = λ h. (let e = tally-append (one_if h) s.pool.free (f ∷ []) in omega arith) in
     let split : (h : ℕ) → tally (one_if h) s2.slots.vacant ≡ tally (one_if h) s.slots.vacant + one_if h k = λ h. (let e = tally-append (one_if h) s.slots.vacant (k ∷ []) in omega arith) in
     record {
-      frames = record {
-        one = λ h less. (let c = fetch h in let g = free h in let e = sound.frames.one h less in omega arith);
-        none = λ h past. (let c = fetch h in let g = free h in let e = sound.frames.none h past in omega arith);
-        whole = sound.frames.whole;
-        marks = sound.frames.marks;
-        names = λ h. names_other s s2 h (slice_get s.marks h) refl refl (λ a c is. is) (sound.frames.names h);
-        apart = sound.frames.apart;
-      };
-      slots = record {
-        used = λ h. elim (here_or k h) [
-          | inl same ↦
-              (let o = one_same k k refl in let c = split k in
-              let now : IsUsed s2 k (Some Vacant) = (used.0, used.1, omega (arith, c, used.2, o)) in
-              subst (λ q. IsUsed s2 q (slice_get s2.slots.uses q)) (sym same) (subst (IsUsed s2 k) (sym here) now))
-          | inr other ↦
-              (let o = one_other h k other in let c = split h in
-              subst (IsUsed s2 h) (sym (away h (λ e. other e)))
-              (used_other s s2 h (slice_get s.slots.uses h) refl refl (omega (arith, c, o)) (λ a b is. is) (λ a b is. is) (sound.slots.used h)))
-        ];
-        by_one = λ j h by. elim (here_or k h) [
-          | inl same ↦ absurd (subst (LeavesBy j) here (subst (λ q. LeavesBy j (slice_get s2.slots.uses q)) same by))
-          | inr other ↦ sound.slots.by_one j h (subst (LeavesBy j) (away h (λ e. other e)) by)
-        ];
-        by_this = λ j h t is at_it. (let by = sound.slots.by_this j h t is at_it in elim (here_or k h) [
-          | inl same ↦ absurd (subst (LeavesBy j) was (subst (λ q. LeavesBy j (slice_get s.slots.uses q)) same by))
-          | inr other ↦ subst (LeavesBy j) (sym (away h (λ e. other e))) by
-        ]);
-        leaving = λ j q is. (let found = sound.slots.leaving j q is in elim (here_or k found.0) [
-          | inl same ↦ absurd (let e : slice_get s.slots.uses k ≡ Some (Evicting j q) = subst (λ z. slice_get s.slots.uses z ≡ Some (Evicting j q)) same found.1 in let bad : Some (FetchVoid i f) ≡ Some (Evicting j q) = sym was ∙ e in cc)
-          | inr other ↦ (found.0, away found.0 (λ e. other e) ∙ found.1)
-        ]);
-        voids = λ j h g is. elim (here_or k h) [
-          | inl same ↦ absurd (let e : slice_get s2.slots.uses k ≡ Some (FetchVoid j g) = subst (λ z. slice_get s2.slots.uses z ≡ Some (FetchVoid j g)) same is in let bad : Some Vacant ≡ Some (FetchVoid j g) = sym here ∙ e in cc)
-          | inr other ↦ sound.slots.voids j h g (sym (away h (λ e. other e)) ∙ is)
-        ];
-        held = sound.slots.held ∙ sym (length-set s.slots.uses k Vacant);
-        whole = sound.slots.whole;
-      };
+      frames = search (rules, names_other);
+      slots = search (rules, here_or, one_same, one_other, used_other, length-set);
       pins = record { few = sound.pins.few; there = sound.pins.there; of = sound.pins.of };
       admissible = (sound.admissible.0, (let e = length-set s.slots.uses k Vacant in let b = sound.admissible.1 in omega arith));
       tables = sound.occupants.tables;

@@ -1,8 +1,8 @@
 -- How many frames a step wants, and that what is wanted beyond its own pages is saved by sharing.
-use Rattle.std.proofs.Common.{◌≡◌, ℕ, ◌+◌, ◌-◌, ◌/◌, ◌%◌, ◌≤◌, ◌⊎◌, inl, inr, cond, nat_lt, true, false, Bool, List, [], ◌∷◌, Option, Some, None, length, slice_get, get_or, zero, suc, refl, arith}
+use Rattle.std.proofs.Common.{◌≡◌, ℕ, ◌+◌, ◌-◌, ◌/◌, ◌%◌, ◌≤◌, ◌⊎◌, inl, inr, cond, nat_lt, true, false, Bool, List, [], ◌∷◌, Option, Some, None, length, slice_get, get_or, zero, suc, refl, arith, rules}
 use Rattle.std.proofs.lemmas.Bool.Decides.{nat_tests}
 use Rattle.wh_model.specs.declared.memory.Need.{Need}
-use Rattle.wh_space_model.specs.{tally, Space, sharers, below, among, copies, pages_from, pages_of_need, frames_for, frames_to_write, at, page_at, shares, resident, swapped, untouched, count, count_of}
+use Rattle.wh_space_model.specs.{tally, Space, sharers, below, among, copies, pages_from, pages_of_need, frames_to_write, at, page_at, shares, resident, swapped, untouched, count, count_of}
 use Rattle.wh_space_model.specs.declared.states.Page.{Page}
 use Rattle.wh_space_model.specs.declared.states.Page.TheVariants.{Untouched, Private, Shared, Leaving, LeavingShared, Coming, Swapped}
 use Rattle.wh_space_model.proofs.Sums.{below_le}
@@ -80,9 +80,7 @@ copies_saved written sharing most = grind (arith, nat_tests)
 -- what copies a step wants of shared frames, sharing has saved
 pub copies_room : (s : Space) (i : ℕ) (ps : List ℕ) → OneOrTwo ps
     → below (length s.pool.frames) (λ f. copies (among (shares f) s i ps) (sharers s f)) ≤ below (length s.pool.frames) (λ f. sharers s f - 1)
-copies_room s i ps few =
-    below_le (length s.pool.frames) (λ f. copies (among (shares f) s i ps) (sharers s f)) (λ f. sharers s f - 1)
-    (λ f less. copies_saved (among (shares f) s i ps) (sharers s f) (among_all (shares f) s i ps few))
+copies_room s i ps few = search (rules, below_le, copies_saved, among_all)
 
 cond_le : (b : Bool) (n : ℕ) → cond b n 0 ≤ n
 cond_le true n = omega arith
@@ -90,8 +88,4 @@ cond_le false n = omega arith
 
 pub frames_to_write_room : (s : Space) (i : ℕ) (need : Need)
     → frames_to_write s i need ≤ among untouched s i (pages_of_need need) + below (length s.pool.frames) (λ f. sharers s f - 1)
-frames_to_write_room s i need =
-    let few = few_pages need in
-    let room = copies_room s i (pages_of_need need) few in
-    let some = cond_le need.writes (frames_for s i (pages_of_need need)) in
-    omega arith
+frames_to_write_room s i need = search (rules, few_pages, copies_room, cond_le)

@@ -1,5 +1,5 @@
 -- A store to a shared page, by hand.
-use Rattle.std.proofs.Common.{◌≡◌, ◌≢◌, ℕ, ◌≤◌, inl, inr, List, Option, [], ◌∷◌, Some, None, true, false, length, get_or, zero, suc, refl, arith}
+use Rattle.std.proofs.Common.{◌≡◌, ◌≢◌, ℕ, ◌≤◌, inl, inr, List, Option, [], ◌∷◌, Some, None, true, false, length, get_or, zero, suc, refl, arith, rules}
 use Rattle.wh_space_model.proofs.Tally.{one_same}
 use Rattle.wh_space_model.specs.declared.Tax.{Tax}
 use Rattle.wh_space_model.specs.declared.states.Page.TheVariants.{Private, Shared}
@@ -63,14 +63,7 @@ breaks tax y ys h =
       record {
         mid = between tax y ys h;
         breaks = (between tax y ys h, first, refl);
-        fills = record {
-          frames = (after tax y ys h).pool.frames;
-          sees = refl;
-          many = refl;
-          whole = same_long y ys;
-          others = λ f none. other_frame y ys f (λ e. (let o = one_same f 3 e in omega arith));
-          after = refl;
-        };
+        fills = search (rules, same_long, other_frame, one_same);
       },
       refl,
       refl,
@@ -116,14 +109,7 @@ stores_again tax ys h =
     record {
       mid = s;
       breaks = (s, first, refl);
-      fills = record {
-        frames = (again tax ys h).pool.frames;
-        sees = refl;
-        many = refl;
-        whole = still_long ys;
-        others = λ f none. still_other ys f (λ e. (let o = one_same f 3 e in omega arith));
-        after = refl;
-      };
+      fills = search (rules, still_long, still_other, one_same);
     }
 
 merges_again : (tax : Tax) (hashes : List ℕ → ℕ) (ys : List ℕ) (h : ℕ) → 1 ∷ ys ≢ zero_page

@@ -1,7 +1,7 @@
 -- Provision, tickets and claims on small spaces, by hand.
-use Rattle.std.proofs.Common.{◌≡◌, ℕ, ◌+◌, ◌<◌, ◌≤◌, ◌++◌, inl, inr, List, Option, [], ◌∷◌, Some, None, true, false, Bool, length, get_or, slice_get, zero, suc, refl, sym, ap, ◌∙◌, subst, arith}
+use Rattle.std.proofs.Common.{◌≡◌, ℕ, ◌+◌, ◌<◌, ◌≤◌, ◌++◌, inl, inr, List, Option, [], ◌∷◌, Some, None, true, false, Bool, length, get_or, slice_get, zero, suc, refl, sym, ap, ◌∙◌, subst, arith, rules}
 use Rattle.wh_model.specs.declared.memory.Need.{Need}
-use Rattle.wh_space_model.specs.{tally, one_if, BeginsEvict, CommitsEvict, CommitsFetch, Reserves, departing, not_sent, sent_off, settled, with_free, with_leaving, without_slot, IsOnTouched, charged_of, CanBeTaken, CanLeave, HasLess, IsBeside, IsEarlier, IsPayer, IsShed, MayPay, NobodyPays, Earmarks, Evicts, evicted, pinned, unpinned_of, Exits, freed_by, released_mark, released_use, LacksFree, Provides, goes, Occupant, Space, frame_bytes, kept_by, sharers, Overwrites, GetsFrame, standing_alone, below, count_of, lies_in, owns, page_at, shares}
+use Rattle.wh_space_model.specs.{tally, one_if, BeginsEvict, CommitsEvict, CommitsFetch, Reserves, departing, not_sent, sent_off, settled, with_free, with_leaving, without_slot, IsOnTouched, charged_of, CanBeTaken, CanLeave, HasLess, IsBeside, IsEarlier, IsPayer, IsShed, MayPay, NobodyPays, Earmarks, Evicts, evicted, pinned, unpinned_of, Exits, freed_by, released_mark, released_use, LacksFree, Provides, goes, Occupant, Space, frame_bytes, kept_by, sharers, Overwrites, below, count_of, lies_in, owns, page_at, shares}
 use Rattle.wh_space_model.specs.declared.Tax.{Tax}
 use Rattle.wh_space_model.specs.declared.states.Page.{Page}
 use Rattle.wh_space_model.specs.declared.states.Page.TheVariants.{Untouched, Private, Shared, Leaving, LeavingShared, Swapped}
@@ -40,18 +40,9 @@ both tax stands a b touched free marks = record {
 
 -- where the first has two pages, at its minimum, nobody but the second may have to pay
 second_pays : (s : Space) (stands leaves : Option Need) → s.occupants ≡ Some (tenant 0 stands) ∷ Some (tenant 1 leaves) ∷ [] → charged_of s 0 ≡ 2 → (j : ℕ) → MayPay s j → j ≡ 1
-second_pays s stands leaves all few zero pays =
-    let is : Some (Some (tenant 0 stands)) ≡ Some (Some pays.0.0) = sym (ap (λ xs. slice_get xs 0) all) ∙ pays.0.1 in
-    let least : 2 ≡ pays.0.0.min = ap least_of is in
-    let more = pays.0.2 in
-    absurd (omega arith) where
-      least_of : Option (Option Occupant) → ℕ
-      least_of None = 2
-      least_of (Some None) = 2
-      least_of (Some (Some t)) = t.min
+second_pays s stands leaves all few zero pays = search rules
 second_pays s stands leaves all few (suc zero) pays = refl
-second_pays s stands leaves all few (suc (suc j)) pays =
-    absurd (let is : None ≡ Some (Some pays.0.0) = sym (ap (λ xs. slice_get xs (suc (suc j))) all) ∙ pays.0.1 in cc)
+second_pays s stands leaves all few (suc (suc j)) pays = search rules
 
 -- Shares 100 and a minimum of 2 each. The first has two idle pages and the greater weight, the second three that were touched:
 -- the second pays, since the first isn't above its minimum.
@@ -174,19 +165,7 @@ void_uses s j wrote bytes end s2 void (inr (i, p, f, at_it, page, there, on, res
 
 written_meanwhile : (tax : Tax) (s2 : Space) (wrote : Bool) (bytes : List ℕ) (end : _) (s3 : Space) → Overwrites (full_begun tax) 1 0 (9 ∷ []) s2 → CommitsEvict s2 1 wrote bytes end s3
     → (end ≡ Void) × (s3.pool.free ≡ []) × (length s3.slots.vacant ≡ 2)
-written_meanwhile tax s2 wrote bytes end s3 writes commits =
-    let s : Space = full_begun tax in
-    let each = writes.breaks in
-    let b = each.1 in
-    let page : Leaving 2 ≡ b.page = (let both : Some (Leaving 2) ≡ Some b.page = b.was in cc) in
-    let gets : (b.frame ≡ 2) × (b.mid ≡ s) = subst (λ x. GetsFrame s 1 x b.frame b.mid) (sym page) b.gets in
-    let slots : s2.slots ≡ (standing_alone s 1 0 b.frame).slots =
-    ap (λ (a : Space). a.slots) writes.fills.after ∙ (ap (λ (a : Space). a.slots) each.2 ∙ (ap (λ (a : Space). a.slots) b.after ∙ ap (λ m. (standing_alone m 1 0 b.frame).slots) gets.1)) in
-    let free : s2.pool.free ≡ [] =
-    ap (λ (a : Space). a.pool.free) writes.fills.after ∙ (ap (λ (a : Space). a.pool.free) each.2 ∙ (ap (λ (a : Space). a.pool.free) b.after ∙ ap (λ (m : Space). m.pool.free) gets.1)) in
-    let void : slice_get s2.slots.uses 1 ≡ Some (EvictVoid 1) = ap (λ a. slice_get a.uses 1) slots in
-    let ends = void_uses s2 1 wrote bytes end s3 void commits in
-    (ends.0, ap (λ a. a.free) ends.1 ∙ free, ap length (ends.2 ∙ ap (λ a. a.vacant ++ 1 ∷ []) slots))
+written_meanwhile tax s2 wrote bytes end s3 writes commits = search rules
 
 -- An eviction that begins again then takes the same page again, with the bytes that stand in its frame now.
 abbrev full_written : Tax → List (List ℕ) → Space
@@ -213,32 +192,12 @@ begins_again tax frames many =
 -- what a store and the void ticket leave
 void_leaves : (s2 s3 : Space) (wrote : Bool) (bytes : List ℕ) (end : _) → slice_get s2.slots.uses 1 ≡ Some (EvictVoid 1) → CommitsEvict s2 1 wrote bytes end s3
     → s3 ≡ settled (with_leaving (without_slot s2 1) 1 None) 1
-void_leaves s2 s3 wrote bytes end void (inl (j, at_it, ends, is)) =
-    let both : Some (EvictVoid j) ≡ Some (EvictVoid 1) = sym at_it ∙ void in
-    let same : j ≡ 1 = cc both in
-    is ∙ ap (λ z. settled (with_leaving (without_slot s2 1) z None) z) same
+void_leaves s2 s3 wrote bytes end void (inl (j, at_it, ends, is)) = search rules
 void_leaves s2 s3 wrote bytes end void (inr (i, p, f, at_it, page, there, on, rest)) = absurd (let bad : Some (EvictVoid 1) ≡ Some (Evicting i p) = sym void ∙ at_it in cc)
 
 taken_again : (tax : Tax) (s2 : Space) (wrote : Bool) (bytes : List ℕ) (end : _) (s3 : Space) → Overwrites (full_begun tax) 1 0 (9 ∷ []) s2 → CommitsEvict s2 1 wrote bytes end s3
     → (s4 : Space) × BeginsEvict s3 0 (Some 1) (frame_bytes s3 2) s4 × (page_at s3.tables 1 0 ≡ Some (Private 2)) × (page_at s4.tables 1 0 ≡ Some (Leaving 2))
-taken_again tax s2 wrote bytes end s3 writes commits =
-    let s : Space = full_begun tax in
-    let frames = writes.fills.frames in
-    let each = writes.breaks in
-    let b = each.1 in
-    let page : Leaving 2 ≡ b.page = (let both : Some (Leaving 2) ≡ Some b.page = b.was in cc) in
-    let gets : (b.frame ≡ 2) × (b.mid ≡ s) = subst (λ x. GetsFrame s 1 x b.frame b.mid) (sym page) b.gets in
-    let broken : writes.mid ≡ standing_alone s 1 0 2 = each.2 ∙ (b.after ∙ (ap (λ m. standing_alone m 1 0 b.frame) gets.1 ∙ ap (standing_alone s 1 0) gets.0)) in
-    let stored : s2 ≡ record (standing_alone s 1 0 2) { pool = record { frames = frames; free = [] } } =
-    writes.fills.after ∙ ap (λ (m : Space). record m { pool = record m.pool { frames = frames } }) broken in
-    let void : slice_get s2.slots.uses 1 ≡ Some (EvictVoid 1) = ap (λ (a : Space). slice_get a.slots.uses 1) stored in
-    let long : length frames ≡ 5 = (let a = writes.fills.many in let b : length writes.mid.pool.frames ≡ length (standing_alone (full_begun tax) 1 0 2).pool.frames = ap (λ (a : Space). length a.pool.frames) broken in let c : length (standing_alone (full_begun tax) 1 0 2).pool.frames ≡ 5 = refl in omega (arith, a, b, c)) in
-    let left : s3 ≡ full_written tax frames = void_leaves s2 s3 wrote bytes end void commits ∙ ap (λ a. settled (with_leaving (without_slot a 1) 1 None) 1) stored in (
-      departing (full_written tax frames) 1 0 1 (0 ∷ []) (Leaving 2),
-      subst (λ a. BeginsEvict a 0 (Some 1) (frame_bytes a 2) (departing (full_written tax frames) 1 0 1 (0 ∷ []) (Leaving 2))) (sym left) (begins_again tax frames long),
-      ap (λ (a : Space). page_at a.tables 1 0) left,
-      refl,
-    )
+taken_again tax s2 wrote bytes end s3 writes commits = search rules
 
 -- The device fails: the page is as before, and no slot in use.
 device_fails : (tax : Tax) → (s2 : Space) × CommitsEvict (full_begun tax) 1 false [] Failed s2 × (page_at s2.tables 1 0 ≡ Some (Private 2)) × (length s2.slots.vacant ≡ 2)

@@ -1,5 +1,5 @@
 -- Bytes that are written into pages that stand alone on their frames.
-use Rattle.std.proofs.Common.{◌≡◌, ℕ, ◌+◌, ◌*◌, ◌/◌, ◌≤◌, ◌++◌, List, [], ◌∷◌, Some, length, slice_set, refl, sym, ◌∙◌, ap, subst, arith}
+use Rattle.std.proofs.Common.{◌≡◌, ℕ, ◌+◌, ◌*◌, ◌/◌, ◌≤◌, ◌++◌, List, [], ◌∷◌, Some, length, slice_set, refl, sym, ◌∙◌, ap, subst, arith, rules}
 use Rattle.wh_model.specs.Execution.{written}
 use Rattle.wh_model.specs.Execution.Memory.{writing}
 use Rattle.wh_space_model.specs.{tally, one_if, Space, frame_bytes, view, among, pages_of_need, IsSound, owns, page_at, Fills}
@@ -33,17 +33,4 @@ fills_page s i p f r k given sound there fits many place =
 pub fills_both : (s : Space) (i p k : ℕ) (a b given : List ℕ) (s1 s2 : Space) → Fills s i k a s1 → Fills s1 i (k + length a) b s2 → pages_of_need (writing k (length a)) ≡ p ∷ []
     → pages_of_need (writing (k + length a) (length b)) ≡ (p + 1) ∷ [] → pages_of_need (writing k (length given)) ≡ p ∷ (p + 1) ∷ [] → given ≡ a ++ b → k + length a ≤ length (view s i)
     → Fills s i k given s2
-fills_both s i p k a b given s1 s2 first second one other both parts fits = record {
-  frames = second.frames;
-  sees = second.sees ∙ (ap (λ z. written z (k + length a) b) first.sees ∙ (sym (written_parts (view s i) k a b fits) ∙ ap (written (view s i) k) (sym parts)));
-  many = second.many ∙ ap (λ (z : Space). length z.pool.frames) first.after ∙ first.many;
-  whole = λ h. second.whole h ∙ (ap (λ (z : Space). length (frame_bytes z h)) first.after ∙ first.whole h);
-  others = λ h none.
-      (let zeros : among (owns h) s i (p ∷ (p + 1) ∷ []) ≡ 0 = subst (λ z. among (owns h) s i z ≡ 0) both none in
-      let low : among (owns h) s i (p ∷ []) ≡ 0 = omega arith in
-      let high : among (owns h) s i ((p + 1) ∷ []) ≡ 0 = omega arith in
-      let high1 : among (owns h) s1 i ((p + 1) ∷ []) ≡ 0 = ap (λ (z : Space). among (owns h) z i ((p + 1) ∷ [])) first.after ∙ high in
-      second.others h (subst (λ z. among (owns h) s1 i z ≡ 0) (sym other) high1)
-      ∙ (ap (λ (z : Space). frame_bytes z h) first.after ∙ first.others h (subst (λ z. among (owns h) s i z ≡ 0) (sym one) low)));
-  after = second.after ∙ ap (λ (z : Space). record z { pool = record z.pool { frames = second.frames } }) first.after;
-}
+fills_both s i p k a b given s1 s2 first second one other both parts fits = search (rules, written_parts)

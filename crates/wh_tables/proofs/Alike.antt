@@ -1,5 +1,5 @@
 -- The index where the same pages stand on the same frames, of instances with the same numbers.
-use Rattle.std.proofs.Common.{◌≡◌, ℕ, ◌<◌, ◌≤◌, ◌==◌, inl, inr, cond, nat_lt, min, List, Option, Some, None, length, slice_get, get_or, zero, suc, refl, sym, ap, ◌∙◌, subst, arith}
+use Rattle.std.proofs.Common.{◌≡◌, ℕ, ◌<◌, ◌≤◌, ◌==◌, inl, inr, cond, nat_lt, min, List, Option, Some, None, length, slice_get, get_or, zero, suc, refl, sym, ap, ◌∙◌, subst, arith, rules}
 use Rattle.std.proofs.lemmas.Bool.Decides.{nat_tests}
 use Rattle.std.proofs.lemmas.Bool.{cases_lt}
 use Rattle.wh_space_model.specs.declared.states.Page.{Page}
@@ -77,16 +77,10 @@ term_empty a b c none = grind (arith, nat_tests)
 
 pub charge_alike : (x x2 : Counted) (m m2 : Marked) → IsAlike x x2 m m2 → (k f : ℕ) → charge_in (number_in x2.chains.numbers) m2.pages k f ≡ charge_in (number_in x.chains.numbers) m.pages k f
 charge_alike x x2 m m2 alike k f =
-    let same = alike.standing k f in
     elim (cases_lt 0 (standing_at m.pages k f)) [
-      | inr most ↦
-          (let none : standing_at m.pages k f ≡ 0 = omega arith in
-          let none2 : standing_at m2.pages k f ≡ 0 = omega arith in
-          let a = charge_empty (before_in (number_in x.chains.numbers) m.pages k f) in
-          let b = charge_empty (before_in (number_in x2.chains.numbers) m2.pages k f) in
-          rw (none, none2) (omega arith))
+      | inr most ↦ search (rules, charge_empty)
       | inl some ↦
-          (let e = before k (number_of k some) in rw (same, e) refl)
+          (let e = before k (number_of k some) in rw (alike.standing k f, e) refl)
     ] where
       number_of : (j : ℕ) → 1 ≤ standing_at m.pages j f → number_in x2.chains.numbers j ≡ number_in x.chains.numbers j
       number_of j some =
@@ -96,13 +90,12 @@ charge_alike x x2 m m2 alike k f =
       term : (k j : ℕ) → number_in x2.chains.numbers k ≡ number_in x.chains.numbers k
           → cond (nat_lt (number_in x2.chains.numbers j) (number_in x2.chains.numbers k)) (standing_at m2.pages j f) 0 ≡ cond (nat_lt (number_in x.chains.numbers j) (number_in x.chains.numbers k)) (standing_at m.pages j f) 0
       term k j mine =
-          let same = alike.standing j f in
           elim (cases_lt 0 (standing_at m.pages j f)) [
             | inr most ↦
                 (let a = term_empty (number_in x2.chains.numbers j) (number_in x2.chains.numbers k) (standing_at m2.pages j f) (omega arith) in
                 let b = term_empty (number_in x.chains.numbers j) (number_in x.chains.numbers k) (standing_at m.pages j f) (omega arith) in
                 omega arith)
-            | inl some ↦ rw (mine, number_of j some, same) refl
+            | inl some ↦ rw (mine, number_of j some, alike.standing j f) refl
           ]
 
       out : (pages : List (List Page)) (n : ℕ → ℕ) (k j : ℕ) → length pages ≤ j → cond (nat_lt (n j) (n k)) (standing_at pages j f) 0 ≡ 0

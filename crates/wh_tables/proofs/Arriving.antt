@@ -1,24 +1,22 @@
 -- An instance comes to a place, with a row of untouched pages.
-use Rattle.std.proofs.Common.{◌≡◌, ◌≢◌, ℕ, ◌+◌, ◌<◌, ◌≤◌, ◌==◌, ◌++◌, ◌⊎◌, inl, inr, cond, nat_lt, min, Bool, true, false, List, [], ◌∷◌, None, length, replicate, slice_get, slice_set, get_or, zero, suc, refl, sym, ap, ◌∙◌, subst, arith, length-set, length-append}
+use Rattle.std.proofs.Common.{◌≡◌, ◌≢◌, ℕ, ◌+◌, ◌<◌, ◌≤◌, ◌==◌, ◌++◌, ◌⊎◌, inl, inr, cond, nat_lt, Bool, true, false, List, [], ◌∷◌, None, length, replicate, slice_get, slice_set, get_or, zero, suc, refl, sym, ap, ◌∙◌, subst, arith, length-set, length-append, rules}
 use Rattle.std.proofs.lemmas.Bool.Decides.{nat_tests}
-use Rattle.std.proofs.lemmas.Bool.{cases_lt}
-use Rattle.wh_space_model.specs.{tally, with_row, before_in, charge_in, standing_at, stands_on, touchers_in}
+use Rattle.wh_space_model.specs.{with_row, charge_in}
 use Rattle.wh_space_model.specs.declared.states.Page.{Page}
 use Rattle.wh_space_model.specs.declared.states.Page.TheVariants.{Untouched}
-use Rattle.wh_space_model.proofs.Putting.{here_or, is_page}
+use Rattle.wh_space_model.proofs.Putting.{here_or}
 use Rattle.wh_pages.specs.Table.{PageTableState}
 use Rattle.wh_tables.specs.declared.page_id.PageId.{PageId}
 use Rattle.wh_tables.specs.declared.order.Link.{Link}
 use Rattle.wh_tables.specs.declared.index.Counts.{Counts}
 use Rattle.wh_tables.specs.Order.{StandsOn}
-use Rattle.wh_tables.specs.Index.{HaveOwnNumbers, Counted, IsIndexOf, Marked, activity_in, counts_at, number_in, with_newcomer}
+use Rattle.wh_tables.specs.Index.{HaveOwnNumbers, Counted, IsIndexOf, Marked, counts_at, number_in, with_newcomer}
 use Rattle.wh_tables.specs.Tables.{AreIndexed, limits_by_place, marked_of, marks_by_place, new_table, pages_by_place, tables_with}
-use Rattle.wh_tables.proofs.Alike.{charge_empty, index_alike}
+use Rattle.wh_tables.proofs.Alike.{index_alike}
 use Rattle.wh_tables.proofs.Charging.{all_none}
 use Rattle.wh_tables.proofs.Keeping.{long_map}
 use Rattle.wh_tables.proofs.Newcomers.{row_longer, rows_where, touchers_same}
 use Rattle.wh_tables.proofs.Rows.{map_row}
-use Rattle.wh_tables.proofs.Standing.{page_of_standing}
 
 -- ---- rows of a list with one more
 
@@ -50,39 +48,19 @@ add_else (y ∷ xs) zero x none other = refl
 add_else (y ∷ xs) (suc j) x none other = add_else xs j x none (λ e. other (ap suc e))
 
 test_less : (i n : ℕ) → ((nat_lt i n ≡ true) × (i < n)) ⊎ ((nat_lt i n ≡ false) × (n ≤ i))
-test_less i n =
-    elim (cases_lt i n) [
-      | inl less ↦ inl (grind (arith, nat_tests), less)
-      | inr most ↦ inr (grind (arith, nat_tests), most)
-    ]
+test_less i n = search rules
 
 pub with_here : {X : Type 0} (xs : List X) (i : ℕ) (x none : X) → i ≤ length xs → get_or (with_row xs i x) i none ≡ x
-with_here xs i x none within =
-    elim (test_less i (length xs)) [
-      | inl before ↦ (ap (λ b. get_or (pick b xs i x) i none) before.0 ∙ set_here xs i x none before.1)
-      | inr past ↦ (ap (λ b. get_or (pick b xs i x) i none) past.0 ∙ add_here xs i x none (omega (arith, past.1)))
-    ]
+with_here xs i x none within = search (rules, test_less, set_here, add_here)
 
 pub with_else : {X : Type 0} (xs : List X) (i j : ℕ) (x none : X) → i ≤ length xs → j ≢ i → get_or (with_row xs i x) j none ≡ get_or xs j none
-with_else xs i j x none within other =
-    elim (test_less i (length xs)) [
-      | inl before ↦ (ap (λ b. get_or (pick b xs i x) j none) before.0 ∙ set_else xs i j x none other)
-      | inr past ↦ (ap (λ b. get_or (pick b xs i x) j none) past.0 ∙ add_else xs j x none (λ e. other (let p = past.1 in omega arith)))
-    ]
+with_else xs i j x none within other = search (rules, test_less, set_else, add_else)
 
 with_long : {X : Type 0} (xs : List X) (i : ℕ) (x : X) → ((i < length xs) × (length (with_row xs i x) ≡ length xs)) ⊎ ((length xs ≤ i) × (length (with_row xs i x) ≡ length xs + 1))
-with_long xs i x =
-    elim (test_less i (length xs)) [
-      | inl before ↦ inl (before.1, ap (λ b. length (pick b xs i x)) before.0 ∙ length-set xs i x)
-      | inr past ↦ inr (past.1, ap (λ b. length (pick b xs i x)) past.0 ∙ (let k = length-append xs (x ∷ []) in omega arith))
-    ]
+with_long xs i x = search (rules, test_less, length-set, length-append)
 
 pub with_same : {X Y : Type 0} (xs : List X) (ys : List Y) (i : ℕ) (x : X) (y : Y) → length xs ≡ length ys → length (with_row xs i x) ≡ length (with_row ys i y)
-with_same xs ys i x y same =
-    elim (with_long xs i x) [
-      | inl here ↦ elim (with_long ys i y) [ inl there ↦ (let a = here.1 in let b = there.1 in omega arith) | inr there ↦ absurd (let a = here.0 in let b = there.0 in omega arith) ]
-      | inr here ↦ elim (with_long ys i y) [ inl there ↦ absurd (let a = here.0 in let b = there.0 in omega arith) | inr there ↦ (let a = here.1 in let b = there.1 in omega arith) ]
-    ]
+with_same xs ys i x y same = search (rules, with_long)
 
 with_more : {X : Type 0} (xs : List X) (i : ℕ) (x : X) → length xs ≤ length (with_row xs i x)
 with_more xs i x = elim (with_long xs i x) [ inl here ↦ (let a = here.1 in omega arith) | inr here ↦ (let a = here.1 in omega arith) ]
@@ -98,9 +76,7 @@ long_replicate x (suc n) = let rest = long_replicate x n in omega arith
 
 -- nothing is counted for a place at which no page is
 nothing_charged : (x : Counted) (m : Marked) (i f : ℕ) → get_or m.pages i [] ≡ [] → charge_in (number_in x.chains.numbers) m.pages i f ≡ 0
-nothing_charged x m i f empty =
-    let none : standing_at m.pages i f ≡ 0 = ap (tally (stands_on f)) empty in
-    ap (λ n. cond (before_in (number_in x.chains.numbers) m.pages i f == 0) (min 1 n) 0) none ∙ charge_empty (before_in (number_in x.chains.numbers) m.pages i f)
+nothing_charged x m i f empty = search rules
 
 zero_term : (t charge : ℕ) → charge ≡ 0 → cond (t == 0) 0 charge ≡ 0
 zero_term t charge none = grind (arith, nat_tests)
@@ -109,10 +85,7 @@ same_counts : (a b : Counts) → a.charged ≡ b.charged → a.active ≡ b.acti
 same_counts a b one two = ap (λ n. record { charged = n; active = a.active }) one ∙ ap (λ n. record { charged = b.charged; active = n }) two
 
 nothing_counted : (x : Counted) (m : Marked) (i : ℕ) → IsIndexOf x m → get_or m.pages i [] ≡ [] → counts_at x.counts i ≡ record { charged = 0; active = 0 }
-nothing_counted x m i index empty =
-    same_counts (counts_at x.counts i) (record { charged = 0; active = 0 })
-    (index.counted.charged i ∙ all_none (length x.chains.ends) (λ f. charge_in (number_in x.chains.numbers) m.pages i f) (λ f less. nothing_charged x m i f empty))
-    (index.counted.active i ∙ all_none (length x.chains.ends) (λ f. activity_in (number_in x.chains.numbers) m i f) (λ f less. zero_term (touchers_in m.pages m.marks f) (charge_in (number_in x.chains.numbers) m.pages i f) (nothing_charged x m i f empty)))
+nothing_counted x m i index empty = search (rules, same_counts, all_none, nothing_charged, zero_term)
 
 -- what is asked
 pub record MayArrive (tables : List PageTableState) (x : Counted) (i number n max : ℕ) : Type 0 where
@@ -124,11 +97,7 @@ pub record MayArrive (tables : List PageTableState) (x : Counted) (i number n ma
   pub most : max ≤ 65536
 
 no_page_there : (pages : List (List Page)) (i f : ℕ) (id : PageId) → get_or pages i [] ≡ [] → StandsOn pages f id → id.place ≢ i
-no_page_there pages i f id empty on same =
-    let page = page_of_standing pages f id on in
-    let within = (is_page pages id.place id.page page.0 page.1).1 in
-    let none : length (get_or pages id.place []) ≡ 0 = ap length (ap (λ j. get_or pages j []) same ∙ empty) in
-    absurd (omega arith)
+no_page_there pages i f id empty on same = search rules
 
 pub marked_row : (tables : List PageTableState) (i : ℕ) (new : PageTableState) → marked_of (with_row tables i new) ≡ record { pages = with_row (pages_by_place tables) i new.pages; marks = with_row (marks_by_place tables) i new.touched }
 marked_row tables i new = rw (map_row (λ (t : PageTableState). t.pages) tables i new, map_row (λ (t : PageTableState). t.touched) tables i new) refl
@@ -163,14 +132,7 @@ arrived_index tables x i number n max kept may =
       apart = apart at_pages at_numbers;
       ends = refl;
       touchers = refl;
-      within = λ f id on. (
-          let away = no_page_there m.pages i f id may.empty on in
-          let was = kept.index.order.room f id on in
-          record {
-            place = (let a = was.place in let b = with_more x.chains.numbers i number in omega arith);
-            frame = was.frame;
-            page = (let a = was.page in let b = ap length (with_else x.chains.links i id.place (replicate max (record { next = None; prior = None })) [] at_links away) in omega arith);
-          });
+      within = search (rules, no_page_there, with_more, with_else, replicate);
       to = λ f id on. rows.stands f id.place id.page ∙ on;
       back = λ f id on. sym (rows.stands f id.place id.page) ∙ on;
       links = λ f id on. ap (λ row. slice_get row id.page) (with_else x.chains.links i id.place _ [] at_links (no_page_there m.pages i f id may.empty on));
@@ -236,22 +198,10 @@ kept_arrived tables x i number n max kept may =
     record {
       index = subst (λ (m : Marked). IsIndexOf (with_newcomer x i number max) m) (sym (marked_row tables i new)) (arrived_index tables x i number n max kept may);
       places = with_same x.chains.links tables i _ new kept.places;
-      links = λ j. rw limits (elim (here_or i j) [
-        | inl same ↦ (let a = with_here (limits_by_place tables) i max 0 at_limits in let b = ap length (with_here x.chains.links i (replicate max (record { next = None; prior = None })) [] at_links) in rw same (omega arith))
-        | inr other ↦ (let a = with_else (limits_by_place tables) i j max 0 at_limits other in let b = ap length (with_else x.chains.links i j (replicate max (record { next = None; prior = None })) [] at_links other) in let d = kept.links j in omega arith)
-      ]);
-      small = λ j. rw limits (elim (here_or i j) [
-        | inl same ↦ (let a = with_here (limits_by_place tables) i max 0 at_limits in let b = may.most in rw same (omega arith))
-        | inr other ↦ (let a = with_else (limits_by_place tables) i j max 0 at_limits other in let d = kept.small j in omega arith)
-      ]);
-      rows = λ j. rw (limits, pages) (elim (here_or i j) [
-        | inl same ↦ (let a = with_here (limits_by_place tables) i max 0 at_limits in let b = ap length (with_here (pages_by_place tables) i (replicate n Untouched) [] at_pages) in let d = may.fits in rw same (omega arith))
-        | inr other ↦ (let a = with_else (limits_by_place tables) i j max 0 at_limits other in let b = ap length (with_else (pages_by_place tables) i j (replicate n Untouched) [] at_pages other) in let d = kept.rows j in omega arith)
-      ]);
-      marks = λ j. rw (marks, pages) (elim (here_or i j) [
-        | inl same ↦ (let a = ap length (with_here (marks_by_place tables) i (replicate n false) [] at_marks) in let b = ap length (with_here (pages_by_place tables) i (replicate n Untouched) [] at_pages) in rw same (omega arith))
-        | inr other ↦ (let a = ap length (with_else (marks_by_place tables) i j (replicate n false) [] at_marks other) in let b = ap length (with_else (pages_by_place tables) i j (replicate n Untouched) [] at_pages other) in let d = kept.marks j in omega arith)
-      ]);
+      links = search (rules, here_or, with_here, replicate, with_else);
+      small = search (rules, here_or, with_here, with_else);
+      rows = search (rules, here_or, with_here, replicate, with_else);
+      marks = search (rules, here_or, with_here, replicate, with_else);
     }
 
 pub tables_arrived : (tables : List PageTableState) (x : Counted) (i number n max : ℕ) → tables_with (with_row tables i (new_table n max)) (with_newcomer x i number max)
@@ -262,6 +212,4 @@ pub tables_arrived : (tables : List PageTableState) (x : Counted) (i number n ma
       numbers = with_row x.chains.numbers i number;
       frames = length x.chains.ends;
     }
-tables_arrived tables x i number n max =
-    let new : PageTableState = new_table n max in
-    rw (map_row (λ (t : PageTableState). t.max) tables i new, map_row (λ (t : PageTableState). t.pages) tables i new, map_row (λ (t : PageTableState). t.touched) tables i new) refl
+tables_arrived tables x i number n max = search (rules, map_row)

@@ -1,5 +1,5 @@
 -- To whom a frame is charged: to the instance of the first page on it.
-use Rattle.std.proofs.Common.{◌≡◌, ◌≢◌, ℕ, ◌+◌, ◌<◌, ◌≤◌, ◌==◌, inl, inr, cond, nat_lt, min, List, [], ◌∷◌, Option, Some, None, length, slice_get, get_or, zero, suc, refl, sym, ◌∙◌, subst, arith}
+use Rattle.std.proofs.Common.{◌≡◌, ◌≢◌, ℕ, ◌+◌, ◌<◌, ◌≤◌, ◌==◌, inl, inr, cond, nat_lt, min, List, [], ◌∷◌, Option, Some, None, length, slice_get, get_or, zero, suc, refl, sym, ◌∙◌, subst, arith, rules}
 use Rattle.std.proofs.lemmas.Bool.Decides.{nat_tests}
 use Rattle.std.proofs.lemmas.Bool.{cases_lt}
 use Rattle.wh_space_model.specs.{tally, one_if, at, page_at, count_of, below, IsFirstOn, active_in, before_in, charge_in, charged_in, standing_at, stands_on, touchers_in}
@@ -30,21 +30,13 @@ charge_is : (before here : ℕ) → before ≡ 0 → 1 ≤ here → cond (before
 charge_is before here none some = grind (arith, nat_tests)
 
 charge_none : (before here : ℕ) → (before ≡ 0 → here ≡ 0) → cond (before == 0) (min 1 here) 0 ≡ 0
-charge_none before here none =
-    elim (cases_lt 0 before) [
-      | inl some ↦ grind (arith, nat_tests)
-      | inr most ↦ (let z = none (omega arith) in grind (arith, nat_tests))
-    ]
+charge_none before here none = search rules
 
 charge_few : (before here : ℕ) → cond (before == 0) (min 1 here) 0 ≤ 1
 charge_few before here = grind (arith, nat_tests)
 
 before_none : (a b c : ℕ) → (1 ≤ c → b ≤ a) → cond (nat_lt a b) c 0 ≡ 0
-before_none a b c least =
-    elim (cases_lt 0 c) [
-      | inl some ↦ (let l = least some in grind (arith, nat_tests))
-      | inr zeros ↦ (let z : c ≡ 0 = omega arith in grind (arith, nat_tests))
-    ]
+before_none a b c least = search rules
 
 is_less : (a b c : ℕ) → a < b → cond (nat_lt a b) c 0 ≡ c
 is_less a b c less = grind (arith, nat_tests)
@@ -95,11 +87,7 @@ pub counts_standing : (pages : List (List Page)) (f : ℕ) (id : PageId) → Sta
 counts_standing pages f id on = let k = in_row (stands_on f) (get_or pages id.place []) id.page in omega arith
 
 lower_number : (numbers : List ℕ) (x z : PageId) → ¬ ComesBefore numbers z x → number_in numbers x.place ≤ number_in numbers z.place
-lower_number numbers x z least =
-    elim (cases_lt (number_in numbers z.place) (number_in numbers x.place)) [
-      | inl less ↦ absurd (least (inl less))
-      | inr most ↦ most
-    ]
+lower_number numbers x z least = search rules
 
 first_least : (c : Chains) (pages : List (List Page)) (f : ℕ) (x z : PageId) → IsInOrder c pages → next_in c f None ≡ Some x → StandsOn pages f z → ¬ ComesBefore c.numbers z x
 first_least c pages f x z chains is on =
@@ -111,9 +99,8 @@ first_least c pages f x z chains is on =
 -- the first page on a frame, as the definition has it
 pub first_is : (c : Chains) (pages : List (List Page)) (f : ℕ) (x : PageId) → IsInOrder c pages → next_in c f None ≡ Some x → IsFirstOn (number_in c.numbers) pages x.place x.page f
 first_is c pages f x chains is =
-    let there = lead_there (StandsOn pages f) (ComesBefore c.numbers) None (next_in c f None) x (chains.next f None tt) is in
     record {
-      on = there.0;
+      on = (lead_there (StandsOn pages f) (ComesBefore c.numbers) None (next_in c f None) x (chains.next f None tt) is).0;
       first = λ j q on. lower_number c.numbers x (record { place = j; page = q }) (first_least c pages f x (record { place = j; page = q }) chains is on);
       lowest = λ q on. lower q (first_least c pages f x (record { place = x.place; page = q }) chains is on);
     } where
@@ -180,10 +167,7 @@ charge_of_nobody c pages f k chains is =
     ])
 
 pub charge_is_first : (c : Chains) (pages : List (List Page)) (f k : ℕ) → IsInOrder c pages → HaveOwnNumbers c.numbers pages → charge_in (number_in c.numbers) pages k f ≡ one_first (next_in c f None) k
-charge_is_first c pages f k chains apart = go (next_in c f None) refl where
-  go : (x : Option PageId) → next_in c f None ≡ x → charge_in (number_in c.numbers) pages k f ≡ one_first x k
-  go None is = charge_of_nobody c pages f k chains is
-  go (Some x) is = charge_of_first c pages f x k chains apart is
+charge_is_first c pages f k chains apart = search (rules, charge_of_nobody, charge_of_first)
 
 -- bounds
 pub charged_few : (number : ℕ → ℕ) (pages : List (List Page)) (frames k : ℕ) → charged_in number pages frames k ≤ frames

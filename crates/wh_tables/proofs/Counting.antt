@@ -1,5 +1,5 @@
 -- The counts of instances and of frames, when one frame changes.
-use Rattle.std.proofs.Common.{◌≡◌, ◌≢◌, ℕ, ◌+◌, ◌<◌, ◌≤◌, ◌==◌, inl, inr, cond, nat_lt, IsTrue, List, [], ◌∷◌, Option, Some, None, IfSome, length, get_or, zero, suc, refl, sym, ap, ◌∙◌, subst, arith}
+use Rattle.std.proofs.Common.{◌≡◌, ◌≢◌, ℕ, ◌+◌, ◌<◌, ◌≤◌, ◌==◌, cond, nat_lt, IsTrue, List, [], ◌∷◌, Option, Some, None, IfSome, length, get_or, zero, suc, refl, sym, ap, ◌∙◌, subst, arith, rules}
 use Rattle.std.proofs.lemmas.Bool.Decides.{nat_tests}
 use Rattle.wh_space_model.proofs.Tally.{one_same}
 use Rattle.wh_space_model.proofs.Putting.{here_or}
@@ -23,51 +23,17 @@ got_there (y ∷ xs) (suc f) x is within = got_there xs f x is (omega arith)
 
 activity_first : (x : Counted) (m : Marked) (f k : ℕ) → IsInOrder x.chains m.pages → HaveOwnNumbers x.chains.numbers m.pages → get_or x.touchers f 0 ≡ touchers_in m.pages m.marks f
     → cond (nat_lt 0 (get_or x.touchers f 0)) (one_first (next_in x.chains f None) k) 0 ≡ activity_in (number_in x.chains.numbers) m k f
-activity_first x m f k order apart touchers =
-    let first = charge_is_first x.chains m.pages f k order apart in
-    some_touched (get_or x.touchers f 0) (one_first (next_in x.chains f None) k) ∙ rw (touchers, first) refl
+activity_first x m f k order apart touchers = search (rules, charge_is_first, some_touched)
 
 -- a frame is counted for nobody any more
 pub aside : (x : Counted) (m : Marked) (f : ℕ) (counts2 : List Counts) → IsIndexOf x m → f < length x.chains.ends
     → CountsOneMore (next_in x.chains f None) (nat_lt 0 (get_or x.touchers f 0)) counts2 x.counts → IsIndexBut f (record x { counts = counts2 }) m
-aside x m f counts2 index frame less = record {
-  order = index.order;
-  apart = index.apart;
-  measured = record {
-    places = index.measured.places;
-    counts = sym less.length ∙ index.measured.counts;
-    touchers = index.measured.touchers;
-    frames = index.measured.frames;
-    few = index.measured.few;
-    small = index.measured.small;
-  };
-  counted = record {
-    charged = λ i. (let a = less.charged i in let b = index.counted.charged i in let c = charge_is_first x.chains m.pages f i index.order index.apart in omega arith);
-    active = λ i. (let a = less.active i in let b = index.counted.active i in let c = activity_first x m f i index.order index.apart (index.counted.touchers f frame) in omega arith);
-    touchers = index.counted.touchers;
-  };
-}
+aside x m f counts2 index frame less = search (rules, charge_is_first, activity_first)
 
 -- and again for the instance of the first page on it
 pub again : (x : Counted) (m : Marked) (f : ℕ) (counts2 : List Counts) → IsIndexBut f x m → f < length x.chains.ends
     → CountsOneMore (next_in x.chains f None) (nat_lt 0 (get_or x.touchers f 0)) x.counts counts2 → IsIndexOf (record x { counts = counts2 }) m
-again x m f counts2 index frame more = record {
-  order = index.order;
-  apart = index.apart;
-  measured = record {
-    places = index.measured.places;
-    counts = more.length ∙ index.measured.counts;
-    touchers = index.measured.touchers;
-    frames = index.measured.frames;
-    few = index.measured.few;
-    small = index.measured.small;
-  };
-  counted = record {
-    charged = λ i. (let a = more.charged i in let b = index.counted.charged i in let c = charge_is_first x.chains m.pages f i index.order index.apart in omega arith);
-    active = λ i. (let a = more.active i in let b = index.counted.active i in let c = activity_first x m f i index.order index.apart (index.counted.touchers f frame) in omega arith);
-    touchers = index.counted.touchers;
-  };
-}
+again x m f counts2 index frame more = search (rules, charge_is_first, activity_first)
 
 -- what there is at the first page's place
 place_of_first : (x : Counted) (m : Marked) (f : ℕ) (id : PageId) → IsInOrder x.chains m.pages → IsMeasured x m → next_in x.chains f None ≡ Some id → id.place < length x.counts
@@ -111,27 +77,12 @@ has_active x m f t index frame got (Some id) is = λ some. (
 pub room_charged : (x : Counted) (m : Marked) (f : ℕ) → IsIndexBut f x m → f < length x.chains.ends → (first : Option PageId) → next_in x.chains f None ≡ first
     → IfSome first (λ id. (id.place < length x.counts) × ((counts_at x.counts id.place).charged + 1 < 4294967296))
 room_charged x m f index frame None is = tt
-room_charged x m f index frame (Some id) is = (
-  place_of_first x m f id index.order index.measured is,
-  (let e = one_here 0 id (charge_in (number_in x.chains.numbers) m.pages id.place f) (charge_is_first x.chains m.pages f id.place index.order index.apart ∙ ap (λ w. one_first w id.place) is) in
-      let few = charged_few (number_in x.chains.numbers) m.pages (length x.chains.ends) id.place in
-      let count = index.counted.charged id.place in
-      let frames = index.measured.frames in
-      omega arith),
-)
+room_charged x m f index frame (Some id) is = search (rules, place_of_first, one_here, charge_is_first, charged_few)
 
 pub room_active : (x : Counted) (m : Marked) (f t : ℕ) → IsIndexBut f x m → f < length x.chains.ends → get_or x.touchers f 0 ≡ t → (first : Option PageId) → next_in x.chains f None ≡ first
     → IfSome first (λ id. IsTrue (nat_lt 0 t) → (counts_at x.counts id.place).active + 1 < 4294967296)
 room_active x m f t index frame got None is = tt
-room_active x m f t index frame got (Some id) is = λ some. (
-    let e = one_here 0 id (charge_in (number_in x.chains.numbers) m.pages id.place f) (charge_is_first x.chains m.pages f id.place index.order index.apart ∙ ap (λ w. one_first w id.place) is) in
-    let same : t ≡ touchers_in m.pages m.marks f = sym got ∙ index.counted.touchers f frame in
-    let term : activity_in (number_in x.chains.numbers) m id.place f ≡ charge_in (number_in x.chains.numbers) m.pages id.place f = touched_term (touchers_in m.pages m.marks f) (charge_in (number_in x.chains.numbers) m.pages id.place f) (subst (λ w. IsTrue (nat_lt 0 w)) same some) in
-    let few = charged_few (number_in x.chains.numbers) m.pages (length x.chains.ends) id.place in
-    let fewer = active_few (number_in x.chains.numbers) m (length x.chains.ends) id.place in
-    let count = index.counted.active id.place in
-    let frames = index.measured.frames in
-    omega arith)
+room_active x m f t index frame got (Some id) is = search (rules, one_here, charge_is_first, touched_term, charged_few, active_few)
 
 -- Where nothing changes but on one frame, what is counted beside it stays.
 pub but_changes : (x x2 : Counted) (m m2 : Marked) (f : ℕ) → HasCountsBut f x m → f < length x.chains.ends
@@ -151,8 +102,5 @@ but_changes x x2 m m2 f counted frame counts numbers ends charges touchers here 
           (λ g other. rw (touchers g other, charges i g other) refl) in
           let old = counted.active i in
           (omega arith));
-      touchers = λ g within. elim (here_or f g) [
-        | inl same ↦ rw same here
-        | inr away ↦ others g away ∙ counted.touchers g (omega arith) ∙ sym (touchers g away)
-      ];
+      touchers = search (rules, here_or);
     }

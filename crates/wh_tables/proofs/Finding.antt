@@ -1,5 +1,5 @@
 -- Pages that are looked for among those of an instance.
-use Rattle.std.proofs.Common.{◌≡◌, ◌∙◌, ℕ, ◌<◌, ◌≤◌, Bool, List, [], ◌∷◌, Option, Some, None, length, get_or, slice_get, zero, suc, sym, ap, arith}
+use Rattle.std.proofs.Common.{◌≡◌, ◌∙◌, ℕ, ◌<◌, ◌≤◌, Bool, List, [], ◌∷◌, Option, Some, None, length, get_or, slice_get, zero, suc, arith, rules}
 use Rattle.wh_space_model.specs.declared.states.Page.{Page}
 use Rattle.wh_pages.specs.Seeking.{IsFirstFrom, IsSought}
 use Rattle.wh_pages.specs.Table.{PageTableState}
@@ -12,23 +12,7 @@ next_map P Q there back from (Some p) next = ((there p next.0.0, next.0.1), λ q
 
 pub next_at : (tables : List PageTableState) (i : ℕ) (t : PageTableState) (idle : Bool) (from : ℕ) (o : Option ℕ) → i < length tables → t ≡ get_or tables i t → IsFirstFrom (IsSought t idle) from o
     → IsFirstFrom (IsSoughtAt (pages_by_place tables) (marks_by_place tables) i idle) from o
-next_at tables i t idle from o within found next =
-    let pages : get_or (pages_by_place tables) i [] ≡ t.pages = column_at (λ (z : PageTableState). z.pages) tables i t [] within found in
-    let marks : get_or (marks_by_place tables) i [] ≡ t.touched = column_at (λ (z : PageTableState). z.touched) tables i t [] within found in
-    next_map (IsSought t idle) (IsSoughtAt (pages_by_place tables) (marks_by_place tables) i idle)
-    (λ q x. record {
-      page = x.page;
-      there = ap (λ (xs : List Page). slice_get xs q) pages ∙ x.there;
-      stands = x.stands;
-      untouched = λ so e. x.untouched so (sym (ap (λ (xs : List Bool). slice_get xs q) marks) ∙ e);
-    })
-    (λ q x. record {
-      page = x.page;
-      there = sym (ap (λ (xs : List Page). slice_get xs q) pages) ∙ x.there;
-      stands = x.stands;
-      untouched = λ so e. x.untouched so (ap (λ (xs : List Bool). slice_get xs q) marks ∙ e);
-    })
-    from o next
+next_at tables i t idle from o within found next = search (rules, column_at, next_map)
 
 past_rows : {X : Type 0} (xss : List (List X)) (i q : ℕ) (x : X) → length xss ≤ i → slice_get (get_or xss i []) q ≡ Some x → 1 ≤ 0
 past_rows [] i zero x past e = cc

@@ -1,5 +1,5 @@
 -- The tables and their index, when one page is another one now.
-use Rattle.std.proofs.Common.{◌≡◌, ℕ, ◌<◌, inl, inr, cond, Bool, true, false, List, [], ◌∷◌, Option, Some, None, length, map, slice_get, slice_set, get_or, zero, suc, refl, sym, ap, ◌∙◌, subst, arith, length-set}
+use Rattle.std.proofs.Common.{◌≡◌, ℕ, ◌<◌, inl, inr, cond, Bool, true, false, List, [], ◌∷◌, Option, Some, None, length, map, slice_get, slice_set, get_or, zero, suc, refl, sym, ap, ◌∙◌, subst, arith, length-set, rules}
 use Rattle.wh_space_model.specs.{one_if, frame_of, page_at, put, stands_on}
 use Rattle.wh_space_model.specs.declared.states.Page.{Page}
 use Rattle.wh_space_model.specs.declared.states.Page.TheVariants.{Untouched, Private, Shared, Leaving, LeavingShared, Coming, Swapped}
@@ -74,8 +74,7 @@ place_within (t ∷ tables) zero p within = omega arith
 place_within (t ∷ tables) (suc i) p within = let rest = place_within tables i p within in omega arith
 
 pub row_within : (tables : List PageTableState) (i p : ℕ) (row : PageTableState) → row ≡ get_or tables i row → p < length (get_or (pages_by_place tables) i []) → p < length row.pages
-row_within tables i p row found within =
-    let e = ap length (column_at (λ (t : PageTableState). t.pages) tables i row [] (place_within tables i p within) found) in omega arith
+row_within tables i p row found within = search (rules, column_at, place_within)
 
 pub page_there : (tables : List PageTableState) (i p : ℕ) (x : Page) → page_at (pages_by_place tables) i p ≡ Some x → p < length (get_or (pages_by_place tables) i [])
 page_there tables i p x there = (is_page (pages_by_place tables) i p x there).1
@@ -89,42 +88,22 @@ some_mark (m ∷ marks) zero within = (m, refl)
 some_mark (m ∷ marks) (suc p) within = some_mark marks p (omega arith)
 
 pub place_small : (tables : List PageTableState) (x : Counted) (i p : ℕ) → AreIndexed tables x → p < length (get_or (pages_by_place tables) i []) → i < 4294967296
-place_small tables x i p kept within =
-    let place = place_within tables i p within in
-    let long = long_map (λ (t : PageTableState). t.pages) tables in
-    let few = kept.index.measured.few in
-    omega arith
+place_small tables x i p kept within = search (rules, place_within, long_map)
 
 -- ---- one page
 
 pub marked_page : (tables : List PageTableState) (i p : ℕ) (row new : PageTableState) (page : Page) → row ≡ get_or tables i row → new ≡ record row { pages = slice_set row.pages p page }
     → marked_of (slice_set tables i new) ≡ with_page (marked_of tables) (record { place = i; page = p }) page
-marked_page tables i p row new page found is =
-    let pages = column_put (λ (t : PageTableState). t.pages) tables i p row new page found (ap (λ (t : PageTableState). t.pages) is) in
-    let marks = column_stays (λ (t : PageTableState). t.touched) tables i row new found (ap (λ (t : PageTableState). t.touched) is) in
-    rw (pages, marks) refl
+marked_page tables i p row new page found is = search (rules, column_put, column_stays)
 
 pub tables_page : (tables : List PageTableState) (x x2 : Counted) (i p : ℕ) (row new : PageTableState) (page : Page) → row ≡ get_or tables i row → new ≡ record row { pages = slice_set row.pages p page } → IsAsLarge x.chains x2.chains
     → tables_with (slice_set tables i new) x2 ≡ record (tables_with tables x) { pages = put (pages_by_place tables) i p page }
-tables_page tables x x2 i p row new page found is large =
-    let pages = column_put (λ (t : PageTableState). t.pages) tables i p row new page found (ap (λ (t : PageTableState). t.pages) is) in
-    let marks = column_stays (λ (t : PageTableState). t.touched) tables i row new found (ap (λ (t : PageTableState). t.touched) is) in
-    let limits = column_stays (λ (t : PageTableState). t.max) tables i row new found (ap (λ (t : PageTableState). t.max) is) in
-    rw (pages, marks, limits, large.numbers, large.ends) refl
+tables_page tables x x2 i p row new page found is large = search (rules, column_put, column_stays)
 
 -- what is kept beside the index
 kept_row : (tables : List PageTableState) (x x2 : Counted) (i : ℕ) (row new : PageTableState) → AreIndexed tables x → row ≡ get_or tables i row → new.max ≡ row.max → length new.pages ≡ length row.pages → length new.touched ≡ length row.touched
     → IsAsLarge x.chains x2.chains → IsIndexOf x2 (marked_of (slice_set tables i new)) → AreIndexed (slice_set tables i new) x2
-kept_row tables x x2 i row new kept found max pages marks large index =
-    let limits = column_stays (λ (t : PageTableState). t.max) tables i row new found max in
-    record {
-      index = index;
-      places = large.places ∙ kept.places ∙ sym (length-set tables i new);
-      links = λ j. (let a = kept.links j in let b = large.pages j in let c = ap (λ z. get_or z j 0) limits in omega arith);
-      small = λ j. (let a = kept.small j in let c = ap (λ z. get_or z j 0) limits in omega arith);
-      rows = λ j. (let a = kept.rows j in let b = column_lengths (λ (t : PageTableState). t.pages) tables i row new found pages j in let c = ap (λ z. get_or z j 0) limits in omega arith);
-      marks = λ j. (let a = kept.marks j in let b = column_lengths (λ (t : PageTableState). t.pages) tables i row new found pages j in let c = column_lengths (λ (t : PageTableState). t.touched) tables i row new found marks j in omega arith);
-    }
+kept_row tables x x2 i row new kept found max pages marks large index = search (rules, column_stays, length-set, column_lengths)
 
 pub kept_page : (tables : List PageTableState) (x x2 : Counted) (i p : ℕ) (row new : PageTableState) (page : Page) → AreIndexed tables x → row ≡ get_or tables i row → new ≡ record row { pages = slice_set row.pages p page }
     → IsAsLarge x.chains x2.chains → IsIndexOf x2 (with_page (marked_of tables) (record { place = i; page = p }) page) → AreIndexed (slice_set tables i new) x2
@@ -166,14 +145,7 @@ page_alike tables x i p was page kept there same =
       to f z same on =
           elim (same_id z (record { place = i; page = p })) [
             | inr other ↦ (let e = others_stand (pages_by_place tables) (record { place = i; page = p }) page f z other in omega arith)
-            | inl is ↦
-                (let e = put_stands (pages_by_place tables) (record { place = i; page = p }) was page f there in
-                let old = page_of_standing (pages_by_place tables) f (record { place = i; page = p }) (subst (λ w. StandsOn (pages_by_place tables) f w) is on) in
-                let both : Some was ≡ Some old.0 = sym there ∙ old.1 in
-                let one : was ≡ old.0 = cc in
-                let stood : stands_on f was ≡ 1 = subst (λ (w : Page). stands_on f w ≡ 1) (sym one) old.2 in
-                let now : StandsOn (put (pages_by_place tables) i p page) f (record { place = i; page = p }) = omega arith in
-                subst (λ w. StandsOn (put (pages_by_place tables) i p page) f w) (sym is) now)
+            | inl is ↦ search (rules, put_stands, page_of_standing)
           ]
 
       back : (f : ℕ) (z : PageId) → stands_on f page ≡ stands_on f was → StandsOn (put (pages_by_place tables) i p page) f z → StandsOn (pages_by_place tables) f z
@@ -199,31 +171,17 @@ put_put (xs ∷ pages) (suc i) p x y = let e = put_put pages i p x y in cc
 
 -- a page that is there has links
 pub links_there : (tables : List PageTableState) (x : Counted) (i p f : ℕ) → AreIndexed tables x → p < length (get_or (pages_by_place tables) i []) → f < length x.chains.ends → IsInRange x.chains f (record { place = i; page = p })
-links_there tables x i p f kept within frame =
-    let place = place_within tables i p within in
-    let long = long_map (λ (t : PageTableState). t.pages) tables in
-    record {
-      place = (let a = kept.index.measured.places in omega arith);
-      frame = frame;
-      page = (let a = kept.rows i in let b = kept.links i in omega arith);
-    }
+links_there tables x i p f kept within frame = search (rules, place_within, long_map)
 
 -- ---- one mark
 
 pub marked_mark : (tables : List PageTableState) (i p : ℕ) (row new : PageTableState) (mark : Bool) → row ≡ get_or tables i row → new ≡ record row { touched = slice_set row.touched p mark }
     → marked_of (slice_set tables i new) ≡ with_mark (marked_of tables) (record { place = i; page = p }) mark
-marked_mark tables i p row new mark found is =
-    let marks = column_put (λ (t : PageTableState). t.touched) tables i p row new mark found (ap (λ (t : PageTableState). t.touched) is) in
-    let pages = column_stays (λ (t : PageTableState). t.pages) tables i row new found (ap (λ (t : PageTableState). t.pages) is) in
-    rw (pages, marks) refl
+marked_mark tables i p row new mark found is = search (rules, column_put, column_stays)
 
 pub tables_mark : (tables : List PageTableState) (x x2 : Counted) (i p : ℕ) (row new : PageTableState) (mark : Bool) → row ≡ get_or tables i row → new ≡ record row { touched = slice_set row.touched p mark } → IsAsLarge x.chains x2.chains
     → tables_with (slice_set tables i new) x2 ≡ record (tables_with tables x) { marks = put (marks_by_place tables) i p mark }
-tables_mark tables x x2 i p row new mark found is large =
-    let marks = column_put (λ (t : PageTableState). t.touched) tables i p row new mark found (ap (λ (t : PageTableState). t.touched) is) in
-    let pages = column_stays (λ (t : PageTableState). t.pages) tables i row new found (ap (λ (t : PageTableState). t.pages) is) in
-    let limits = column_stays (λ (t : PageTableState). t.max) tables i row new found (ap (λ (t : PageTableState). t.max) is) in
-    rw (pages, marks, limits, large.numbers, large.ends) refl
+tables_mark tables x x2 i p row new mark found is large = search (rules, column_put, column_stays)
 
 pub kept_mark : (tables : List PageTableState) (x x2 : Counted) (i p : ℕ) (row new : PageTableState) (mark : Bool) → AreIndexed tables x → row ≡ get_or tables i row → new ≡ record row { touched = slice_set row.touched p mark }
     → IsAsLarge x.chains x2.chains → IsIndexOf x2 (with_mark (marked_of tables) (record { place = i; page = p }) mark) → AreIndexed (slice_set tables i new) x2
@@ -241,14 +199,7 @@ mark_alike tables x i p page mark2 kept there none =
     let marks = kept.marks i in
     let mark = some_mark (get_or (marks_by_place tables) i []) p (omega arith) in
     index_alike x x m (with_mark m id mark2) kept.index (record {
-      measured = record {
-        places = kept.index.measured.places;
-        counts = kept.index.measured.counts;
-        touchers = kept.index.measured.touchers;
-        frames = kept.index.measured.frames;
-        few = kept.index.measured.few;
-        small = kept.index.measured.small;
-      };
+      measured = search rules;
       apart = kept.index.apart;
       ends = refl;
       touchers = refl;

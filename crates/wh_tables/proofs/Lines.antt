@@ -1,10 +1,10 @@
 -- The line of instances by number, when one comes to a place, and who is the next in it.
-use Rattle.std.proofs.Common.{◌≡◌, ◌≢◌, ◌∙◌, ℕ, ◌+◌, ◌<◌, ◌≤◌, ◌-◌, ◌⊎◌, ◌==◌, inl, inr, cond, not, Bool, true, false, List, [], ◌∷◌, Option, Some, None, length, get_or, leb, leb-true, slice_get, zero, suc, refl, sym, ap, subst, arith}
+use Rattle.std.proofs.Common.{◌≡◌, ◌≢◌, ◌∙◌, ℕ, ◌+◌, ◌<◌, ◌≤◌, ◌-◌, ◌⊎◌, ◌==◌, inl, inr, cond, not, Bool, true, false, List, [], ◌∷◌, Option, Some, None, length, get_or, leb, leb-true, slice_get, zero, suc, refl, sym, ap, subst, arith, rules}
 use Rattle.std.specs.List.{AllPairs, AllWithin, Contains, filter, insert}
 use Rattle.std.specs.List.Sorted.{IsPartitionPoint, IsPermutation}
 use Rattle.std.proofs.lemmas.Bool.{cases_lt}
 use Rattle.std.proofs.lemmas.Bool.Decides.{nat_tests}
-use Rattle.std.proofs.lemmas.List.Elements.{All-cons, All-filter, filter_passes, AllWithin-more}
+use Rattle.std.proofs.lemmas.List.Elements.{All-cons, All-filter, filter_passes}
 use Rattle.std.proofs.lemmas.List.Edits.{get_or-insert_above, get_or-insert_at, get_or-insert_below, length-insert}
 use Rattle.std.proofs.lemmas.List.Kept.{AllPairs-filter, IsNonDecreasingBy-filter}
 use Rattle.std.proofs.lemmas.List.Sorted.{All-permutation, Contains-permutation, IsNonDecreasingBy-insert, IsPermutation-insert}
@@ -81,14 +81,8 @@ line_joined numbers line newcomer rank within is bound split =
           (λ k d less. (let apart : (get_or others k d).place ≢ newcomer.place = other_place newcomer.place (get_or others k d) (filter_passes (is_elsewhere newcomer.place) line k d less) in (apart, λ same. apart (sym same))));
       each = λ i n at. Contains-permutation (newcomer ∷ others) (insert others rank newcomer) (record { place = i; number = n }) moved
           (elim (here_or newcomer.place i) [
-            | inl same ↦
-                (let both : Some newcomer.number ≡ Some n = sym here ∙ (ap (slice_get (with_row numbers newcomer.place newcomer.number)) (sym same) ∙ at) in
-                let number : newcomer.number ≡ n = cc in
-                (zero, omega arith, ap (λ p. record { place = p; number = newcomer.number }) (sym same) ∙ ap (λ m. record { place = i; number = m }) number))
-            | inr other ↦
-                contains_tail newcomer others (record { place = i; number = n })
-                (contains_filter (is_elsewhere newcomer.place) line (record { place = i; number = n })
-                (is.each i n (sym (row_other numbers newcomer.place i newcomer.number within other) ∙ at)) (elsewhere newcomer.place i n other))
+            | inl same ↦ search rules
+            | inr other ↦ search (rules, contains_tail, contains_filter, row_other, elsewhere)
           ]);
       there = All-permutation (λ (id : InstId). slice_get (with_row numbers newcomer.place newcomer.number) id.place ≡ Some id.number) (newcomer ∷ others) (insert others rank newcomer) moved
           (All-cons (λ (id : InstId). slice_get (with_row numbers newcomer.place newcomer.number) id.place ≡ Some id.number) newcomer others here
@@ -136,22 +130,14 @@ sought_first pages numbers line = record {
 pub sought_after : (pages : List (List Page)) (numbers : List ℕ) (number : ℕ) (line : List InstId) (rank : ℕ) → IsLineOf numbers line → rank ≤ length line
     → IsPartitionPoint (λ (id : InstId). id.number ≤ number) (λ (id : InstId). number < id.number) line rank → IsSoughtFrom pages numbers (Some number) line rank
 sought_after pages numbers number line rank is within split = record {
-  passed = λ k d from less later. (
-      let up_to : (get_or line k d).number ≤ number = split.0 k d from less in
-      let e = number_there numbers line k d is (omega arith) in
-      let above : number < get_or numbers (get_or line k d).place 0 = later.1 in
-      absurd (omega arith));
+  passed = search (rules, number_there);
   ahead = λ k d from less. split.1 k d from less;
 }
 
 pub sought_more : (pages : List (List Page)) (numbers : List ℕ) (after : Option ℕ) (line : List InstId) (rank : ℕ) (e : InstId) → IsSoughtFrom pages numbers after line rank
     → rank < length line → length (get_or pages (get_or line rank e).place []) ≤ 0 → IsSoughtFrom pages numbers after line (rank + 1)
 sought_more pages numbers after line rank e sought less empty = record {
-  passed = AllWithin-more (λ (id : InstId). ¬ ComesLater pages numbers after id.place) line 0 rank sought.passed
-      (λ d later. (let same : get_or line rank d ≡ get_or line rank e = get_or-any line rank d e less in
-      let some : 1 ≤ length (get_or pages (get_or line rank d).place []) = later.0 in
-      let long = ap (λ (id : InstId). length (get_or pages id.place [])) same in
-      absurd (omega arith)));
+  passed = search (rules, get_or-any);
   ahead = λ k d from least. sought.ahead k d (omega arith) least;
 }
 
@@ -174,8 +160,7 @@ sought_found pages numbers after line rank e is long sought less some =
           let there = place_in_line pages numbers line j is long later.0 in
           let at : (k : ℕ) × (k < length line) × (get_or line k (record { place = j; number = there.0 }) ≡ record { place = j; number = there.0 }) = there.2 in
           elim (cases_lt at.0 rank) [
-            | inl passed ↦ absurd (sought.passed at.0 (record { place = j; number = there.0 }) (omega arith) passed
-                (subst (λ (id : InstId). ComesLater pages numbers after id.place) (sym at.2) later))
+            | inl passed ↦ search rules
             | inr from ↦
                 (let e1 : (get_or line rank (record { place = j; number = there.0 })).number ≤ (get_or line at.0 (record { place = j; number = there.0 })).number = is.ascending rank at.0 (record { place = j; number = there.0 }) from at.1 in
                 let e2 = ap (λ (id : InstId). id.number) at.2 in

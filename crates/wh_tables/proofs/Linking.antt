@@ -1,6 +1,6 @@
 -- Links from each member to the next in order: they stay so when one comes and when one goes. With the order turned they
 -- are those to the one before.
-use Rattle.std.proofs.Common.{◌≡◌, ◌≢◌, ◌⊎◌, inl, inr, Option, Some, sym, ap, ◌∙◌, subst}
+use Rattle.std.proofs.Common.{◌≡◌, ◌≢◌, ◌⊎◌, inl, inr, Option, Some, sym, ap, ◌∙◌, subst, rules}
 use Rattle.wh_tables.specs.PageLinks.{LeadsToNearest}
 
 pub record IsOrder {X : Type 0} (Before : X → X → Type 0) : Type 0 where
@@ -27,38 +27,16 @@ pub link_put : {X : Type 0} (On : X → Type 0) (Before : X → X → Type 0) (a
 link_put On Before at k link link2 order leads behind new to_k from_k same x (inr is) =
     let e : link2 x ≡ link at = ap link2 is ∙ from_k in
     record {
-      there = λ y to. (
-          let old = (leads at behind.on).there y (sym e ∙ to) in (
-            inl old.0,
-            elim (order.order x y) [
-              | inl one ↦ absurd (new (subst On (sym one ∙ is) old.0))
-              | inr (inl less) ↦ less
-              | inr (inr more) ↦ absurd (behind.last y old.0 (subst (λ z. Before y z) is more) old.1)
-            ],
-          ));
+      there = search rules;
       nearest = λ z on less. (
           elim on [
             | inr one ↦ absurd (order.apart k (subst (λ w. Before w k) is (subst (λ w. Before x w) one less)))
-            | inl old ↦
-                (let near = (leads at behind.on).nearest z old (order.after at k z behind.before (subst (λ w. Before w z) is less)) in
-                (near.0, e ∙ near.1, near.2))
+            | inl old ↦ search rules
           ]);
     }
 link_put On Before at k link link2 order leads behind new to_k from_k same x (inl on) =
     elim (order.order x at) [
-      | inl here ↦
-          (let e : link2 x ≡ Some k = ap link2 here ∙ to_k in
-          record {
-            there = λ y to. (let both : Some k ≡ Some y = sym e ∙ to in let one : k ≡ y = cc in (inr (sym one), subst (λ w. Before w y) (sym here) (subst (λ w. Before at w) one behind.before)));
-            nearest = λ z member less. (
-              k,
-              e,
-              elim member [
-                | inr one ↦ (λ bad. order.apart k (subst (λ w. Before w k) one bad))
-                | inl old ↦ (λ bad. behind.last z old bad (subst (λ w. Before w z) here less))
-              ],
-            );
-          })
+      | inl here ↦ search rules
       | inr away ↦
           (let apart : x ≢ at = elim away [ inl less ↦ (λ q. order.apart at (subst (λ w. Before w at) q less)) | inr more ↦ (λ q. order.apart at (subst (λ w. Before at w) q more)) ] in
           let e : link2 x ≡ link x = same x apart (λ q. new (subst On q on)) in
@@ -66,10 +44,7 @@ link_put On Before at k link link2 order leads behind new to_k from_k same x (in
             there = λ y to. (let old = (leads x on).there y (sym e ∙ to) in (inl old.0, old.1));
             nearest = λ z member less. elim member [
               | inl old ↦ (let near = (leads x on).nearest z old less in (near.0, e ∙ near.1, near.2))
-              | inr one ↦
-                  (let lower : Before x at = elim away [ inl low ↦ low | inr high ↦ absurd (behind.last x on (subst (λ w. Before x w) one less) high) ] in
-                  let near = (leads x on).nearest at behind.on lower in
-                  (near.0, e ∙ near.1, λ bad. near.2 (order.after at k near.0 behind.before (subst (λ w. Before w near.0) one bad))))
+              | inr one ↦ search rules
             ];
           })
     ]
@@ -92,17 +67,5 @@ link_taken On Before at k link link2 order leads mine prior to_k from same x (on
                 let next = (leads k mine).nearest z member.0 behind in
                 (next.0, e ∙ next.1, next.2));
           })
-      | inr away ↦
-          (let apart : x ≢ at = elim away [ inl less ↦ (λ q. order.apart at (subst (λ w. Before w at) q less)) | inr more ↦ (λ q. order.apart at (subst (λ w. Before at w) q more)) ] in
-          let e : link2 x ≡ link x = same x apart in
-          let not_k : (y : _) → link x ≡ Some y → y ≢ k = λ y to q. (
-          let here = (leads x on).there y to in
-          elim away [
-            | inl low ↦ (let near = (leads x on).nearest at prior low in let both : Some y ≡ Some near.0 = sym to ∙ near.1 in let one : y ≡ near.0 = cc in near.2 (subst (λ w. Before at w) (sym q ∙ one) step.1))
-            | inr high ↦ (let near = (leads at prior).nearest x on high in let both : Some k ≡ Some near.0 = sym to_k ∙ near.1 in let one : k ≡ near.0 = cc in near.2 (subst (λ w. Before x w) (q ∙ one) here.1))
-          ]) in
-          record {
-            there = λ y to. (let old = (leads x on).there y (sym e ∙ to) in ((old.0, not_k y (sym e ∙ to)), old.1));
-            nearest = λ z member less. (let near = (leads x on).nearest z member.0 less in (near.0, e ∙ near.1, near.2));
-          })
+      | inr away ↦ search rules
     ]

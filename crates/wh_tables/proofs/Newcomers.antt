@@ -1,5 +1,5 @@
 -- The tables and their index when rows of pages come, grow and go, none of which stands on a frame; and when marks go.
-use Rattle.std.proofs.Common.{◌≡◌, ◌≢◌, ℕ, ◌+◌, ◌<◌, ◌≤◌, ◌==◌, ◌++◌, ◌⊎◌, inl, inr, cond, Bool, true, false, List, [], ◌∷◌, Option, Some, None, length, map, replicate, slice_get, slice_set, get_or, zero, suc, refl, sym, ap, ◌∙◌, arith, length-set, length-append}
+use Rattle.std.proofs.Common.{◌≡◌, ◌≢◌, ℕ, ◌+◌, ◌<◌, ◌≤◌, ◌==◌, ◌++◌, ◌⊎◌, inl, inr, cond, Bool, true, false, List, [], ◌∷◌, Option, Some, None, length, map, replicate, slice_get, slice_set, get_or, zero, suc, refl, sym, ap, ◌∙◌, arith, length-set, length-append, rules}
 use Rattle.std.proofs.lemmas.Bool.Decides.{nat_tests}
 use Rattle.std.proofs.lemmas.Bool.{cases_lt}
 use Rattle.wh_space_model.specs.{tally, frame_of, at, page_at, put, charge_in, charged_in, standing_at, stands_on, touched_on, touchers_in}
@@ -130,18 +130,9 @@ row_gone xs marks none = record {
 pub rows_where : (m m2 : Marked) (i : ℕ) → ((j : ℕ) → j ≢ i → (get_or m2.pages j [] ≡ get_or m.pages j []) × (get_or m2.marks j [] ≡ get_or m.marks j []))
     → HasSameRow (get_or m.pages i []) (get_or m2.pages i []) (get_or m.marks i []) (get_or m2.marks i []) → HaveSameRows m m2
 rows_where m m2 i others here = record {
-  stands = λ f j p. (elim (here_or i j) [
-    | inl same ↦ rw same (here.stands f p)
-    | inr away ↦ ap (λ row. at (stands_on f) (slice_get row p)) (others j away).0
-  ]);
-  standing = λ j f. (elim (here_or i j) [
-    | inl same ↦ rw same (here.standing f)
-    | inr away ↦ ap (λ row. tally (stands_on f) row) (others j away).0
-  ]);
-  touched = λ f j. (elim (here_or i j) [
-    | inl same ↦ rw same (here.touched f)
-    | inr away ↦ rw ((others j away).0, (others j away).1) refl
-  ]);
+  stands = search (rules, here_or);
+  standing = search (rules, here_or);
+  touched = search (rules, here_or);
 }
 
 -- ---- a table in place of one
@@ -189,19 +180,9 @@ kept_where tables x i row new kept within found max fits marks same apart =
     let m2 : Marked = marked_of (slice_set tables i new) in
     let limit : get_or (limits_by_place tables) i 0 ≡ row.max = column_at (λ (t : PageTableState). t.max) tables i row 0 within found in
     let many : length m2.pages ≡ length (pages_by_place tables) = long_map (λ (t : PageTableState). t.pages) (slice_set tables i new) ∙ length-set tables i new ∙ sym (long_map (λ (t : PageTableState). t.pages) tables) in
-    let rows : (j : ℕ) → length (get_or m2.pages j []) ≤ get_or (limits_by_place tables) j 0 = λ j. (elim (lengths_set (λ (t : PageTableState). t.pages) tables i new j) [
-      | inl here ↦ (let e = ap length here.2 in let l : get_or (limits_by_place tables) j 0 ≡ row.max = rw here.0 limit in omega arith)
-      | inr away ↦ (let e = ap length away in let a = kept.rows j in omega arith)
-    ]) in
+    let rows : (j : ℕ) → length (get_or m2.pages j []) ≤ get_or (limits_by_place tables) j 0 = search (rules, lengths_set) in
     let old = kept.index.measured in
-    let measured : IsMeasured x m2 = record {
-      places = old.places ∙ sym many;
-      counts = old.counts ∙ sym many;
-      touchers = old.touchers;
-      frames = old.frames;
-      few = (let a = old.few in omega arith);
-      small = λ j. (let a = rows j in let b = kept.small j in omega arith);
-    } in
+    let measured : IsMeasured x m2 = search rules in
     record {
       index = rows_index x (marked_of tables) m2 kept.index (tables_set_same tables i row new within found same) measured (apart_of apart);
       places = kept.places ∙ sym (length-set tables i new);
@@ -368,7 +349,6 @@ pub kept_unmarked : (tables : List PageTableState) (x : Counted) → AreIndexed 
 kept_unmarked tables x kept =
     let pages = same_pages tables in
     let limits = same_limits tables in
-    let long = long_map without_touched tables in
     let old = kept.index.measured in
     let many = ap length pages in
     record {
@@ -390,7 +370,7 @@ kept_unmarked tables x kept =
           touchers = λ f less. (none_here (length x.touchers) f ∙ sym (zero_touchers f));
         };
       };
-      places = kept.places ∙ sym long;
+      places = kept.places ∙ sym (long_map without_touched tables);
       links = λ i. (let a = kept.links i in let b = ap (λ z. get_or z i 0) limits in omega arith);
       small = λ i. (let a = kept.small i in let b = ap (λ z. get_or z i 0) limits in omega arith);
       rows = λ i. (let a = kept.rows i in let b = ap (λ z. get_or z i 0) limits in let d = ap (λ z. length (get_or z i [])) pages in omega arith);
@@ -443,11 +423,7 @@ kept_empty frames few = record {
       few = omega arith;
       small = λ i. omega arith;
     };
-    counted = record {
-      charged = λ i. sym (all_none (length (empty_index frames).chains.ends) (λ f. charge_in (number_in []) [] i f) (λ f less. refl));
-      active = λ i. sym (all_none (length (empty_index frames).chains.ends) (λ f. activity_in (number_in []) (record { pages = []; marks = [] }) i f) (λ f less. refl));
-      touchers = λ f less. none_here frames f;
-    };
+    counted = search (rules, all_none, none_here);
   };
   places = refl;
   links = λ i. omega arith;

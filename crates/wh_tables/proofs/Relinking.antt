@@ -1,5 +1,5 @@
 -- One link of many is another now.
-use Rattle.std.proofs.Common.{◌≡◌, ◌≢◌, ℕ, inl, inr, List, [], ◌∷◌, Option, Some, None, length, slice_get, get_or, zero, suc, refl, sym, ap, ◌∙◌, length-set}
+use Rattle.std.proofs.Common.{◌≡◌, ◌≢◌, ℕ, inl, inr, List, [], ◌∷◌, Option, Some, None, length, slice_get, get_or, zero, suc, refl, sym, ap, ◌∙◌, length-set, rules}
 use Rattle.wh_space_model.specs.{page_at, put}
 use Rattle.wh_space_model.proofs.Putting.{here_or, put_other, put_other_row, put_this}
 use Rattle.wh_tables.specs.declared.page_id.PageId.{PageId}
@@ -20,11 +20,7 @@ pub put_elsewhere : {X : Type 0} (xss : List (List X)) (a b : PageId) (x : X) �
 put_elsewhere xss a b x other =
     elim (here_or a.place b.place) [
       | inr away ↦ ap (λ row. slice_get row b.page) (put_other_row xss a.place a.page b.place x away)
-      | inl same ↦
-          elim (here_or a.page b.page) [
-            | inl too ↦ absurd (other (ap (λ i. record { place = i; page = b.page }) same ∙ ap (λ p. record { place = a.place; page = p }) too))
-            | inr apart ↦ rw same (put_other xss a.place a.page b.page x apart)
-          ]
+      | inl same ↦ search (rules, here_or, put_other)
     ]
 
 large_links : (c : Chains) (id : PageId) (link : Link) → IsAsLarge c (record c { links = put c.links id.place id.page link })

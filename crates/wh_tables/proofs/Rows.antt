@@ -1,5 +1,5 @@
 -- The links of all pages as they lie in memory, a row for each instance.
-use Rattle.std.proofs.Common.{◌≡◌, ℕ, ◌<◌, ◌++◌, cond, nat_lt, Bool, true, false, List, [], ◌∷◌, Option, Some, zero, suc, refl, sym, ap, ◌∙◌, subst, map, length, get_or, slice_get, slice_set, arith}
+use Rattle.std.proofs.Common.{◌≡◌, ℕ, ◌<◌, ◌++◌, List, [], ◌∷◌, Option, Some, zero, suc, refl, sym, ap, ◌∙◌, subst, map, length, get_or, slice_get, slice_set, arith, rules}
 use Rattle.std.proofs.lemmas.List.{length-map}
 use Rattle.std.specs.Global.{Vec as Items}
 use Rattle.std.specs.Vec.{with_item}
@@ -24,10 +24,7 @@ some_there (y ∷ xs) (suc p) x is within = some_there xs p x is (omega arith)
 pub found_link : (rows : List (Items Link)) (i p : ℕ) (row : Items Link) (l : Link) → row ≡ get_or rows i row → l ≡ get_or row.items p l
     → p < length (get_or (map (λ (r : Items Link). r.items) rows) i []) → page_at (map (λ (r : Items Link). r.items) rows) i p ≡ Some l
 found_link [] i p row l here is within = absurd (omega arith)
-found_link (r ∷ rows) zero p row l here is within =
-    let e : row ≡ r = here in
-    let there : l ≡ get_or r.items p l = is ∙ ap (λ (z : Items Link). get_or z.items p l) e in
-    some_there r.items p l there within
+found_link (r ∷ rows) zero p row l here is within = search (rules, some_there)
 found_link (r ∷ rows) (suc i) p row l here is within = found_link rows i p row l here is within
 
 abbrev pub chains_in : List ℕ → List (Items Link) → List Ends → Chains
@@ -37,8 +34,7 @@ pub next_of_rows : (numbers : List ℕ) (rows : List (Items Link)) (ends : List 
     → row ≡ get_or rows id.place row → l ≡ get_or row.items id.page l → HasLinks (chains_in numbers rows ends) f (Some id)
     → HasNext (chains_in numbers rows ends) f (Some id) to (chains_in numbers (slice_set rows id.place (with_item row id.page (record l { next = to }))) ends)
 next_of_rows numbers rows ends f id row l to here is within =
-    let there = found_link rows id.place id.page row l here is within in
-    let done = next_from_page (chains_in numbers rows ends) f id l to there in
+    let done = next_from_page (chains_in numbers rows ends) f id l to (found_link rows id.place id.page row l here is within) in
     let same = column_put (λ (r : Items Link). r.items) rows id.place id.page row (with_item row id.page (record l { next = to })) (record l { next = to }) here refl in
     subst (λ (z : List (List Link)). HasNext (chains_in numbers rows ends) f (Some id) to (record { numbers = numbers; links = z; ends = ends })) (sym same) done
 
@@ -46,8 +42,7 @@ pub prior_of_rows : (numbers : List ℕ) (rows : List (Items Link)) (ends : List
     → row ≡ get_or rows id.place row → l ≡ get_or row.items id.page l → HasLinks (chains_in numbers rows ends) f (Some id)
     → HasPrior (chains_in numbers rows ends) f (Some id) to (chains_in numbers (slice_set rows id.place (with_item row id.page (record l { prior = to }))) ends)
 prior_of_rows numbers rows ends f id row l to here is within =
-    let there = found_link rows id.place id.page row l here is within in
-    let done = prior_from_page (chains_in numbers rows ends) f id l to there in
+    let done = prior_from_page (chains_in numbers rows ends) f id l to (found_link rows id.place id.page row l here is within) in
     let same = column_put (λ (r : Items Link). r.items) rows id.place id.page row (with_item row id.page (record l { prior = to })) (record l { prior = to }) here refl in
     subst (λ (z : List (List Link)). HasPrior (chains_in numbers rows ends) f (Some id) to (record { numbers = numbers; links = z; ends = ends })) (sym same) done
 
@@ -61,7 +56,4 @@ map_set f (y ∷ xs) zero x = refl
 map_set f (y ∷ xs) (suc i) x = let e = map_set f xs i x in cc
 
 pub map_row : {X Y : Type 0} (f : X → Y) (xs : List X) (i : ℕ) (x : X) → map f (with_row xs i x) ≡ with_row (map f xs) i (f x)
-map_row f xs i x = let long = length-map xs f in rw long (go (nat_lt i (length xs))) where
-  go : (b : Bool) → map f (cond b (slice_set xs i x) (xs ++ x ∷ [])) ≡ cond b (slice_set (map f xs) i (f x)) (map f xs ++ f x ∷ [])
-  go true = map_set f xs i x
-  go false = map_append f xs x
+map_row f xs i x = search (rules, length-map, map_set, map_append)

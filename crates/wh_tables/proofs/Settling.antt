@@ -1,6 +1,5 @@
 -- The index but for one frame, when a page leaves it, comes to it, is marked there, or isn't any more.
-use Rattle.std.proofs.Common.{◌≡◌, ◌≢◌, ℕ, ◌+◌, ◌-◌, ◌<◌, ◌≤◌, inl, inr, cond, Bool, true, false, List, [], ◌∷◌, Some, length, slice_set, get_or, zero, suc, refl, sym, ap, ◌∙◌, subst, arith, length-set}
-use Rattle.wh_space_model.proofs.Putting.{here_or}
+use Rattle.std.proofs.Common.{◌≡◌, ◌≢◌, ℕ, ◌+◌, ◌-◌, ◌<◌, ◌≤◌, cond, Bool, true, false, List, [], ◌∷◌, Some, length, slice_set, get_or, zero, suc, refl, sym, ap, ◌∙◌, subst, arith, length-set, rules}
 use Rattle.wh_space_model.specs.declared.states.Page.{Page}
 use Rattle.wh_space_model.specs.declared.states.Page.TheVariants.{Untouched}
 use Rattle.wh_space_model.specs.{page_at, put, stands_on}
@@ -11,7 +10,7 @@ use Rattle.wh_space_model.proofs.Changing.{charge_same}
 use Rattle.wh_tables.proofs.Charging.{on_once}
 use Rattle.wh_tables.proofs.Counting.{but_changes}
 use Rattle.wh_tables.proofs.Relinking.{put_lengths}
-use Rattle.wh_tables.proofs.Standing.{one_frame, page_of_standing}
+use Rattle.wh_tables.proofs.Standing.{page_of_standing}
 use Rattle.wh_tables.proofs.Touching.{few_touchers, touchers_with_mark, touchers_with_page}
 
 got_set : (xs : List ℕ) (f x : ℕ) → f < length xs → get_or (slice_set xs f x) f 0 ≡ x
@@ -28,46 +27,17 @@ got_else (y ∷ xs) (suc f) (suc g) x other = got_else xs f g x (λ e. other (ap
 
 -- on another frame it doesn't stand
 stands_not : (f g : ℕ) (page : Page) → stands_on f page ≡ 1 → g ≢ f → stands_on g page ≡ 0
-stands_not f g page on other =
-    let most : stands_on g page ≤ 1 = on_once g (Some page) in
-    elim (here_or 1 (stands_on g page)) [
-      | inl one ↦ absurd (other (one_frame g f page one on))
-      | inr less ↦ least (stands_on g page) most less
-    ] where
-      least : (n : ℕ) → n ≤ 1 → n ≢ 1 → n ≡ 0
-      least zero most less = refl
-      least (suc zero) most less = absurd (less refl)
-      least (suc (suc n)) most less = absurd (omega arith)
+stands_not f g page on other = search rules
 
 -- what is measured stays, and so do numbers
 pub measured_page : (x x2 : Counted) (m : Marked) (id : PageId) (page : Page) → IsMeasured x m → IsAsLarge x.chains x2.chains → x2.counts ≡ x.counts → length x2.touchers ≡ length x.touchers → IsMeasured x2 (with_page m id page)
-measured_page x x2 m id page old large counts touchers =
-    let places = ap length large.numbers in
-    let many : length (put m.pages id.place id.page page) ≡ length m.pages = length-set m.pages id.place _ in
-    record {
-      places = (let a = old.places in omega arith);
-      counts = ap length counts ∙ old.counts ∙ sym many;
-      touchers = touchers ∙ old.touchers ∙ sym large.ends;
-      frames = (let a = old.frames in let b = large.ends in omega arith);
-      few = (let a = old.few in omega arith);
-      small = λ i. (let a = old.small i in let b = put_lengths m.pages id.place id.page page i in omega arith);
-    }
+measured_page x x2 m id page old large counts touchers = search (rules, length-set, put_lengths)
 
 measured_mark : (x x2 : Counted) (m : Marked) (id : PageId) (mark : Bool) → IsMeasured x m → x2.chains ≡ x.chains → x2.counts ≡ x.counts → length x2.touchers ≡ length x.touchers → IsMeasured x2 (with_mark m id mark)
-measured_mark x x2 m id mark old chains counts touchers = record {
-  places = rw chains old.places;
-  counts = ap length counts ∙ old.counts;
-  touchers = touchers ∙ old.touchers ∙ sym (ap (λ (z : Chains). length z.ends) chains);
-  frames = rw chains old.frames;
-  few = old.few;
-  small = old.small;
-}
+measured_mark x x2 m id mark old chains counts touchers = search rules
 
 pub apart_page : (numbers : List ℕ) (pages : List (List Page)) (id : PageId) (page : Page) → HaveOwnNumbers numbers pages → HaveOwnNumbers numbers (put pages id.place id.page page)
-apart_page numbers pages id page apart i j some also same =
-    let a = put_lengths pages id.place id.page page i in
-    let b = put_lengths pages id.place id.page page j in
-    apart i j (omega arith) (omega arith) same
+apart_page numbers pages id page apart i j some also same = search (rules, put_lengths)
 
 -- a page that goes from one frame to none, or from none to one
 other_page : (x x2 : Counted) (m : Marked) (f : ℕ) (id : PageId) (was page : Page) (touched : Bool) → IsIndexBut f x m → f < length x.chains.ends
@@ -138,11 +108,7 @@ counts_touched x m f id touched holds =
 
 -- and there is room to count
 pub room_touched : (x : Counted) (m : Marked) (f : ℕ) → IsIndexOf x m → f < length x.chains.ends → get_or x.touchers f 0 + 1 < 18446744073709551616
-room_touched x m f index frame =
-    let few = few_touchers m.pages m.marks f (λ page. on_once f (Some page)) index.measured.small in
-    let places = index.measured.few in
-    let old = index.counted.touchers f frame in
-    omega arith
+room_touched x m f index frame = search (rules, few_touchers, on_once)
 
 pub left_frame : (x y x2 : Counted) (m : Marked) (f : ℕ) (id : PageId) (touched : Bool) → HoldsOn x m f id touched → IsIndexBut f y m
     → y.chains ≡ x.chains → y.touchers ≡ x.touchers → IsInOrder x2.chains (put m.pages id.place id.page Untouched) → IsAsLarge y.chains x2.chains → x2.counts ≡ y.counts
@@ -173,16 +139,8 @@ come_frame x y x2 m f id was page touched holds on index frame order large count
 
 pub marked_there : (x y x2 : Counted) (m : Marked) (f : ℕ) (id : PageId) → HoldsOn x m f id false → IsIndexBut f y m → y.chains ≡ x.chains → x2.chains ≡ y.chains → x2.counts ≡ y.counts
     → x2.touchers ≡ slice_set y.touchers f (get_or y.touchers f 0 + 1) → IsIndexBut f x2 (with_mark m id true)
-marked_there x y x2 m f id holds index chains chains2 counts touchers =
-    let was = page_of_standing m.pages f id holds.on in
-    let frame = (holds.index.order.room f id holds.on).frame in
-    other_mark y x2 m f id was.0 false true index (rw chains frame) was.1 was.2 holds.mark chains2 counts (get_or y.touchers f 0 + 1) touchers (omega arith)
+marked_there x y x2 m f id holds index chains chains2 counts touchers = search (rules, page_of_standing, other_mark)
 
 pub unmarked_there : (x y x2 : Counted) (m : Marked) (f : ℕ) (id : PageId) → HoldsOn x m f id true → IsIndexBut f y m → y.chains ≡ x.chains → y.touchers ≡ x.touchers → x2.chains ≡ y.chains → x2.counts ≡ y.counts
     → x2.touchers ≡ slice_set y.touchers f (get_or y.touchers f 0 - 1) → IsIndexBut f x2 (with_mark m id false)
-unmarked_there x y x2 m f id holds index chains same chains2 counts touchers =
-    let was = page_of_standing m.pages f id holds.on in
-    let frame = (holds.index.order.room f id holds.on).frame in
-    let some = counts_touched x m f id true holds in
-    let b = ap (λ z. get_or z f 0) same in
-    other_mark y x2 m f id was.0 true false index (rw chains frame) was.1 was.2 holds.mark chains2 counts (get_or y.touchers f 0 - 1) touchers (omega arith)
+unmarked_there x y x2 m f id holds index chains same chains2 counts touchers = search (rules, page_of_standing, counts_touched, other_mark)

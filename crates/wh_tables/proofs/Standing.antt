@@ -1,5 +1,5 @@
 -- On which frame a page stands: on one at most, and what one page that is another one now changes of that.
-use Rattle.std.proofs.Common.{◌≡◌, ◌≢◌, ℕ, inl, inr, List, Option, Some, None, refl, sym, ap, ◌∙◌, subst, arith}
+use Rattle.std.proofs.Common.{◌≡◌, ◌≢◌, ℕ, inl, inr, List, Some, ap, ◌∙◌, arith, rules}
 use Rattle.wh_space_model.specs.{one_if, at, page_at, put, stands_on}
 use Rattle.wh_space_model.proofs.Tally.{one_other}
 use Rattle.wh_space_model.specs.declared.states.Page.{Page}
@@ -24,17 +24,10 @@ one_frame f g (Swapped k) here there = absurd (omega arith)
 
 -- the page that stands there
 pub page_of_standing : (pages : List (List Page)) (f : ℕ) (id : PageId) → StandsOn pages f id → (page : Page) × (page_at pages id.place id.page ≡ Some page) × (stands_on f page ≡ 1)
-page_of_standing pages f id on = go (page_at pages id.place id.page) refl on where
-  go : (x : Option Page) → page_at pages id.place id.page ≡ x → at (stands_on f) x ≡ 1 → (page : Page) × (page_at pages id.place id.page ≡ Some page) × (stands_on f page ≡ 1)
-  go None is none = absurd (omega arith)
-  go (Some page) is one = (page, is, one)
+page_of_standing pages f id on = search rules
 
 pub one_frame_of : (pages : List (List Page)) (f g : ℕ) (id : PageId) → StandsOn pages f id → StandsOn pages g id → f ≡ g
-one_frame_of pages f g id here there =
-    let a = page_of_standing pages f id here in
-    let b = page_of_standing pages g id there in
-    let e : a.0 ≡ b.0 = cc in
-    one_frame f g a.0 a.2 (subst (λ (x : Page). stands_on g x ≡ 1) (sym e) b.2)
+one_frame_of pages f g id here there = search rules
 
 -- where one page was put, each other stands where it stood
 pub others_stand : (pages : List (List Page)) (k : PageId) (y : Page) (g : ℕ) (z : PageId) → z ≢ k → at (stands_on g) (page_at (put pages k.place k.page y) z.place z.page) ≡ at (stands_on g) (page_at pages z.place z.page)

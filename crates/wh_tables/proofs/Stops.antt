@@ -1,41 +1,14 @@
 -- Walks along links, from their start or from a member on: orders of stops, and links there and back.
-use Rattle.std.proofs.Common.{◌≡◌, ◌⊎◌, inl, inr, Option, Some, None, refl, sym, ap, ◌∙◌, subst}
+use Rattle.std.proofs.Common.{◌≡◌, ◌⊎◌, inl, inr, Option, Some, None, refl, sym, ap, ◌∙◌, subst, rules}
 use Rattle.wh_tables.specs.PageLinks.{IsEarlierStop, IsStop, LeadsToNearest, Turned, stop_of}
 use Rattle.wh_tables.proofs.Linking.{IsOrder}
 
 -- the order turned is an order, and so is that of stops
 pub order_turned : {A : Type 0} (Before : A → A → Type 0) → IsOrder Before → IsOrder (Turned Before)
-order_turned Before order = record {
-  apart = λ x. order.apart x;
-  after = λ x y z less more. order.after z y x more less;
-  order = λ x y. elim (order.order x y) [ inl e ↦ inl e | inr (inl less) ↦ inr (inr less) | inr (inr more) ↦ inr (inl more) ];
-}
-
-stops_apart : {A : Type 0} (Before : A → A → Type 0) → IsOrder Before → (x : Option A) → ¬ IsEarlierStop Before x x
-stops_apart Before order None = λ bad. bad
-stops_apart Before order (Some x) = order.apart x
-
-stops_after : {A : Type 0} (Before : A → A → Type 0) → IsOrder Before → (x y z : Option A) → IsEarlierStop Before x y → IsEarlierStop Before y z → IsEarlierStop Before x z
-stops_after Before order None None z less more = absurd less
-stops_after Before order None (Some y) None less more = absurd more
-stops_after Before order None (Some y) (Some z) less more = tt
-stops_after Before order (Some x) None z less more = absurd less
-stops_after Before order (Some x) (Some y) None less more = absurd more
-stops_after Before order (Some x) (Some y) (Some z) less more = order.after x y z less more
-
-stops_order : {A : Type 0} (Before : A → A → Type 0) → IsOrder Before → (x y : Option A) → (x ≡ y) ⊎ (IsEarlierStop Before x y ⊎ IsEarlierStop Before y x)
-stops_order Before order None None = inl refl
-stops_order Before order None (Some y) = inr (inl tt)
-stops_order Before order (Some x) None = inr (inr tt)
-stops_order Before order (Some x) (Some y) =
-    elim (order.order x y) [ inl e ↦ inl (ap Some e) | inr (inl less) ↦ inr (inl less) | inr (inr more) ↦ inr (inr more) ]
+order_turned Before order = search rules
 
 pub order_of_stops : {A : Type 0} (Before : A → A → Type 0) → IsOrder Before → IsOrder (IsEarlierStop Before)
-order_of_stops Before order = record {
-  apart = stops_apart Before order;
-  after = stops_after Before order;
-  order = stops_order Before order;
-}
+order_of_stops Before order = search rules
 
 -- a link that leads to a member, as a link to a stop, and back
 pub to_stop : {A : Type 0} (link : Option A) (y : A) → link ≡ Some y → stop_of link ≡ Some (Some y)

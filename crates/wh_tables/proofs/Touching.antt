@@ -1,5 +1,5 @@
 -- How many touched pages stand on a frame, when one page or one mark is another one now.
-use Rattle.std.proofs.Common.{◌≡◌, ℕ, ◌+◌, ◌*◌, ◌<◌, ◌≤◌, cond, Bool, true, false, List, [], ◌∷◌, Some, length, slice_get, slice_set, get_or, zero, suc, refl, ap, arith, length-set}
+use Rattle.std.proofs.Common.{◌≡◌, ℕ, ◌+◌, ◌*◌, ◌<◌, ◌≤◌, cond, Bool, true, false, List, [], ◌∷◌, Some, length, slice_get, slice_set, get_or, zero, suc, refl, ap, arith, length-set, rules}
 use Rattle.wh_space_model.specs.declared.states.Page.{Page}
 use Rattle.wh_space_model.specs.{page_at, put, below, stands_on, touched_on, touchers_in}
 use Rattle.wh_space_model.proofs.Putting.{is_page, put_other_row}
@@ -14,18 +14,14 @@ row_with_page : (f : ℕ) (xs : List Page) (marks : List Bool) (p : ℕ) (x y : 
     → touched_on f (slice_set xs p y) marks + cond mark (stands_on f x) 0 ≡ touched_on f xs marks + cond mark (stands_on f y) 0
 row_with_page f [] marks p x y mark here there = cc
 row_with_page f (z ∷ xs) [] p x y mark here there = cc
-row_with_page f (z ∷ xs) (m ∷ marks) zero x y mark here there =
-    let e : z ≡ x = cc in let d : m ≡ mark = cc in
-    rw (e, d) (omega arith)
+row_with_page f (z ∷ xs) (m ∷ marks) zero x y mark here there = search rules
 row_with_page f (z ∷ xs) (m ∷ marks) (suc p) x y mark here there = let rest = row_with_page f xs marks p x y mark here there in omega arith
 
 row_with_mark : (f : ℕ) (xs : List Page) (marks : List Bool) (p : ℕ) (x : Page) (mark mark2 : Bool) → slice_get xs p ≡ Some x → slice_get marks p ≡ Some mark
     → touched_on f xs (slice_set marks p mark2) + cond mark (stands_on f x) 0 ≡ touched_on f xs marks + cond mark2 (stands_on f x) 0
 row_with_mark f [] marks p x mark mark2 here there = cc
 row_with_mark f (z ∷ xs) [] p x mark mark2 here there = cc
-row_with_mark f (z ∷ xs) (m ∷ marks) zero x mark mark2 here there =
-    let e : z ≡ x = cc in let d : m ≡ mark = cc in
-    rw (e, d) (omega arith)
+row_with_mark f (z ∷ xs) (m ∷ marks) zero x mark mark2 here there = search rules
 row_with_mark f (z ∷ xs) (m ∷ marks) (suc p) x mark mark2 here there = let rest = row_with_mark f xs marks p x mark mark2 here there in omega arith
 
 pub touchers_with_page : (pages : List (List Page)) (marks : List (List Bool)) (i p f : ℕ) (x y : Page) (mark : Bool) → page_at pages i p ≡ Some x → page_at marks i p ≡ Some mark
@@ -63,5 +59,4 @@ each_below zero v each = omega arith
 each_below (suc n) v each = let rest = each_below n v each in let one = each n in omega arith
 
 pub few_touchers : (pages : List (List Page)) (marks : List (List Bool)) (f : ℕ) → ((x : Page) → stands_on f x ≤ 1) → ((i : ℕ) → length (get_or pages i []) ≤ 65536) → touchers_in pages marks f ≤ 65536 * length pages
-few_touchers pages marks f each small =
-    each_below (length pages) (λ j. touched_on f (get_or pages j []) (get_or marks j [])) (λ j. (let row = few_in_row f (get_or pages j []) (get_or marks j []) each in let most = small j in omega arith))
+few_touchers pages marks f each small = search (rules, each_below, few_in_row)

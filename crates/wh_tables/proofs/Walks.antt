@@ -1,5 +1,5 @@
 -- The links of all frames, when a page leaves its frame and when one comes to a frame.
-use Rattle.std.proofs.Common.{◌≡◌, ◌≢◌, ℕ, ◌⊎◌, inl, inr, List, Option, Some, None, refl, sym, ap, ◌∙◌, subst, arith}
+use Rattle.std.proofs.Common.{◌≡◌, ◌≢◌, ℕ, ◌⊎◌, inl, inr, List, Option, Some, None, refl, sym, ap, ◌∙◌, subst, arith, rules}
 use Rattle.wh_space_model.specs.declared.states.Page.{Page}
 use Rattle.wh_space_model.specs.declared.states.Page.TheVariants.{Untouched}
 use Rattle.wh_space_model.specs.{page_at, put, stands_on}
@@ -15,10 +15,7 @@ use Rattle.wh_tables.proofs.Standing.{one_frame, one_frame_of, others_stand, pag
 -- the same members have the same links
 pub leads_alike : {X : Type 0} (On On2 : X → Type 0) (Before : X → X → Type 0) (x : X) (link link2 : Option X) → ((y : X) → On y → On2 y) → ((y : X) → On2 y → On y) → link2 ≡ link
     → LeadsToNearest On Before x link → LeadsToNearest On2 Before x link2
-leads_alike On On2 Before x link link2 to back same leads = record {
-  there = λ y e. (let old = leads.there y (sym same ∙ e) in (to y old.0, old.1));
-  nearest = λ z on less. (let near = leads.nearest z (back z on) less in (near.0, same ∙ near.1, near.2));
-}
+leads_alike On On2 Before x link link2 to back same leads = search rules
 
 pub stops_alike : (On On2 : PageId → Type 0) → ((y : PageId) → On y → On2 y) → (x : Option PageId) → IsStop On x → IsStop On2 x
 stops_alike On On2 to None on = tt
@@ -31,8 +28,7 @@ some_same x y e = cc
 apart_stop : (pages : List (List Page)) (f g : ℕ) (a at : Option PageId) → g ≢ f → IsStop (StandsOn pages f) a → IsStop (StandsOn pages g) at → IsElsewhere f a g at
 apart_stop pages f g a None away here there = inr (refl, away)
 apart_stop pages f g None (Some y) away here there = inl (λ e. cc)
-apart_stop pages f g (Some b) (Some y) away here there =
-    inl (λ e. (let same = some_same y b e in away (one_frame_of pages g f b (subst (λ w. StandsOn pages g w) same there) here)))
+apart_stop pages f g (Some b) (Some y) away here there = search rules
 
 linked_elsewhere : (Before : PageId → PageId → Type 0) (pages pages2 : List (List Page)) (fwd fwd2 : ℕ → Option PageId → Option PageId) (g : ℕ)
     → AreLinked Before pages fwd → ((z : PageId) → StandsOn pages g z → StandsOn pages2 g z) → ((z : PageId) → StandsOn pages2 g z → StandsOn pages g z)
@@ -45,15 +41,7 @@ linked_elsewhere Before pages pages2 fwd fwd2 g linked to back same at stop =
 
 -- a page that leaves its frame
 pub gone_from : (pages : List (List Page)) (f g : ℕ) (k z : PageId) → StandsOn pages f k → StandsOn (put pages k.place k.page Untouched) g z → StandsOn pages g z × (z ≢ k)
-gone_from pages f g k z on now =
-    let x = page_of_standing pages f k on in
-    elim (same_id z k) [
-      | inl same ↦ absurd (
-          let here : StandsOn (put pages k.place k.page Untouched) g k = subst (λ w. StandsOn (put pages k.place k.page Untouched) g w) same now in
-          let none = put_stands pages k x.0 Untouched g x.1 in
-          omega arith)
-      | inr other ↦ (let e = others_stand pages k Untouched g z other in (omega arith, other))
-    ]
+gone_from pages f g k z on now = search (rules, page_of_standing, same_id, put_stands, others_stand)
 
 stays_on : (pages : List (List Page)) (g : ℕ) (k z : PageId) (y : Page) → z ≢ k → StandsOn pages g z → StandsOn (put pages k.place k.page y) g z
 stays_on pages g k z y other on = let e = others_stand pages k y g z other in omega arith
@@ -89,26 +77,13 @@ way_taken Before pages fwd fwd2 f k a order linked on stop to_k now g at here =
 -- a page that comes to a frame
 pub come_to : (pages : List (List Page)) (f g : ℕ) (k z : PageId) (x y : Page) → page_at pages k.place k.page ≡ Some x → stands_on f y ≡ 1
     → StandsOn (put pages k.place k.page y) g z → StandsOn pages g z ⊎ ((z ≡ k) × (g ≡ f))
-come_to pages f g k z x y there new now =
-    elim (same_id z k) [
-      | inr other ↦ inl (let e = others_stand pages k y g z other in omega arith)
-      | inl same ↦
-          (let here : StandsOn (put pages k.place k.page y) g k = subst (λ w. StandsOn (put pages k.place k.page y) g w) same now in
-          let e = put_stands pages k x y g there in
-          inr (same, one_frame g f y (omega arith) new))
-    ]
+come_to pages f g k z x y there new now = search (rules, same_id, others_stand, put_stands, one_frame)
 
 new_stands : (pages : List (List Page)) (f : ℕ) (k : PageId) (x y : Page) → page_at pages k.place k.page ≡ Some x → stands_on f y ≡ 1 → StandsOn (put pages k.place k.page y) f k
 new_stands pages f k x y there new = let e = put_stands pages k x y f there in omega arith
 
 pub not_there : (pages : List (List Page)) (g : ℕ) (k : PageId) (x : Page) → page_at pages k.place k.page ≡ Some x → stands_on g x ≡ 0 → ¬ StandsOn pages g k
-not_there pages g k x there off on =
-    let page = page_of_standing pages g k on in
-    let both : Some x ≡ Some page.0 = sym there ∙ page.1 in
-    let e : x ≡ page.0 = cc in
-    let one = page.2 in
-    let none : stands_on g page.0 ≡ 0 = subst (λ (w : Page). stands_on g w ≡ 0) e off in
-    absurd (omega arith)
+not_there pages g k x there off on = search rules
 
 or_to : (pages : List (List Page)) (f : ℕ) (k : PageId) (x y : Page) → page_at pages k.place k.page ≡ Some x → ((g : ℕ) → stands_on g x ≡ 0) → stands_on f y ≡ 1
     → (at : Option PageId) → OrIs (IsStop (StandsOn pages f)) (Some k) at → IsStop (StandsOn (put pages k.place k.page y) f) at

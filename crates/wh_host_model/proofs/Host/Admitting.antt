@@ -1,5 +1,5 @@
 -- An admission that meets no fault can be accepted.
-use Rattle.std.proofs.Common.{◌≡◌, ℕ, ◌+◌, ◌*◌, ◌/◌, ◌<◌, ◌≤◌, inl, inr, false, replicate, List, [], ◌∷◌, reverse, Option, Some, None, length, refl, sym, ap, subst, ◌∙◌, arith}
+use Rattle.std.proofs.Common.{◌≡◌, ℕ, ◌+◌, ◌*◌, ◌/◌, ◌<◌, ◌≤◌, inl, inr, false, replicate, List, [], ◌∷◌, reverse, Option, Some, None, length, refl, sym, ap, subst, ◌∙◌, arith, rules}
 use Rattle.std.proofs.lemmas.List.{length-replicate}
 use Rattle.wh_model.specs.Format.{Body, FuncType, Module, nothing}
 use Rattle.wh_model.specs.Validity.{Context, ValidStart}
@@ -56,10 +56,7 @@ begun_size : {m : Module} {p : Parameters} {b : Beginning} (inst : Instance) (s 
 unfolding bytes_of_begun
 begun_size inst s ps (needs_more lt) e = absurd (cc e)
 begun_size inst s ps (out_of_bounds le pr never) e = absurd (cc e)
-begun_size {m} inst s ps (in_bounds le pr e1 e2) e =
-    let n : ℕ = first_size m.memories in
-    let long : length s.bytes ≡ n * 65536 = sym (ap (λ b. length (bytes_of_begun b)) e) ∙ length-replicate (n * 65536) 0 in
-    (le, omega (arith, long))
+begun_size {m} inst s ps (in_bounds le pr e1 e2) e = search (rules, ℕ, bytes_of_begun, length-replicate)
 
 -- ---- its start
 

@@ -1,12 +1,11 @@
 -- A turn that isn't answered Frame is determined.
-use Rattle.std.proofs.Common.{◌≡◌, ◌≢◌, ℕ, ◌+◌, ◌<◌, true, false, List, [], ◌∷◌, ◌++◌, Option, Some, None, refl, sym, ap, subst, ◌∙◌, arith}
-use Rattle.wh_model.specs.Execution.Store.{Instance, Store}
+use Rattle.std.proofs.Common.{◌≡◌, ◌≢◌, ℕ, ◌+◌, ◌<◌, true, false, List, [], ◌∷◌, ◌++◌, Option, Some, None, refl, sym, ap, subst, ◌∙◌, arith, rules}
+use Rattle.wh_model.specs.Execution.Store.{Store}
 use Rattle.wh_model.specs.Execution.{Term, config, stays, IsNext, Outcome}
-use Rattle.wh_model.proofs.Journals.{invocation_same}
 use Rattle.wh_host_model.specs.declared.plain.TurnEnd.{TurnEnd}
 use Rattle.wh_host_model.specs.declared.plain.TurnEnd.TheVariants.{Again, Fuel, Frame, Ended}
 use Rattle.wh_space_model.specs.{Space, view}
-use Rattle.wh_host_model.specs.Host.{Rest, Doing, computing, Suspension, for_fuel, Tenant, store_with, store_in, Upshot, to_end, out_of_fuel, to_go_on, gone_further, ended_by, gone_on, Faces, Closes, faces_next, is_dead, Turn, is_idle, has_ended, has_no_fuel, has_no_frame, can_go_on, keeps_its_fault, rest_of, SameTurn, OneTurn}
+use Rattle.wh_host_model.specs.Host.{Rest, Doing, computing, Suspension, for_fuel, Tenant, store_with, store_in, Upshot, to_end, out_of_fuel, to_go_on, gone_further, ended_by, gone_on, Closes, faces_next, is_dead, Turn, is_idle, has_ended, has_no_fuel, has_no_frame, can_go_on, keeps_its_fault, rest_of, SameTurn, OneTurn}
 use Rattle.wh_host_model.specs.{Entry}
 use Rattle.wh_host_model.proofs.Host.Stopping.{Reached, by_steps, at_turn, is_settled, reached, SameReach, reach_same}
 
@@ -22,8 +21,7 @@ tail_same e e2 es es2 h = cc h
 reaches : {q k k2 n n2 : ℕ} (s : Space) (t : Tenant) {e e2 : Entry} {es es2 : List Entry} {to to2 : Upshot} {s2 s3 : Store} {d2 d3 : Doing} → t.open_calls ≡ e ∷ es → t.open_calls ≡ e2 ∷ es2
     → Reached t.inst q e.call (store_in s t) t.doing to k n s2 d2 → Reached t.inst q e2.call (store_in s t) t.doing to2 k2 n2 s3 d3 → SameReach to to2 k k2 n n2 s2 s3 d2 d3
 reaches {q} {k2 = k2} {n2 = n2} s t {e = e} {e2 = e2} {es = es} {es2 = es2} {to2 = to2} {s3 = s3} {d3 = d3} x y g h =
-    let same = head_same e e2 es es2 (sym x ∙ y) in
-    reach_same g (subst (λ (z : Entry). Reached t.inst q z.call (store_in s t) t.doing to2 k2 n2 s3 d3) (sym same) h)
+    search (rules, head_same, reach_same)
 
 -- a call that keeps its device fault reaches what it was at
 kept_reach : (q : ℕ) (s : Space) (t : Tenant) (e : Entry) (term : Term) → t.doing ≡ computing term → q ≡ 0 → IsNext t.inst (config (store_in s t) [] term) → e.call.charges < e.call.fuel
@@ -44,16 +42,8 @@ bytes_same b b2 r r2 e = ap (λ (s : Store). s.bytes) e
 term_there : (s s2 : Store) (x y : Term) → config s [] x ≡ config s2 [] y → x ≡ y
 term_there s s2 x y e = cc e
 
-faces_same : (inst : Instance) (s s2 : Store) (es : List Entry) {d d2 : Doing} → s ≡ s2 → Faces inst s es d → Faces inst s2 es d2 → d ≡ d2
-faces_same inst s s2 [] e f g = f ∙ sym g
-faces_same inst s s2 (w ∷ ws) {d2 = d2} e f g =
-    let h = subst (λ z. Faces inst z (w ∷ ws) d2) (sym e) g in
-    f.1 ∙ ap computing (term_there s s f.0 h.0 (invocation_same inst s w.call f.2 h.2)) ∙ sym h.1
-
 closes_same : {s s2 : Space} {t t2 t3 : Tenant} {e : Entry} {es : List Entry} {r : Rest} → view s t.place ≡ view s2 t.place → Closes s t e es r t2 → Closes s2 t e es r t3 → t2 ≡ t3
-closes_same {s = s} {s2 = s2} {t = t} {e = e} {es = es} {r = r} v (faces_next alive f) (faces_next alive2 g) =
-    ap (λ d. record t { rest = r; doing = d; ended = t.ended ++ e ∷ []; open_calls = es; waiting_for = None })
-    (faces_same t.inst (store_with (view s t.place) r) (store_with (view s2 t.place) r) es (ap (λ b. store_with b r) v) f g)
+closes_same {s = s} {s2 = s2} {t = t} {e = e} {es = es} {r = r} v (faces_next alive f) (faces_next alive2 g) = search rules
 closes_same v (faces_next alive f) (is_dead died) = absurd (let no : false ≡ true = sym alive ∙ died in cc no)
 closes_same v (is_dead died) (faces_next alive f) = absurd (let no : false ≡ true = sym alive ∙ died in cc no)
 closes_same v (is_dead died) (is_dead died2) = refl
@@ -82,14 +72,10 @@ ends_same {k = k} {k2 = k2} {n = n} {n2 = n2} s s2 s3 s4 s5 t {t2 = t2} {t3 = t3
     let both = reaches s t x y g h in
     let stop = both.stop in
     let eq = sym x ∙ y in
-    let entry : ended_by (gone_further e k n) o ≡ ended_by (gone_further e2 k2 n2) o2 =
-    ap (λ z. ended_by z o) (entry_same (head_same e e2 es es2 eq) both.pieces both.charges) ∙ ap (ended_by (gone_further e2 k2 n2)) (outcome_same o o2 stop.upshots) in
+    let entry : ended_by (gone_further e k n) o ≡ ended_by (gone_further e2 k2 n2) o2 = search (rules, entry_same, head_same, outcome_same) in
     let rests : r ≡ r2 = rest_same (view s2 t.place) (view s3 t.place) r r2 stop.stores in
     let seen : view s4 t.place ≡ view s5 t.place = v ∙ bytes_same (view s2 t.place) (view s3 t.place) r r2 stop.stores ∙ sym w in
-    let c3 : Closes s5 t (ended_by (gone_further e k n) o) es r t3 =
-    subst (λ z. Closes s5 t z es r t3) (sym entry)
-    (subst (λ z. Closes s5 t (ended_by (gone_further e2 k2 n2) o2) z r t3) (sym (tail_same e e2 es es2 eq))
-    (subst (λ z. Closes s5 t (ended_by (gone_further e2 k2 n2) o2) es2 z t3) (sym rests) c2)) in
+    let c3 : Closes s5 t (ended_by (gone_further e k n) o) es r t3 = search (rules, tail_same) in
     record {
       answers = refl;
       tenants = closes_same seen c c3;
@@ -127,9 +113,7 @@ no_call es fs e a b = let no : [] ≡ e ∷ fs = sym a ∙ b in cc no
 fault_stays : {q k n : ℕ} (s s2 : Space) (t : Tenant) {e e2 : Entry} {es es2 : List Entry} {r : Rest} {d : Doing} (term : Term) → t.open_calls ≡ e ∷ es → t.open_calls ≡ e2 ∷ es2
     → t.doing ≡ computing term → q ≡ 0 → IsNext t.inst (config (store_in s t) [] term) → e.call.charges < e.call.fuel
     → Reached t.inst q e2.call (store_in s t) t.doing to_go_on k n (store_with (view s2 t.place) r) d → k + n ≡ 0
-fault_stays {q} s s2 t {e = e} term x y doing none next fuel h =
-    let both = reaches s t x y (kept_reach q s t e term doing none next fuel) h in
-    omega (arith, both.pieces, both.charges)
+fault_stays {q} s s2 t {e = e} term x y doing none next fuel h = search rules
 
 turns_agree : {q : ℕ} {s s2 s3 : Space} {t t2 t3 : Tenant} {a b : TurnEnd} → Turn q s t a s2 t2 → Turn q s t b s3 t3 → a ≢ Frame → b ≢ Frame → SameTurn a b t2 t3 s2 s3
 turns_agree {q} {s = s} {t = t} (is_idle a1) (is_idle a2) na nb = record { answers = refl; tenants = refl; views = refl }

@@ -1,10 +1,10 @@
 -- Two instances that are treated alike come to the same.
-use Rattle.std.proofs.Common.{◌≡◌, inl, inr, ℕ, Bool, true, false, Option, Some, List, [], ◌∷◌, ℤ, map, reverse, refl, sym, ap, ◌∙◌, subst}
+use Rattle.std.proofs.Common.{◌≡◌, inl, inr, ℕ, Bool, true, false, Option, Some, List, [], ◌∷◌, ℤ, map, reverse, refl, sym, ap, ◌∙◌, subst, rules}
 use Rattle.std.specs.Bool.{MatchBool}
 use Rattle.std.specs.List.{AllByRecursion}
 use Rattle.wh_model.specs.Format.{nothing, Module}
 use Rattle.wh_model.specs.Execution.Store.{Instance, Store}
-use Rattle.wh_model.specs.Execution.{Value, Config, code, config, trapped, AreGiven, Parameters, Piece, begins, IsInitial, memory_min, After, Outcome, returned, stopped, cancelled, dead, pending, Call, with_pieces, Invocation, Ends, has_returned, has_trapped, has_written, was_cancelled, never_began, Standing, store_at, Waits, Replays, ended, at_work, fails, IsDead, IsNotDead, IsJournal}
+use Rattle.wh_model.specs.Execution.{Value, Config, code, config, trapped, AreGiven, Parameters, Piece, begins, IsInitial, After, Outcome, returned, stopped, cancelled, dead, pending, Call, with_pieces, Invocation, Ends, has_returned, has_trapped, has_written, was_cancelled, never_began, Standing, store_at, Waits, Replays, ended, at_work, fails, IsDead, IsNotDead, IsJournal}
 use Rattle.wh_model.specs.Execution.Replay.{Replay}
 use Rattle.wh_model.specs.Laws.{Alike}
 use Rattle.wh_model.proofs.Journals.{after_same, one_end, not_open, from_beginning, replays_alike}
@@ -30,29 +30,14 @@ record Same (call call2 : Call) : Type 0 where
   pub outcome : unanswered call.outcome ≡ unanswered call2.outcome
 
 same_calls : (call call2 : Call) → call_asked call ≡ call_asked call2 → Same call call2
-same_calls call call2 e = record {
-  func = ap (λ (c : Call). c.func) e;
-  args = ap (λ (c : Call). c.args) e;
-  fuel = ap (λ (c : Call). c.fuel) e;
-  fragments = ap (λ (c : Call). c.fragments) e;
-  charges = ap (λ (c : Call). c.charges) e;
-  outcome = ap (λ (c : Call). c.outcome) e;
-}
+same_calls call call2 e = search rules
 
 remade : Call → Option ℕ → List Value → ℕ → ℕ → ℕ → Outcome → Call
 remade call func args fuel fragments charges outcome = record { func = func; args = args; fuel = fuel; fragments = fragments; charges = charges; outcome = outcome }
 
 whole_call : (call call2 : Call) → Same call call2 → call.outcome ≡ call2.outcome → call ≡ call2
 unfolding remade
-whole_call call call2 same outcome =
-    let start : call ≡ remade call call.func call.args call.fuel call.fragments call.charges call.outcome = refl in
-    start
-    ∙ (ap (λ x. remade call x call.args call.fuel call.fragments call.charges call.outcome) same.func
-    ∙ (ap (λ x. remade call call2.func x call.fuel call.fragments call.charges call.outcome) same.args
-    ∙ (ap (λ x. remade call call2.func call2.args x call.fragments call.charges call.outcome) same.fuel
-    ∙ (ap (λ x. remade call call2.func call2.args call2.fuel x call.charges call.outcome) same.fragments
-    ∙ (ap (λ x. remade call call2.func call2.args call2.fuel call2.fragments x call.outcome) same.charges
-    ∙ ap (λ x. remade call call2.func call2.args call2.fuel call2.fragments call2.charges x) outcome)))))
+whole_call call call2 same outcome = search rules
 
 -- two chains of as many charges from one invocation end alike
 ends_at : {inst : Instance} (s : Store) (call call2 : Call) {a b c d : Config} → Same call call2 → Invocation inst s call a → Invocation inst s call2 b → After inst a call.charges c → After inst b call2.charges d → c ≡ d
@@ -128,10 +113,8 @@ replays_one {inst = inst} {s = s} {ps = ps} {z = z} (c ∷ cs) (d ∷ ds) (ended
     let one : c ≡ d = whole_call c d same (ends_alike c d same alive.0 alive2.0 a b) in
     let left : x ≡ y = one_end inst s x y ps c a (subst (λ k. Ends inst s ps k y) (sym one) b) in
     let rest : cs ≡ ds = replays_one cs ds r (subst (λ k. Replays inst k [] ds z) (sym left) u) (rest_is e) alive.1 alive2.1 in cc
-replays_one (c ∷ cs) (d ∷ ds) (ended a r) (at_work u v w) e alive alive2 =
-    let same = same_calls c d (first_is e) in absurd (not_open a (open_yet c.outcome (same.outcome ∙ ap unanswered u)))
-replays_one (c ∷ cs) (d ∷ ds) (at_work u v w) (ended a r) e alive alive2 =
-    let same = same_calls c d (first_is e) in absurd (not_open a (open_yet d.outcome (sym same.outcome ∙ ap unanswered u)))
+replays_one (c ∷ cs) (d ∷ ds) (ended a r) (at_work u v w) e alive alive2 = search (rules, same_calls, first_is, not_open, open_yet)
+replays_one (c ∷ cs) (d ∷ ds) (at_work u v w) (ended a r) e alive alive2 = search (rules, same_calls, first_is, not_open, open_yet)
 replays_one (c ∷ cs) (d ∷ ds) (at_work u v w) (at_work x y t) e alive alive2 =
     let one : c ≡ d = whole_call c d (same_calls c d (first_is e)) (u ∙ sym x) in
     let rest : cs ≡ ds = alike_by pending cs ds (rest_is e) (all_open cs w) (all_open ds t) in cc
@@ -211,10 +194,7 @@ loaded_same o a b x y = (let both : Some a ≡ Some b = sym x ∙ y in cc)
 -- with parameters that let it grow as far an instance comes to the same
 replay_still : (m : Module) (p p2 : Parameters) (inst : Instance) (s : Store) (ps : List Piece) (calls : List Call) (y : Standing) → AreGiven p2 → IsInitial m p (begins inst s ps) → SameLimit m p p2 inst → Replay m p calls y → Replay m p2 calls y
 replay_still m p p2 inst s ps [] y given initial same r = absurd r
-replay_still m p p2 inst s ps (c ∷ cs) y given initial same (was, is, (inst1, s1, ps1, i1, rest)) =
-    let one : begins inst s ps ≡ begins inst1 s1 ps1 = one_beginning m p (begins inst s ps) (begins inst1 s1 ps1) initial i1 in
-    let instances : inst ≡ inst1 = cc in
-    (given, is, (inst1, s1, ps1, initial_still m p p2 inst1 s1 ps1 i1 (subst (SameLimit m p p2) instances same), rest))
+replay_still m p p2 inst s ps (c ∷ cs) y given initial same (was, is, (inst1, s1, ps1, i1, rest)) = search (rules, one_beginning, initial_still)
 
 given_in : (m : Module) (p : Parameters) (calls : List Call) (y : Standing) → Replay m p calls y → AreGiven p
 given_in m p [] y r = absurd r
@@ -228,13 +208,7 @@ treated_alike w w2 t t2 a b alike =
     let modules : b.loaded.m ≡ m = ap (λ (l : Loaded). l.m) other ∙ (sym alike.of_one ∙ sym (ap (λ (l : Loaded). l.m) mine)) in
     let there : Replay m (given_of t2.params) (journal_calls (journal t2)) _ = subst (λ k. Replay k (given_of t2.params) (journal_calls (journal t2)) (Rattle.wh_host_model.specs.Host.Worlds.standing_in w2.space t2)) modules b.replay in
     let begun : IsInitial m (given_of t2.params) (begins t2.inst b.first b.pieces) = subst (λ k. IsInitial k (given_of t2.params) (begins t2.inst b.first b.pieces)) modules b.initial in
-    let same : SameLimit m (given_of t2.params) (given_of t.params) t2.inst = record {
-      base = alike.base;
-      salt = alike.salt;
-      inputs = alike.inputs;
-      limit = sym (limit_is m (given_of t.params) t.inst a.first a.pieces a.initial) ∙ alike.limit;
-      small = λ small. (let bad = one_beginning m (given_of t.params) memory_min (begins t.inst a.first a.pieces) small a.initial in cc bad);
-    } in
+    let same : SameLimit m (given_of t2.params) (given_of t.params) t2.inst = search (rules, limit_is, one_beginning) in
     let replay = replay_still m (given_of t2.params) (given_of t.params) t2.inst b.first b.pieces (journal_calls (journal t2)) _ (given_in m (given_of t.params) (journal_calls (journal t)) _ a.replay) begun same there in
     let asked_same : map call_asked (journal_calls (journal t)) ≡ map call_asked (journal_calls (journal t2)) = sym (calls_asked (journal t)) ∙ (ap journal_calls alike.calls ∙ calls_asked (journal t2)) in
     let one = replay_one m (given_of t.params) t.inst a.first a.pieces (journal_calls (journal t)) (journal_calls (journal t2)) _ _ a.initial a.replay replay asked_same in

@@ -1,5 +1,5 @@
 -- A copy of an instance arrives, and sees what the instance sees.
-use Rattle.std.proofs.Common.{◌*◌, inl, List, Option, get_or, None, ap, ◌≡◌, ◌∙◌}
+use Rattle.std.proofs.Common.{◌*◌, List, Option, get_or, None, ap, ◌≡◌, ◌∙◌, rules}
 use Rattle.wh_space_model.specs.{Occupant, Pins, Space, claim_of, kept_by, need_of, pinned_by, promised_to}
 use Rattle.wh_host_model.specs.Host.{CopiesArrive}
 use Rattle.wh_host_model.proofs.Host.Leaving.{enters_alone}
@@ -18,14 +18,7 @@ copies_arrive s i j c s2 sound copies =
     let none = arrives.unpinned in
     record {
       free = arrives.free;
-      others = λ k other.
-          let alike = arrives.others k other in
-          record {
-            view = right.others k other;
-            wants = ap (λ (xs : List (Option Occupant)). need_of (get_or xs k None)) same ∙ alike.wants;
-            claim = ap (λ (xs : List (Option Occupant)). claim_of (get_or xs k None)) same ∙ alike.claim;
-            promise = inl (ap (λ (xs : List (Option Occupant)). promised_to (get_or xs k None)) same ∙ arrives.places k other);
-          };
+      others = search rules;
       places = λ k other. ap (λ (xs : List (Option Occupant)). promised_to (get_or xs k None)) same ∙ arrives.places k other;
       view = right.sees;
       wants = ap (λ (xs : List (Option Occupant)). need_of (get_or xs j None)) same ∙ arrives.wants;

@@ -1,5 +1,5 @@
 -- Pages that come with whatever bytes the device gives: all see as many bytes as before.
-use Rattle.std.proofs.Common.{◌≡◌, ℕ, ◌*◌, inl, inr, Bool, List, [], ◌∷◌, length, get_or, ap, sym, ◌∙◌}
+use Rattle.std.proofs.Common.{◌≡◌, ℕ, ◌*◌, inl, inr, Bool, List, [], ◌∷◌, length, get_or, ap, sym, ◌∙◌, rules}
 use Rattle.wh_model.specs.declared.memory.Need.{Need}
 use Rattle.wh_space_model.specs.declared.states.FetchEnd.{FetchEnd}
 use Rattle.wh_space_model.specs.declared.states.Page.{Page}
@@ -40,8 +40,7 @@ fetch_long s s2 k read bytes end (inr (i, p, f, was, inl (ok, long, ends, moves)
 fetch_long s s2 k read bytes end (inr (i, p, f, was, inr (failed, ends, moves))) = long_put s.tables s2.tables i p (Swapped k) (ap (λ (a : Space). a.tables) moves)
 
 pub fetches_see_as_many : FetchesSeeAsMany
-fetches_see_as_many s s2 k read bytes end sound is =
-    as_many s s2 sound (commits_fetch_soundly s k read bytes end s2 sound is) (fetch_long s s2 k read bytes end is) (fetch_claims s s2 k read bytes end is)
+fetches_see_as_many s s2 k read bytes end sound is = search (rules, as_many, commits_fetch_soundly, fetch_long, fetch_claims)
 
 -- ---- a provision
 

@@ -1,5 +1,5 @@
 -- The calls that were copied with an instance have ended, and stay so.
-use Rattle.std.proofs.Common.{ℕ, ℤ, ◌≤◌, Option, List, [], ◌∷◌, ◌++◌, length, map, sym, subst, ◌∙◌, arith, length-append}
+use Rattle.std.proofs.Common.{ℕ, ℤ, ◌≤◌, Option, List, [], ◌∷◌, ◌++◌, length, map, sym, subst, ◌∙◌, arith, length-append, rules}
 use Rattle.wh_model.specs.declared.memory.Need.{Need}
 use Rattle.wh_model.specs.Format.{Module}
 use Rattle.wh_model.specs.Execution.{Parameters, dead}
@@ -43,16 +43,7 @@ accept_copied : {m : Module} {s : Space} {t t2 : Tenant} {name : List ℕ} {give
 accept_copied a few = subst (λ (z : Tenant). z.copied ≤ length z.ended) (sym a.after) few
 
 copied_up : IsKeptUp HasCopied
-copied_up = record {
-  turned = λ few h. turn_copied h few;
-  cancelled = λ few h. cancel_copied h few;
-  refuelled = λ few h. refuel_copied h few;
-  faulted = λ few a b c. few;
-  retried = λ few h. retry_copied h few;
-  accepted = λ s few h. accept_copied h few;
-  forked = λ {t = t} few none same place params. omega arith;
-  begun = λ m place of params p inst s ps fuel given initial low starts. omega arith;
-}
+copied_up = search (rules, turn_copied, cancel_copied, refuel_copied, retry_copied, accept_copied)
 
 copied_empty : (frames slots : ℕ) (tax : Tax) → IsGoodBy HasCopied (empty_world frames slots tax)
 copied_empty frames slots tax = record {

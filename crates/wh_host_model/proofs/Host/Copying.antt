@@ -1,5 +1,5 @@
 -- Where no fault is met there is a copy, without a frame more.
-use Rattle.std.proofs.Common.{◌≡◌, ◌≢◌, ℕ, zero, suc, ◌+◌, ◌*◌, ◌<◌, ◌≤◌, inl, inr, replicate, false, List, [], ◌∷◌, Some, length, get_or, slice_get, refl, sym, ap, subst, ◌∙◌, arith}
+use Rattle.std.proofs.Common.{◌≡◌, ◌≢◌, ℕ, zero, suc, ◌+◌, ◌*◌, ◌<◌, ◌≤◌, inl, inr, replicate, false, List, [], ◌∷◌, Some, length, get_or, slice_get, refl, ap, ◌∙◌, arith, rules}
 use Rattle.wh_space_model.specs.declared.plain.InstId.{InstId}
 use Rattle.wh_space_model.specs.declared.states.Page.{Page}
 use Rattle.wh_space_model.specs.declared.states.Page.TheVariants.{Untouched, Private, Shared, Leaving, LeavingShared, Coming, Swapped}
@@ -30,21 +30,10 @@ lends_here s i j p (Coming k) was onto here = absurd (here refl)
 lends_here s i j p (Swapped k) was onto here = absurd (here refl)
 
 put_apart : (t : List (List Page)) (i p k q : ℕ) (x : Page) → q ≢ p → page_at (put t i p x) k q ≡ page_at t k q
-put_apart t i p k q x other = elim (here_or i k) [
-  | inl same ↦ subst (λ z. page_at (put t i p x) z q ≡ page_at t z q) (sym same) (put_other t i p q x other)
-  | inr away ↦ ap (λ xs. slice_get xs q) (put_other_row t i p k x away)
-]
+put_apart t i p k q x other = search (rules, here_or, put_other, put_other_row)
 
 lent_apart : (s : Space) (i j p : ℕ) (s2 : Space) → Lends s i j p s2 → (k q : ℕ) → q ≢ p → page_at s2.tables k q ≡ page_at s.tables k q
-lent_apart s i j p s2 l k q other = go l.page l.lends where
-  go : (page : Page) → Rattle.wh_space_model.specs.Forks.LendsPage s i j p page s2 → page_at s2.tables k q ≡ page_at s.tables k q
-  go Untouched is = ap (λ (a : Space). page_at a.tables k q) is
-  go (Private f) is = ap (λ (a : Space). page_at a.tables k q) is ∙ (put_apart (put s.tables i p (Shared f)) j p k q (Shared f) other ∙ put_apart s.tables i p k q (Shared f) other)
-  go (Shared f) is = ap (λ (a : Space). page_at a.tables k q) is ∙ put_apart s.tables j p k q (Shared f) other
-  go (Leaving f) is = absurd is
-  go (LeavingShared f) is = absurd is
-  go (Coming k2) is = absurd is
-  go (Swapped k2) is = absurd is
+lent_apart s i j p s2 l k q other = search (rules, put_apart)
 
 -- n pages are lent, and those behind them are as they were
 record SomeLent (s : Space) (i j n : ℕ) : Type 0 where

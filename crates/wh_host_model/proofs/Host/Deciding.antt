@@ -1,5 +1,5 @@
 -- Which faults an admission and a new call meet is decided.
-use Rattle.std.proofs.Common.{◌≡◌, ℕ, ℤ, pos, negsuc, ◌≤ℤ◌, ◌+◌, ◌-◌, ◌/◌, ◌≢◌, ◌<◌, ◌≤◌, ◌⊎◌, inl, inr, Bool, true, false, Option, Some, None, List, [], ◌∷◌, length, get_or, slice_get, zero, suc, refl, sym, ap, subst, ◌∙◌, arith}
+use Rattle.std.proofs.Common.{◌≡◌, ℕ, ℤ, pos, negsuc, ◌≤ℤ◌, ◌+◌, ◌-◌, ◌/◌, ◌≢◌, ◌<◌, ◌≤◌, ◌⊎◌, inl, inr, Bool, true, false, Option, Some, None, List, [], ◌∷◌, length, get_or, slice_get, zero, suc, refl, sym, ap, subst, ◌∙◌, arith, rules}
 use Rattle.std.proofs.lemmas.Bool.{cases_lt}
 use Rattle.std.proofs.lemmas.Int.{by_lt_z, ints}
 use Rattle.wh_model.specs.declared.ExternKind.{ExternKind}
@@ -108,10 +108,7 @@ of_loaded w k P decide = elim (loaded_or_not (loaded_of w k)) [
 ]
 
 admit_fault : (w : World) (k : ℕ) (p : Params) → ((i : ℕ) (l : Loaded) → loaded_of w i ≡ Some l → IsAccepted l.bytes l.m) → (f : AdmitFault) → Decided (MeetsFault w k p f)
-admit_fault w k p loads no_module = elim (loaded_or_not (loaded_of w k)) [
-  | inl none ↦ inl none
-  | inr (l, is) ↦ inr (λ none. (let bad : None ≡ Some l = sym none ∙ is in cc bad))
-]
+admit_fault w k p loads no_module = search rules
 admit_fault w k p loads shares = either (below p.shares 1) (below 1000000 p.shares)
 admit_fault w k p loads min_max = either (below p.min 2) (either (below p.max p.min) (below 65536 p.max))
 admit_fault w k p loads frames = below (length w.space.pool.frames) (minima w.space + p.min)
@@ -298,18 +295,7 @@ Exported m inst name R = (x : ℕ) × (type : FuncType) × (body : Body) × Expo
 
 pub exported_or_not : (m : Module) (inst : Instance) (name : List ℕ) (R : FuncType → Type 0) → ((type : FuncType) → Decided (R type)) → Decided (Exported m inst name R)
 exported_or_not m inst name R decide = elim (found (Named inst name R) (named_or_not inst name R decide) m.exports) [
-  | inl (k, e, is, (same, kind, (type, body, owned, so))) ↦
-      inl (
-        e.index,
-        type,
-        body,
-        record {
-          place = k;
-          exported = is ∙ ap (λ n. Some (record { name = n; kind = e.kind; index = e.index })) same ∙ ap (λ z. Some (record { name = name; kind = z; index = e.index })) kind;
-          is_own = owned;
-        },
-        so,
-      )
+  | inl (k, e, is, (same, kind, (type, body, owned, so))) ↦ search rules
   | inr none ↦ inr (λ (one : Exported m inst name R). none one.3.place (record { name = name; kind = Func; index = one.0 }) one.3.exported (refl, refl, (one.1, one.2, one.3.is_own, one.4)))
 ]
 
@@ -323,10 +309,7 @@ invoke_fault m t name given arguments = elim (exported_or_not m t.inst name (λ 
   | inr lacks ↦ inl (λ x type body vs is fit. lacks (x, type, body, is, (vs, fit)))
 ]
 invoke_fault m t name given queue_full = at_most most_open (open_count t)
-invoke_fault m t name given instance_dead = go t.dead refl where
-  go : (b : Bool) → t.dead ≡ b → Decided (t.dead ≡ true)
-  go true e = inl e
-  go false e = inr (λ is. (let bad : false ≡ true = sym e ∙ is in cc bad))
+invoke_fault m t name given instance_dead = search rules
 invoke_fault m t name given journal_full = at_most most_calls (length (journal t))
 
 invoke_at : ℕ → InvokeFault

@@ -1,5 +1,5 @@
 -- Lists of calls, some ended and some open, as the journal has them.
-use Rattle.std.proofs.Common.{◌≡◌, ℕ, List, [], ◌∷◌, ◌++◌, map, refl, sym, ap, subst}
+use Rattle.std.proofs.Common.{◌≡◌, ℕ, List, [], ◌∷◌, ◌++◌, map, refl, sym, ap, subst, rules}
 use Rattle.std.specs.List.{AllByRecursion}
 use Rattle.wh_model.specs.Execution.Store.{Instance, Store}
 use Rattle.wh_model.specs.Execution.{Config, Piece, dead, pending, Call, Invocation, never_began, Standing, idle, Stands, is_invoked, Waits, Replays, at_rest, at_work, Past, none_yet, one_more}
@@ -33,16 +33,7 @@ joined {inst} {s0} {s2 = s2} {ps0 = ps0} {ps2 = ps2} xs ys p q = subst (λ cs. P
 -- ---- one invocation, of a call of the same function with the same arguments
 
 pub invoked_alike : {inst : Instance} {s : Store} {call : Call} {c : Config} (call2 : Call) → Invocation inst s call c → call2.func ≡ call.func → call2.args ≡ call.args → Invocation inst s call2 c
-invoked_alike {inst = inst} {s = s} {call = call} {c = c} call2 i f a = record {
-  index = i.index;
-  type = i.type;
-  body = i.body;
-  calls = let calls = i.calls in cc (f, calls);
-  is_own = i.is_own;
-  types = rw a i.types;
-  fit = rw a i.fit;
-  begins = rw a i.begins;
-}
+invoked_alike {inst = inst} {s = s} {call = call} {c = c} call2 i f a = search rules
 
 -- ---- the next call, over the store that the ones before it have left
 

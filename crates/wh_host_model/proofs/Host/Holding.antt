@@ -1,5 +1,5 @@
 -- What is known of a host after every list of events.
-use Rattle.std.proofs.Common.{◌≡◌, ℕ, ◌≤◌, Option, List, [], ◌∷◌, refl, sym, subst, arith, length-append}
+use Rattle.std.proofs.Common.{◌≡◌, ℕ, ◌≤◌, Option, List, [], ◌∷◌, refl, sym, subst, arith, length-append, rules}
 use Rattle.std.specs.List.{AllByRecursion}
 use Rattle.wh_model.specs.declared.memory.Need.{Need}
 use Rattle.wh_model.specs.Format.{Module}
@@ -28,8 +28,7 @@ places_are_right frames slots tax events w r =
     record { claimed = λ i t x. let f = good.each i t x in f.claimed; apart = good.apart; all = good.owned }
 
 kept_replays : {m : Module} {p : Parameters} {t : Tenant} {bytes : List ℕ} {want : Option Need} (k : Kept m p t bytes want) → Replays t.inst k.s0 k.ps0 (journal_calls (journal t)) (standing_with bytes t.rest t.doing)
-kept_replays {t = t} {bytes = bytes} k =
-    subst (λ cs. Replays t.inst k.s0 k.ps0 cs (standing_with bytes t.rest t.doing)) (sym (calls_join t.ended t.open_calls)) (replays_then k.past (now_replays (journal_calls t.open_calls) k.now))
+kept_replays {t = t} {bytes = bytes} k = search (rules, calls_join, replays_then, now_replays)
 
 pub kept_replay : {m : Module} {p : Parameters} {t : Tenant} {bytes : List ℕ} {want : Option Need} → Kept m p t bytes want → Replay m p (journal_calls (journal t)) (standing_with bytes t.rest t.doing)
 kept_replay {m = m} {p = p} {t = t} {bytes = bytes} k =
@@ -88,7 +87,5 @@ is_ready : {M : Type 0} {bytes : M → List ℕ} {ready : M → Need → Type 0}
 is_ready (has_had_its_turn {term = term} x next u v y) = (term, refl, y)
 
 pub again_is_ready : AgainIsReady
-again_is_ready q s s2 t t2 (can_go_on {r = r} there g leaves pins fault) =
-    let on = is_ready g in
-    (on.0, on.1, λ need asks. (leaves.ready need).1 (on.2 need (subst (λ b. Asks t.inst (config (store_with b r) [] on.0) need) leaves.view asks)))
+again_is_ready q s s2 t t2 (can_go_on {r = r} there g leaves pins fault) = search (rules, is_ready)
 again_is_ready q s s2 t t2 (keeps_its_fault {term = term} there stands doing none next fuel now) = (term, doing, now)

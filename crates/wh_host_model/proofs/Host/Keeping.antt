@@ -1,5 +1,5 @@
 -- Each event that touches an instance keeps it what its journal comes to.
-use Rattle.std.proofs.Common.{◌≡◌, ◌≢◌, ℕ, suc, zero, ◌+◌, ◌-◌, ◌<◌, ◌≤◌, ⊎_elim, false, Option, Some, None, List, [], ◌∷◌, ◌++◌, length, map, take, drop, min, refl, sym, ap, subst, ◌∙◌, arith, ℤ, append_assoc, length-append}
+use Rattle.std.proofs.Common.{◌≡◌, ◌≢◌, ℕ, suc, zero, ◌+◌, ◌-◌, ◌<◌, ◌≤◌, ⊎_elim, false, Option, Some, None, List, [], ◌∷◌, ◌++◌, length, map, take, drop, min, refl, sym, ap, subst, ◌∙◌, arith, ℤ, append_assoc, length-append, rules}
 use Rattle.std.specs.List.{AllByRecursion}
 use Rattle.wh_model.specs.declared.memory.Need.{Need}
 use Rattle.wh_model.specs.Format.{Module}
@@ -12,7 +12,7 @@ use Rattle.std.proofs.lemmas.List.{take-append-drop, length-drop, length-take, l
 use Rattle.std.proofs.Math.Seq.{take-append_seam, drop-append_seam}
 use Rattle.wh_host_model.specs.declared.plain.TurnEnd.{TurnEnd}
 use Rattle.wh_space_model.specs.{Space, view, wants}
-use Rattle.wh_host_model.specs.Host.{WaitsAlone, Rest, Doing, resting, has_left, computing, Suspension, for_fuel, for_frame, for_device, Tenant, journal_calls, store_with, store_in, standing_with, HaveTypes, Upshot, to_end, out_of_fuel, to_wait, to_go_on, Proceeds, returns, traps, writes_all, uses_fuel, waits, waits_to_write, has_had_its_turn, gone_further, ended_by, gone_on, Faces, Closes, faces_next, is_dead, at_frame, Turn, is_idle, has_ended, has_no_fuel, has_no_frame, can_go_on, keeps_its_fault, open_count, TakesCall, more_fuel, WaitsAfter, Refuels, has_more, Cancels, Retries, may_try, StartsAs, writes, runs, rest_of, IsOpenCall, ReturnsTyped, HasEnded, InOrder, is_starting, has_started, NextAsks, a_piece, a_step, WaitsDuly, FirstWaitsDuly}
+use Rattle.wh_host_model.specs.Host.{WaitsAlone, Rest, Doing, resting, has_left, computing, Suspension, for_fuel, for_frame, for_device, Tenant, journal_calls, store_with, store_in, standing_with, HaveTypes, Upshot, to_end, out_of_fuel, to_wait, to_go_on, Proceeds, returns, traps, writes_all, uses_fuel, waits, waits_to_write, has_had_its_turn, gone_further, ended_by, gone_on, Faces, Closes, faces_next, is_dead, at_frame, Turn, is_idle, has_ended, has_no_fuel, has_no_frame, can_go_on, keeps_its_fault, open_count, TakesCall, WaitsAfter, Refuels, has_more, Cancels, Retries, may_try, StartsAs, writes, runs, rest_of, IsOpenCall, ReturnsTyped, HasEnded, InOrder, is_starting, has_started, NextAsks, a_piece, a_step, WaitsDuly, FirstWaitsDuly}
 use Rattle.wh_host_model.specs.{Entry, start_entry, new_entry, Params, most_fuel, most_calls, most_open}
 use Rattle.wh_host_model.specs.Host.OwnerCalls as requests
 use Rattle.wh_host_model.specs.Host.Admission.{ends}
@@ -55,24 +55,7 @@ record Present (m : Module) (p : Parameters) (t : Tenant) (bytes : List ℕ) (wa
   duly : WaitsDuly t.inst (store_with bytes t.rest) t.doing e.call want t.waiting_for
 
 present : {m : Module} {p : Parameters} {t : Tenant} {bytes : List ℕ} {want : Option Need} {e : Entry} {es : List Entry} → Kept m p t bytes want → t.open_calls ≡ e ∷ es → Present m p t bytes want e es
-present {m = m} {t = t} {bytes = bytes} {want = want} k same =
-    let now = subst (λ xs. Now t.inst k.s1 k.ps1 (journal_calls xs) (standing_with bytes t.rest t.doing)) same k.now in
-    record {
-      given = k.given;
-      s0 = k.s0;
-      ps0 = k.ps0;
-      initial = k.initial;
-      s1 = k.s1;
-      ps1 = k.ps1;
-      past = k.past;
-      pending = now.0;
-      stands = now.1;
-      waits = now.2;
-      order = subst (λ xs. InOrder m t.inst t.dead t.ended xs) same k.order;
-      few = subst (λ xs. length t.ended + length xs ≤ most_calls) same k.few;
-      few_open = subst (λ xs. length xs - (1 - min 1 (length t.ended)) ≤ most_open) same k.few_open;
-      duly = subst (λ xs. FirstWaitsDuly t.inst (store_with bytes t.rest) t.doing xs want t.waiting_for) same k.duly;
-    }
+present {m = m} {t = t} {bytes = bytes} {want = want} k same = search rules
 
 -- ---- the present call ends
 
@@ -107,10 +90,7 @@ closes_kept {t = t} {es = es} pr e2 s3 r end same h typed none (is_dead died) = 
   past = joined t.ended (e2 ∷ map (λ w. ended_by w dead) es) pr.past (one_more end (past_dead t.inst (store_with (view s3 t.place) r) es pr.waits));
   now = (refl, refl);
   order = order_dies e2 same h died pr.order;
-  few =
-      let n = length-append t.ended (e2 ∷ map (λ w. ended_by w dead) es) in
-      let l = length-map es (λ w. ended_by w dead) in
-      omega (arith, n, l, pr.few);
+  few = search (rules, length-append, length-map);
   few_open = omega arith;
   duly = (none, refl);
 }
@@ -200,22 +180,7 @@ on_kept : {m : Module} {p : Parameters} {bytes : List ℕ} {want : Option Need} 
     → Stands t.inst pr.s1 pr.ps1 (gone_further e k n).call (standing_with (view s2 t.place) r d)
     → WaitsDuly t.inst (store_with (view s2 t.place) r) d (gone_further e k n).call stands o → WaitsAlone t.place stands s2 s3
     → Kept m p (gone_on t (gone_further e k n) es r d o) (view s3 t.place) (wants s3 t.place)
-on_kept {s2 = s2} {s3 = s3} {t = t} {e = e} k n {r = r} {d = d} o stands pr at duly leaves = record {
-  given = pr.given;
-  s0 = pr.s0;
-  ps0 = pr.ps0;
-  initial = pr.initial;
-  s1 = pr.s1;
-  ps1 = pr.ps1;
-  past = pr.past;
-  now = (pr.pending, subst (λ b. Stands t.inst pr.s1 pr.ps1 (gone_further e k n).call (standing_with b r d)) (sym leaves.view) at, pr.waits);
-  order = order_on (gone_further e k n) (record { func = refl; args = refl; given = refl; fuel = λ h. h }) pr.pending pr.order;
-  few = pr.few;
-  few_open = pr.few_open;
-  duly =
-      subst (λ w. WaitsDuly t.inst (store_with (view s3 t.place) r) d (gone_further e k n).call w o) (sym leaves.wants)
-      (subst (λ b. WaitsDuly t.inst (store_with b r) d (gone_further e k n).call stands o) (sym leaves.view) duly);
-}
+on_kept {s2 = s2} {s3 = s3} {t = t} {e = e} k n {r = r} {d = d} o stands pr at duly leaves = search (rules, order_on)
 
 frame_duly : {inst : Instance} {s : Store} {d : Doing} {call : Call} {need : Need} (j : ℕ) (o : Option Suspension) → NextAsks inst s call d need → WaitsDuly inst s d call (Some need) (at_frame j o)
 frame_duly {need = need} zero None asks = (need, refl, asks)
@@ -268,66 +233,17 @@ more_asks f le (a_step lt next a) = a_step (omega (arith, lt, le)) next a
 
 more_duly : (inst : Instance) (s : Store) (d : Doing) (call : Call) (want : Option Need) (f : ℕ) → call.fuel ≤ f → (old o : Option Suspension) → WaitsDuly inst s d call want old → WaitsAfter (record call { fuel = f }) old o → WaitsDuly inst s d (record call { fuel = f }) want o
 more_duly inst s d call want f le None o duly after = subst (λ z. WaitsDuly inst s d (record call { fuel = f }) want z) (sym after) duly
-more_duly inst s d call want f le (Some for_fuel) o duly after =
-    ⊎_elim
-    (λ (x : (call.charges < f) × (o ≡ None)). subst (λ z. WaitsDuly inst s d (record call { fuel = f }) want z) (sym x.1) duly.0)
-    (λ (x : (f ≤ call.charges) × (o ≡ Some for_fuel)).
-    let same : call.charges ≡ f = omega (arith, duly.1, x.0, le) in
-    subst (λ z. WaitsDuly inst s d (record call { fuel = f }) want z) (sym x.1) (duly.0, same, duly.2))
-    after
+more_duly inst s d call want f le (Some for_fuel) o duly after = search rules
 more_duly inst s d call want f le (Some for_frame) o duly after = subst (λ z. WaitsDuly inst s d (record call { fuel = f }) want z) (sym after) (duly.0, duly.1, more_asks f le duly.2)
 more_duly inst s d call want f le (Some (for_device x)) o duly after = subst (λ z. WaitsDuly inst s d (record call { fuel = f }) want z) (sym after) (duly.0, duly.1, more_asks f le duly.2)
 
 pub refuel_kept : {m : Module} {p : Parameters} {n : ℕ} {t t2 : Tenant} {bytes : List ℕ} {want : Option Need} → Kept m p t bytes want → Refuels t n t2 → Kept m p t2 bytes want
 refuel_kept {n = n} {t = t} {bytes = bytes} {want = want} k (has_more {e = e} {o = o} there after) =
-    let pr = present k there in
-    let low = order_fuel pr.order in
-    let f : ℕ = min (e.call.fuel + n) most_fuel in
-    let le : e.call.fuel ≤ f = omega (arith, low) in
-    record {
-      given = pr.given;
-      s0 = pr.s0;
-      ps0 = pr.ps0;
-      initial = pr.initial;
-      s1 = pr.s1;
-      ps1 = pr.ps1;
-      past = pr.past;
-      now = (pr.pending, more_stands f le pr.stands, pr.waits);
-      order = order_on (more_fuel e n) (record { func = refl; args = refl; given = refl; fuel = λ h. omega arith }) pr.pending pr.order;
-      few = pr.few;
-      few_open = pr.few_open;
-      duly = more_duly t.inst (store_with bytes t.rest) t.doing e.call want f le t.waiting_for o pr.duly after;
-    }
-
-duly_faulted : (inst : Instance) (s : Store) (d : Doing) (call : Call) (want : Option Need) (a b : Suspension) → a ≢ for_fuel → b ≢ for_fuel → WaitsDuly inst s d call want (Some a) → WaitsDuly inst s d call want (Some b)
-duly_faulted inst s d call want for_fuel b from to h = absurd (from refl)
-duly_faulted inst s d call want for_frame for_fuel from to h = absurd (to refl)
-duly_faulted inst s d call want for_frame for_frame from to h = h
-duly_faulted inst s d call want for_frame (for_device y) from to h = h
-duly_faulted inst s d call want (for_device x) for_fuel from to h = absurd (to refl)
-duly_faulted inst s d call want (for_device x) for_frame from to h = h
-duly_faulted inst s d call want (for_device x) (for_device y) from to h = h
-
-first_faulted : (inst : Instance) (s : Store) (d : Doing) (want : Option Need) (es : List Entry) (a b : Suspension) → a ≢ for_fuel → b ≢ for_fuel → FirstWaitsDuly inst s d es want (Some a) → FirstWaitsDuly inst s d es want (Some b)
-first_faulted inst s d want [] a b from to h = let none = h.1 in absurd (cc none)
-first_faulted inst s d want (e ∷ es) a b from to h = duly_faulted inst s d e.call want a b from to h
+    search (rules, present, order_fuel, ℕ, min, more_stands, order_on, more_duly)
 
 -- what is wanted stays so, whether a device has failed or not
 pub faulted_kept : {m : Module} {p : Parameters} {t : Tenant} {bytes : List ℕ} {want : Option Need} {a b : Suspension} → Kept m p t bytes want → t.waiting_for ≡ Some a → a ≢ for_fuel → b ≢ for_fuel → Kept m p (record t { waiting_for = Some b }) bytes want
-faulted_kept {t = t} {bytes = bytes} {want = want} {a = a} {b = b} k was from to = record {
-  given = k.given;
-  s0 = k.s0;
-  ps0 = k.ps0;
-  initial = k.initial;
-  s1 = k.s1;
-  ps1 = k.ps1;
-  past = k.past;
-  now = k.now;
-  order = k.order;
-  few = k.few;
-  few_open = k.few_open;
-  duly = first_faulted t.inst (store_with bytes t.rest) t.doing want t.open_calls a b from to (subst (λ o. FirstWaitsDuly t.inst (store_with bytes t.rest) t.doing t.open_calls want o) was k.duly);
-}
+faulted_kept {t = t} {bytes = bytes} {want = want} {a = a} {b = b} k was from to = search rules
 
 pub retry_kept : {m : Module} {p : Parameters} {t t2 : Tenant} {bytes : List ℕ} {want : Option Need} → Kept m p t bytes want → Retries t t2 → Kept m p t2 bytes want
 retry_kept k (may_try there stands) = faulted_kept k stands (λ e. cc e) (λ e. cc e)
@@ -376,11 +292,7 @@ accepted {m = m} {t = t} s x vs given fuel d k asked alive few room first later 
       s1 = pr.s1;
       ps1 = pr.ps1;
       past = pr.past;
-      now = (
-        pr.pending,
-        subst (λ z. Stands t.inst pr.s1 pr.ps1 e.call (standing_with (view s t.place) t.rest z)) (sym same) pr.stands,
-        subst (λ cs. AllByRecursion Waits cs) (sym (calls_join es (new_entry x vs given fuel ∷ []))) (all_join Waits (journal_calls es) (journal_calls (new_entry x vs given fuel ∷ [])) pr.waits (new_waits x vs given fuel)),
-      );
+      now = search (rules, calls_join, all_join, new_waits);
       order = order_comes (new_entry x vs given fuel) alive asked pr.order;
       few = let n = length-append es (new_entry x vs given fuel ∷ []) in let l = ap length there in omega (arith, few, n, l);
       few_open = let n = length-append es (new_entry x vs given fuel ∷ []) in let l = ap length there in omega (arith, room, n, l);
@@ -391,10 +303,7 @@ pub accept_kept : {m mm : Module} {p : Parameters} {t t2 : Tenant} {name : List 
 accept_kept {m} {p = p} {t = t} {given = given} {fuel = fuel} s k a =
     let few = a.few_calls in
     let n = length-append t.ended t.open_calls in
-    let asked : IsOpenCall t.inst (new_entry a.func a.vs given fuel) = record {
-      asked = record { index = a.func; type = a.type; body = a.body; func = refl; is_own = let x = a.exports in x.is_own; arguments = a.fits; fuel = a.can_count };
-      open_yet = refl;
-    } in
+    let asked : IsOpenCall t.inst (new_entry a.func a.vs given fuel) = search rules in
     subst (λ z. Kept m p z (view s t.place) (wants s t.place)) (sym a.after) (accepted s a.func a.vs given fuel a.doing k asked a.alive (omega (arith, few, n)) a.few_open a.first a.later t.open_calls refl)
 
 -- ---- an instance begins
@@ -457,17 +366,4 @@ begins_kept m place of params p inst s ps fuel given initial low (ends none star
 -- a copy, without an open call, is what the same journal comes to
 pub fork_kept : {m : Module} {p p2 : Parameters} {t : Tenant} {bytes : List ℕ} {want : Option Need} → Kept m p t bytes want → t.open_calls ≡ [] → SameLimit m p p2 t.inst → (place : ℕ) (params : Params)
     → Kept m p2 (record t { place = place; params = params; copied = length t.ended; waiting_for = None }) bytes None
-fork_kept {m = m} {p = p} {p2 = p2} {t = t} {bytes = bytes} k none same place params = record {
-  given = given_still k.given same;
-  s0 = k.s0;
-  ps0 = k.ps0;
-  initial = initial_still m p p2 t.inst k.s0 k.ps0 k.initial same;
-  s1 = k.s1;
-  ps1 = k.ps1;
-  past = k.past;
-  now = k.now;
-  order = k.order;
-  few = k.few;
-  few_open = k.few_open;
-  duly = duly_none t.inst (store_with bytes t.rest) t.doing t.open_calls refl;
-}
+fork_kept {m = m} {p = p} {p2 = p2} {t = t} {bytes = bytes} k none same place params = search (rules, given_still, initial_still, duly_none)

@@ -1,5 +1,5 @@
 -- What holds of every host, whatever bytes its swap device gives.
-use Rattle.std.proofs.Common.{◌≡◌, ◌≢◌, ℕ, zero, suc, ◌+◌, ◌≤◌, inl, inr, Bool, Option, Some, None, List, [], ◌∷◌, length, map, refl, sym, ap, subst, ◌∙◌, arith, length-append, ℤ}
+use Rattle.std.proofs.Common.{◌≡◌, ◌≢◌, ℕ, zero, suc, ◌+◌, ◌≤◌, inl, inr, Bool, Option, Some, None, List, [], ◌∷◌, length, refl, sym, ap, subst, ◌∙◌, arith, length-append, ℤ, rules}
 use Rattle.std.proofs.lemmas.List.{length-map}
 use Rattle.wh_model.specs.declared.memory.Need.{Need}
 use Rattle.wh_model.specs.Format.{Module}
@@ -8,8 +8,8 @@ use Rattle.wh_model.specs.Execution.{Config, store_of, Piece, Parameters, AreGiv
 use Rattle.wh_space_model.specs.declared.Tax.{Tax}
 use Rattle.wh_host_model.specs.declared.plain.TurnEnd.{TurnEnd}
 use Rattle.wh_space_model.specs.{Space, view, wants}
-use Rattle.wh_host_model.specs.Host.{Rest, Doing, Suspension, for_fuel, for_frame, for_device, Tenant, World, empty_world, Opens, by_invocation, as_it_was, Computes, Upshot, to_end, Proceeds, returns, traps, writes_all, uses_fuel, waits, waits_to_write, has_had_its_turn, gone_further, ended_by, Closes, faces_next, is_dead, at_frame, Turn, is_idle, has_ended, has_no_fuel, has_no_frame, can_go_on, keeps_its_fault, open_count, TakesCall, more_fuel, WaitsAfter, Refuels, has_more, Cancels, Retries, may_try, StartsAs, writes, runs, IsOpenCall, ReturnsTyped, HasEnded, InOrder, is_starting, has_started, AllSeeAsMany, Step, by_event, by_misreading, Befalls, AllBefall, ComesAbout, MemoryStaysSound, PlacesStayRight, ModulesStayAccepted, JournalsStayInOrder, InputsStay, FramesAreAwaited}
-use Rattle.wh_host_model.specs.{Entry, new_entry, Params, most_fuel, most_calls, most_open}
+use Rattle.wh_host_model.specs.Host.{Rest, Doing, Suspension, for_fuel, for_frame, for_device, Tenant, World, empty_world, Opens, by_invocation, as_it_was, Computes, Upshot, to_end, Proceeds, returns, traps, writes_all, uses_fuel, waits, waits_to_write, has_had_its_turn, gone_further, ended_by, Closes, faces_next, is_dead, at_frame, Turn, is_idle, has_ended, has_no_fuel, has_no_frame, can_go_on, keeps_its_fault, open_count, TakesCall, WaitsAfter, Refuels, has_more, Cancels, Retries, may_try, StartsAs, writes, runs, ReturnsTyped, HasEnded, InOrder, is_starting, has_started, AllSeeAsMany, Step, by_event, by_misreading, Befalls, AllBefall, ComesAbout, MemoryStaysSound, PlacesStayRight, ModulesStayAccepted, JournalsStayInOrder, InputsStay, FramesAreAwaited}
+use Rattle.wh_host_model.specs.{Entry, Params, most_fuel, most_calls, most_open}
 use Rattle.wh_host_model.specs.Host.OwnerCalls as requests
 use Rattle.wh_host_model.specs.Host.Admission.{ends}
 use Rattle.wh_space_model.proofs.Chained.{empty_sound}
@@ -67,20 +67,10 @@ ends_typed e (writes_all d f w) = (tt, (λ none. refl, λ some. absurd (some f))
 
 closes_lasting : {m : Module} {p : Parameters} {s : Space} {t t2 : Tenant} {e : Entry} {es : List Entry} {bytes : List ℕ} {want : Option Need} (e2 : Entry) (r : Rest) → t.open_calls ≡ e ∷ es → Lasts m p t bytes want → SameCall e e2 → HasEnded e2.call.outcome → ReturnsTyped t.inst e2.call e2.call.outcome → r.inputs ≡ t.rest.inputs
     → Closes s t e2 es r t2 → (bytes2 : List ℕ) (want2 : Option Need) → Lasts m p t2 bytes2 want2
-closes_lasting {m = m} {t = t} {es = es} e2 r there k same h typed inputs (faces_next alive f) bytes2 want2 = record {
-  order = order_ends e2 same h typed alive (subst (λ xs. InOrder m t.inst t.dead t.ended xs) there k.order);
-  few = (let n = length-append t.ended (e2 ∷ []) in let few = k.few in let l = ap length there in omega (arith, n, few, l));
-  few_open = (let n = length-append t.ended (e2 ∷ []) in let few = k.few_open in let l = ap length there in omega (arith, n, few, l));
-  inputs = inputs ∙ k.inputs;
-  wanted = tt;
-}
-closes_lasting {m = m} {t = t} {es = es} e2 r there k same h typed inputs (is_dead died) bytes2 want2 = record {
-  order = order_dies e2 same h died (subst (λ xs. InOrder m t.inst t.dead t.ended xs) there k.order);
-  few = (let n = length-append t.ended (e2 ∷ map (λ w. ended_by w dead) es) in let l = length-map es (λ w. ended_by w dead) in let few = k.few in let h = ap length there in omega (arith, n, l, few, h));
-  few_open = omega arith;
-  inputs = inputs ∙ k.inputs;
-  wanted = tt;
-}
+closes_lasting {m = m} {t = t} {es = es} e2 r there k same h typed inputs (faces_next alive f) bytes2 want2 =
+    search (rules, order_ends, length-append)
+closes_lasting {m = m} {t = t} {es = es} e2 r there k same h typed inputs (is_dead died) bytes2 want2 =
+    search (rules, order_dies, length-append, length-map)
 
 -- it goes on
 still_open : {m : Module} {inst : Instance} {died : Bool} {ended es : List Entry} {e : Entry} → InOrder m inst died ended (e ∷ es) → e.call.outcome ≡ pending
@@ -89,15 +79,7 @@ still_open (has_started st h f r es os) = os.0.open_yet
 
 goes_lasting : {m : Module} {p : Parameters} {t : Tenant} {e : Entry} {es : List Entry} {bytes : List ℕ} {want : Option Need} (n k : ℕ) (r : Rest) (d : Doing) (o : Option Suspension) → t.open_calls ≡ e ∷ es → Lasts m p t bytes want → r.inputs ≡ t.rest.inputs → (bytes2 : List ℕ) (want2 : Option Need) → IsWanted want2 o
     → Lasts m p (record t { rest = r; doing = d; open_calls = gone_further e n k ∷ es; waiting_for = o }) bytes2 want2
-goes_lasting {m = m} {t = t} {e = e} {es = es} n k r d o there last inputs bytes2 want2 wanted =
-    let order = subst (λ xs. InOrder m t.inst t.dead t.ended xs) there last.order in
-    record {
-      order = order_on (gone_further e n k) (record { func = refl; args = refl; given = refl; fuel = λ h. h }) (still_open order) order;
-      few = (let few = last.few in let l = ap length there in omega (arith, few, l));
-      few_open = (let few = last.few_open in let l = ap length there in omega (arith, few, l));
-      inputs = inputs ∙ last.inputs;
-      wanted = wanted;
-    }
+goes_lasting {m = m} {t = t} {e = e} {es = es} n k r d o there last inputs bytes2 want2 wanted = search (rules, order_on, still_open)
 
 wanted_at : (n : ℕ) (o : Option Suspension) (want : Option Need) (need : Need) → want ≡ Some need → IsWanted want (at_frame n o)
 wanted_at zero None want need e = (need, e)
@@ -130,52 +112,16 @@ wanted_after call want (Some (for_device x)) o h after = subst (IsWanted want) (
 
 refuel_lasting : {m : Module} {p : Parameters} {n : ℕ} {t t2 : Tenant} {bytes : List ℕ} {want : Option Need} → Lasts m p t bytes want → Refuels t n t2 → Lasts m p t2 bytes want
 refuel_lasting {m = m} {n = n} {t = t} {want = want} k (has_more {e = e} {es = es} {o = o} there after) =
-    let order = subst (λ xs. InOrder m t.inst t.dead t.ended xs) there k.order in
-    record {
-      order = order_on (more_fuel e n) (record { func = refl; args = refl; given = refl; fuel = λ h. omega arith }) (still_open order) order;
-      few = (let few = k.few in let l = ap length there in omega (arith, few, l));
-      few_open = (let few = k.few_open in let l = ap length there in omega (arith, few, l));
-      inputs = k.inputs;
-      wanted = wanted_after (more_fuel e n).call want t.waiting_for o k.wanted after;
-    }
-
-wanted_too : (want : Option Need) (a b : Suspension) → a ≢ for_fuel → b ≢ for_fuel → IsWanted want (Some a) → IsWanted want (Some b)
-wanted_too want for_fuel b from to h = absurd (from refl)
-wanted_too want for_frame for_fuel from to h = tt
-wanted_too want for_frame for_frame from to h = h
-wanted_too want for_frame (for_device y) from to h = h
-wanted_too want (for_device x) for_fuel from to h = tt
-wanted_too want (for_device x) for_frame from to h = h
-wanted_too want (for_device x) (for_device y) from to h = h
+    search (rules, order_on, still_open, wanted_after)
 
 fault_lasting : {m : Module} {p : Parameters} {t : Tenant} {bytes : List ℕ} {want : Option Need} {a b : Suspension} → Lasts m p t bytes want → t.waiting_for ≡ Some a → a ≢ for_fuel → b ≢ for_fuel → Lasts m p (record t { waiting_for = Some b }) bytes want
-fault_lasting {t = t} {want = want} {a = a} {b = b} k was from to = record {
-  order = k.order;
-  few = k.few;
-  few_open = k.few_open;
-  inputs = k.inputs;
-  wanted = wanted_too want a b from to (subst (IsWanted want) was k.wanted);
-}
+fault_lasting {t = t} {want = want} {a = a} {b = b} k was from to = search rules
 
 retry_lasting : {m : Module} {p : Parameters} {t t2 : Tenant} {bytes : List ℕ} {want : Option Need} → Lasts m p t bytes want → Retries t t2 → Lasts m p t2 bytes want
 retry_lasting k (may_try there stands) = fault_lasting k stands (λ e. cc e) (λ e. cc e)
 
 accept_lasting : {m mm : Module} {p : Parameters} {t t2 : Tenant} {name : List ℕ} {given : List ℤ} {fuel at : ℕ} (s : Space) → Lasts m p t (view s t.place) (wants s t.place) → TakesCall mm s t name given fuel at t2 → Lasts m p t2 (view s t.place) (wants s t.place)
-accept_lasting {m} {p = p} {t = t} {given = given} {fuel = fuel} s k a =
-    let few = a.few_calls in
-    let n = length-append t.ended t.open_calls in
-    let more = length-append t.open_calls (new_entry a.func a.vs given fuel ∷ []) in
-    let asked : IsOpenCall t.inst (new_entry a.func a.vs given fuel) = record {
-      asked = record { index = a.func; type = a.type; body = a.body; func = refl; is_own = let x = a.exports in x.is_own; arguments = a.fits; fuel = a.can_count };
-      open_yet = refl;
-    } in
-    subst (λ z. Lasts m p z (view s t.place) (wants s t.place)) (sym a.after) (record {
-      order = order_comes (new_entry a.func a.vs given fuel) a.alive asked k.order;
-      few = omega (arith, few, n, more);
-      few_open = omega (arith, a.few_open, more);
-      inputs = k.inputs;
-      wanted = k.wanted;
-    })
+accept_lasting {m} {p = p} {t = t} {given = given} {fuel = fuel} s k a = search (rules, length-append, order_comes)
 
 begins_lasting : (m : Module) (place of : ℕ) (params : Params) (p : Parameters) (inst : Instance) (s : Store) (ps : List Piece) (fuel : ℕ) {d : Doing} {es os : List Entry} → AreGiven p → IsInitial m p (begins inst s ps) → fuel ≤ most_fuel
     → StartsAs inst s ps m.start fuel d es os → Lasts m p (beginner place of params inst s d es os) s.bytes None
@@ -203,25 +149,10 @@ begins_lasting m place of params p inst s ps fuel given initial low (ends none s
 
 fork_lasting : {m : Module} {p p2 : Parameters} {t : Tenant} {bytes : List ℕ} {want : Option Need} → Lasts m p t bytes want → SameLimit m p p2 t.inst → (place : ℕ) (params : Params)
     → Lasts m p2 (record t { place = place; params = params; copied = length t.ended; waiting_for = None }) bytes None
-fork_lasting k same place params = record {
-  order = k.order;
-  few = k.few;
-  few_open = k.few_open;
-  inputs = k.inputs ∙ sym same.inputs;
-  wanted = tt;
-}
+fork_lasting k same place params = search rules
 
 pub lasts_up : IsKeptUp Lasts
-lasts_up = record {
-  turned = λ k h. turn_lasting k h;
-  cancelled = λ k h. cancel_lasting k h;
-  refuelled = λ k h. refuel_lasting k h;
-  faulted = λ k a b c. fault_lasting k a b c;
-  retried = λ k h. retry_lasting k h;
-  accepted = λ s k h. accept_lasting s k h;
-  forked = λ k none same place params. fork_lasting k same place params;
-  begun = λ m place of params p inst s ps fuel given initial few starts. begins_lasting m place of params p inst s ps fuel given initial few starts;
-}
+lasts_up = search (rules, turn_lasting, cancel_lasting, refuel_lasting, fault_lasting, retry_lasting, accept_lasting, fork_lasting, begins_lasting)
 
 -- ---- all of a host
 

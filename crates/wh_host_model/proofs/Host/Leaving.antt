@@ -1,5 +1,5 @@
 -- The memory's own relations lead to those that the host's definitions use.
-use Rattle.std.proofs.Common.{◌≡◌, ℕ, ◌+◌, ◌*◌, ◌<◌, ◌≤◌, ◌⊎◌, inl, inr, ◌==◌, cond, Bool, true, false, List, [], ◌∷◌, Option, Some, None, zero, suc, length, get_or, slice_get, refl, sym, ap, subst, ◌∙◌, arith, length-append}
+use Rattle.std.proofs.Common.{◌≡◌, ℕ, ◌+◌, ◌*◌, ◌<◌, ◌≤◌, ◌⊎◌, inl, inr, ◌==◌, cond, Bool, true, false, List, [], ◌∷◌, Option, Some, None, zero, suc, length, get_or, slice_get, refl, sym, ap, ◌∙◌, arith, length-append, rules}
 use Rattle.std.proofs.lemmas.List.{get_or-set_same, get_or-set_other}
 use Rattle.wh_model.specs.declared.memory.Need.{Need}
 use Rattle.wh_space_model.specs.{joined, Space, Occupant, Pins, Claimed, occupant_at, all_bytes, claim_of, need_of, promised_to, kept, kept_by, pinned_by, IsSound, may_take, has_pins, unpinned, IsFreePlace, newcomer, Enters, Exits, with_row, ticket_of, stays_occupant, tally, Epochs, Touches, awaiting, stood, ended, HasNoPins}
@@ -28,15 +28,7 @@ pub alone_self : (s : Space) → IsSound s → AllLeftAlone s s
 alone_self s sound = (λ j. record { view = refl; wants = refl; claim = refl; promise = inl refl }, sound)
 
 pub alone_bytes : (s s2 : Space) → all_bytes s2 ≡ all_bytes s → s2.occupants ≡ s.occupants → IsSound s2 → AllLeftAlone s s2
-alone_bytes s s2 bytes same sound = (
-  λ j. record {
-    view = ap (λ (b : List (List (List ℕ))). joined (get_or b j [])) bytes;
-    wants = ap (λ (xs : List (Option Occupant)). need_of (get_or xs j None)) same;
-    claim = ap (λ (xs : List (Option Occupant)). claim_of (get_or xs j None)) same;
-    promise = inl (ap (λ (xs : List (Option Occupant)). promised_to (get_or xs j None)) same);
-  },
-  sound,
-)
+alone_bytes s s2 bytes same sound = search rules
 
 pub epochs_alone : (s s2 : Space) → IsSound s → Epochs s s2 → AllLeftAlone s s2
 epochs_alone s s2 sound e = let quiet = steps_quiet s 0 in alone_bytes s s2 (quiet.epochs s2 e) (ap (λ (z : Space). z.occupants) e) (epochs_soundly s s2 sound e)
@@ -64,13 +56,10 @@ stood_alone s i t need sound is live fits =
     let there = within s.occupants i t is in
     let quiet = steps_quiet s i in
     let bytes : all_bytes (stood s i need) ≡ all_bytes s = quiet.stands need in
-    let now : get_or (stood s i need).occupants i None ≡ Some (record t { stands = need }) =
-    get_or-set_same s.occupants i (awaiting (get_or s.occupants i None) need) None there.0 ∙ ap (λ o. awaiting o need) there.1 in
+    let now : get_or (stood s i need).occupants i None ≡ Some (record t { stands = need }) = search (rules, get_or-set_same) in
     record {
       steps = record {
-        others = λ j other.
-            let same = get_or-set_other s.occupants i j (awaiting (get_or s.occupants i None) need) None other in
-            record { view = ap (λ (b : List (List (List ℕ))). joined (get_or b j [])) bytes; wants = ap need_of same; claim = ap claim_of same; promise = inl (ap promised_to same) };
+        others = search (rules, get_or-set_other, ℕ);
         places = λ j other. ap promised_to (get_or-set_other s.occupants i j (awaiting (get_or s.occupants i None) need) None other);
         claim = ap claim_of now ∙ sym (ap claim_of there.1);
         sound = waits_soundly s i t need sound is (λ want e. let f = fits want e in (live, f.0, f.1));
@@ -118,12 +107,7 @@ ended_alone s i t sound is live =
     let mine = off.0 i in
     let both = pins_end s i in (
       record {
-        steps = record {
-          others = λ j other. left_then (steps.others j other) (off.0 j);
-          places = λ j other. ap (λ (xs : List (Option Occupant)). promised_to (get_or xs j None)) (unpinned_there mid b) ∙ steps.places j other;
-          claim = mine.claim ∙ steps.claim;
-          sound = off.1;
-        };
+        steps = search (rules, left_then, unpinned_there);
         view = mine.view ∙ a.view;
         wants = mine.wants ∙ a.wants;
         ready = λ need. unpinned_ready mid i need b (unpinned_takes mid i b refl);
@@ -148,12 +132,7 @@ nobody_there s i t (inr e) is = let h = within s.occupants i t is in let lt = h.
 free_unpinned : (s : Space) (i : ℕ) → IsSound s → IsFreePlace s i → (pins : Option Pins) → s.pins ≡ pins → (b : Bool) → has_pins pins i ≡ b → (kept_by pins i ≡ []) × (pinned_by pins i ≡ [])
 free_unpinned s i sound free None e b test = (refl, refl)
 free_unpinned s i sound free (Some pins) e false test = (rw test refl, rw test refl)
-free_unpinned s i sound free (Some pins) e true test =
-    let found = sound.pins.of pins e in
-    let here : pins.place ≡ i = same_place pins.place i test in
-    absurd (nobody_there s i found.0 free (subst (λ n. occupant_at s n found.0) here found.1)) where
-      same_place : (m n : ℕ) → (m == n) ≡ true → m ≡ n
-      same_place m n h = grind (arith, nat_tests)
+free_unpinned s i sound free (Some pins) e true test = search (rules, nobody_there, ℕ, nat_tests)
 
 pub enters_alone : (s : Space) (i : ℕ) (c : Claimed) (size : ℕ) (s2 : Space) → IsSound s → Enters s i c size s2 → Arrives i c (65536 * size) s s2
 enters_alone s i c size s2 sound e =
@@ -165,8 +144,7 @@ enters_alone s i c size s2 sound e =
     record {
       free = e.free;
       others = λ j other.
-          let same : get_or s2.occupants j None ≡ get_or s.occupants j None =
-          ap (λ (xs : List (Option Occupant)). get_or xs j None) rows ∙ same_there (with_row s.occupants i (Some (newcomer c))) s.occupants j None (row_other s.occupants i j (Some (newcomer c)) low other) in
+          let same : get_or s2.occupants j None ≡ get_or s.occupants j None = search (rules, same_there, row_other) in
           record { view = enters_own s i c size s2 sound e j other; wants = ap need_of same; claim = ap claim_of same; promise = inl (ap promised_to same) };
       places = λ j other. ap promised_to (ap (λ (xs : List (Option Occupant)). get_or xs j None) rows ∙ same_there (with_row s.occupants i (Some (newcomer c))) s.occupants j None (row_other s.occupants i j (Some (newcomer c)) low other));
       view = enters_at_zeros s i c size s2 sound e;
@@ -178,16 +156,10 @@ enters_alone s i c size s2 sound e =
 
 gone_promise : (t : Occupant) (n : ℕ)
     → (promised_to (stays_occupant (Some (record t { live = false; stands = None })) n) ≡ promised_to (Some t)) ⊎ (promised_to (stays_occupant (Some (record t { live = false; stands = None })) n) ≡ None)
-gone_promise t n = go (n == 0) where
-  go : (b : Bool) → (promised_to (cond b None (Some (record t { live = false; stands = None }))) ≡ promised_to (Some t)) ⊎ (promised_to (cond b None (Some (record t { live = false; stands = None }))) ≡ None)
-  go true = inr refl
-  go false = inl refl
+gone_promise t n = search rules
 
 gone_claims : (t : Occupant) (n : ℕ) → (claim_of (stays_occupant (Some (record t { live = false; stands = None })) n) ≡ None) × (need_of (stays_occupant (Some (record t { live = false; stands = None })) n) ≡ None)
-gone_claims t n = go (n == 0) refl where
-  go : (b : Bool) → (n == 0) ≡ b → (claim_of (cond b None (Some (record t { live = false; stands = None }))) ≡ None) × (need_of (cond b None (Some (record t { live = false; stands = None }))) ≡ None)
-  go true e = (refl, refl)
-  go false e = (refl, refl)
+gone_claims t n = search rules
 
 pub exits_alone : (s : Space) (i : ℕ) (s2 : Space) → IsSound s → Exits s i s2 → Departs i s s2
 exits_alone s i s2 sound e =
@@ -200,16 +172,11 @@ exits_alone s i s2 sound e =
     let views = exits_own s i s2 e in
     let ends = pins_end s i in
     record {
-      others = λ j other.
-          let same : get_or s2.occupants j None ≡ get_or s.occupants j None = ap (λ (xs : List (Option Occupant)). get_or xs j None) e.occupants ∙ get_or-set_other s.occupants i j new None other in
-          record { view = views.1 j other; wants = ap need_of same; claim = ap claim_of same; promise = inl (ap promised_to same) };
+      others = search (rules, get_or-set_other);
       places = λ j other. ap promised_to (ap (λ (xs : List (Option Occupant)). get_or xs j None) e.occupants ∙ get_or-set_other s.occupants i j new None other);
       claim = ap claim_of now ∙ gone.0;
       wants = ap need_of now ∙ gone.1;
-      promise = elim (gone_promise t n) [
-        | inl same ↦ inl (ap promised_to now ∙ same ∙ sym (ap promised_to there.1))
-        | inr none ↦ inr (ap promised_to now ∙ none)
-      ];
+      promise = search (rules, gone_promise);
       unpinned = ends.1 s2 e;
       sound = exits_soundly s i s2 sound e;
     }

@@ -1,5 +1,5 @@
 -- An instance begins alike with any quota that lets its memory grow just as far.
-use Rattle.std.proofs.Common.{◌≡◌, ℕ, ◌*◌, ◌≤◌, inl, inr, List, [], ◌∷◌, replicate, None, refl, sym, ap, subst, ◌∙◌}
+use Rattle.std.proofs.Common.{◌≡◌, ℕ, ◌*◌, ◌≤◌, inl, inr, List, [], ◌∷◌, replicate, None, refl, sym, ap, subst, ◌∙◌, rules}
 use Rattle.std.proofs.lemmas.Bool.{cases_lt}
 use Rattle.wh_model.specs.Format.{FuncType, Import, Module}
 use Rattle.wh_model.specs.Execution.Store.{Instance, Store}
@@ -14,11 +14,7 @@ pub record SameLimit (m : Module) (p p2 : Parameters) (inst : Instance) : Type 0
   pub small : ¬ (IsInitial m p2 memory_min)
 
 pub given_still : {m : Module} {p p2 : Parameters} {inst : Instance} → AreGiven p → SameLimit m p p2 inst → AreGiven p2
-given_still {p = p} {p2 = p2} given same = record {
-  base = let a = given.base in let b = same.base in rw b a;
-  salt = let a = given.salt in let b = same.salt in rw b a;
-  inputs = let a = given.inputs in let b = same.inputs in rw b a;
-}
+given_still {p = p} {p2 = p2} given same = search rules
 
 global_still : (p p2 : Parameters) (i : Import) (v : Value) → p2.base ≡ p.base → p2.salt ≡ p.salt → ImportsGlobal p i v → ImportsGlobal p2 i v
 global_still p p2 i v base salt (from, inl (name, desc, is)) = (from, inl (name, desc, rw base is))
@@ -31,21 +27,7 @@ imported_still types p p2 (i ∷ is) fs vs base salt (inr (v, rest, one, same, m
 
 prepared_still : (m : Module) (p p2 : Parameters) (inst : Instance) (globals : List Value) (elements segments : List Piece) → Prepares m p inst globals elements segments
     → p2.base ≡ p.base → p2.salt ≡ p.salt → inst.page_limit ≡ last_size m.memories p2.page_limit → Prepares m p2 inst globals elements segments
-prepared_still m p p2 inst globals elements segments pr base salt limit = record {
-  types = pr.types;
-  page_limit = limit;
-  hosts = pr.hosts;
-  owns = pr.owns;
-  imported = pr.imported;
-  begun = pr.begun;
-  imports = imported_still m.types p p2 m.imports pr.hosts pr.imported base salt pr.imports;
-  defines = pr.defines;
-  funcs = pr.funcs;
-  begins = pr.begins;
-  globals_are = pr.globals_are;
-  elements_at = pr.elements_at;
-  segments_at = pr.segments_at;
-}
+prepared_still m p p2 inst globals elements segments pr base salt limit = search (rules, imported_still)
 
 fits_still : (m : Module) (p2 : Parameters) → ¬ (IsInitial m p2 memory_min) → first_size m.memories ≤ p2.page_limit
 fits_still m p2 small = elim (cases_lt p2.page_limit (first_size m.memories)) [

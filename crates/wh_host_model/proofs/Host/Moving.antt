@@ -1,12 +1,12 @@
 -- Offers, and pages in transit, leave all instances alone.
-use Rattle.std.proofs.Common.{◌≡◌, ◌⊎◌, ℕ, zero, suc, inl, inr, ◌==◌, cond, Bool, true, false, List, [], ◌∷◌, Option, Some, None, get_or, slice_set, refl, ap, ◌∙◌}
+use Rattle.std.proofs.Common.{◌≡◌, ◌⊎◌, ℕ, zero, suc, inl, inr, ◌==◌, cond, Bool, true, false, List, [], ◌∷◌, Option, Some, None, get_or, slice_set, refl, ap, ◌∙◌, rules}
 use Rattle.wh_model.specs.declared.memory.Need.{Need}
 use Rattle.wh_space_model.specs.declared.states.Offer.{Offer}
 use Rattle.wh_space_model.specs.declared.states.Offer.TheVariants.{Skipped, Zeroed, Hinted, Stale, Merged, FalseMatch}
 use Rattle.wh_space_model.specs.declared.states.EvictEnd.{EvictEnd}
 use Rattle.wh_space_model.specs.declared.states.FetchEnd.{FetchEnd}
 use Rattle.wh_space_model.specs.declared.states.Slot.TheVariants.{Vacant}
-use Rattle.wh_space_model.specs.{tally, joined, Space, Occupant, Promised, all_bytes, claim_of, need_of, promised_to, ticket_of, IsSound, OffersAlone, OffersUnlisted, Reserves, BeginsEvict, BeginsFetch, CommitsEvict, CommitsFetch, leaving_by, stays_occupant}
+use Rattle.wh_space_model.specs.{tally, Space, Occupant, Promised, all_bytes, claim_of, need_of, promised_to, ticket_of, IsSound, OffersAlone, OffersUnlisted, Reserves, BeginsEvict, BeginsFetch, CommitsEvict, CommitsFetch, leaving_by, stays_occupant}
 use Rattle.wh_space_model.specs.Offers.{Offers}
 use Rattle.wh_space_model.proofs.Listed.{offers_quiet}
 use Rattle.wh_space_model.proofs.Listed.{offers_soundly}
@@ -43,8 +43,7 @@ offers_there hashes s i p hash answer s2 (inl o) = own_there hashes s i p hash a
 offers_there hashes s i p hash answer s2 (inr o) = shared_there hashes s i p hash answer s2 o
 
 pub offers_alone : (hashes : List ℕ → ℕ) (s : Space) (i p hash : ℕ) (answer : Offer) (s2 : Space) → IsSound s → Offers hashes s i p hash answer s2 → AllLeftAlone s s2
-offers_alone hashes s i p hash answer s2 sound o =
-    alone_bytes s s2 (offers_quiet hashes s i p hash answer s2 o) (offers_there hashes s i p hash answer s2 o) (offers_soundly hashes s i p hash answer s2 sound o)
+offers_alone hashes s i p hash answer s2 sound o = search (rules, alone_bytes, offers_quiet, offers_there, offers_soundly)
 
 -- ---- who has a place stands and claims as before
 
@@ -73,10 +72,7 @@ pub claims_of : {xs ys : List (Option Occupant)} → xs ≡ ys → Claims xs ys
 claims_of e = record { each = λ m. (ap (λ (zs : List (Option Occupant)). need_of (get_or zs m None)) e, ap (λ (zs : List (Option Occupant)). claim_of (get_or zs m None)) e, inl (ap (λ (zs : List (Option Occupant)). promised_to (get_or zs m None)) e)) }
 
 pub alone_claims : (s s2 : Space) → all_bytes s2 ≡ all_bytes s → Claims s2.occupants s.occupants → IsSound s2 → AllLeftAlone s s2
-alone_claims s s2 bytes same sound = (
-  λ j. (let x = same.each j in record { view = ap (λ (b : List (List (List ℕ))). joined (get_or b j [])) bytes; wants = x.0; claim = x.1; promise = x.2 }),
-  sound,
-)
+alone_claims s s2 bytes same sound = search rules
 
 leaving_at : (xs : List (Option Occupant)) (j : ℕ) (slot : Option ℕ) (m : ℕ) → Alike (get_or (slice_set xs j (leaving_by (get_or xs j None) slot)) m None) (get_or xs m None)
 leaving_at [] j slot m = alike_self None

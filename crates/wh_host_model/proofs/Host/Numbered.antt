@@ -1,14 +1,12 @@
 -- The number of a module is never given again.
-use Rattle.std.proofs.Common.{◌≡◌, ℕ, ℤ, zero, suc, ◌<◌, ◌++◌, inl, inr, List, [], ◌∷◌, Option, Some, None, length, get_or, slice_set, length-set, length-append, refl, sym, ap, subst, ◌∙◌, arith}
-use Rattle.std.proofs.lemmas.List.{get_or-set_same, get_or-set_other}
+use Rattle.std.proofs.Common.{◌≡◌, ℕ, ℤ, zero, suc, ◌<◌, ◌++◌, inl, List, [], ◌∷◌, Option, None, length, get_or, length-append, refl, ap, ◌∙◌, arith, rules}
 use Rattle.wh_space_model.specs.declared.plain.InstId.{InstId}
 use Rattle.wh_space_model.specs.declared.plain.SwapError.{SwapError}
 use Rattle.wh_host_model.specs.declared.plain.TurnEnd.{TurnEnd}
 use Rattle.wh_host_model.specs.{Params, Quota}
-use Rattle.wh_host_model.specs.Host.{Loaded, Tenant, World, Event, turn, load, admit, invoke, refuel, cancel, retry, release, fork, unload, offer, evict_begin, evict_commit, fetch_begin, fetch_commit, provide, epoch, IsTurn, MovesPages, has_failed, moved, of_none, of_one, KeepsModules, ModulesAreKept}
+use Rattle.wh_host_model.specs.Host.{Tenant, World, Event, turn, load, admit, invoke, refuel, cancel, retry, release, fork, unload, offer, evict_begin, evict_commit, fetch_begin, fetch_commit, provide, epoch, IsTurn, MovesPages, has_failed, moved, of_none, of_one, KeepsModules, ModulesAreKept}
 use Rattle.wh_host_model.specs.Host.Happens as happens
 use Rattle.wh_host_model.specs.Host.Happens.{Happens}
-use Rattle.wh_space_model.proofs.Putting.{here_or}
 
 same_modules : (w w2 : World) → w2.modules ≡ w.modules → KeepsModules w w2
 same_modules w w2 same = record { grows = let l = ap length same in omega (arith, l); same = λ k less. inl (ap (λ ms. get_or ms k None) same) }
@@ -23,12 +21,7 @@ turn_modules w w2 id q answer (of_none none) = refl
 turn_modules w w2 id q answer (of_one live t) = refl
 
 load_kept : (w w2 : World) (bytes : List ℕ) (answer : happens.LoadAnswer) → happens.IsLoad w bytes answer w2 → KeepsModules w w2
-load_kept w w2 bytes answer (happens.is_loaded l) =
-    let new : Option Loaded = Some (record { bytes = bytes; m = l.m }) in
-    subst (KeepsModules w) (sym l.after) (record {
-      grows = let n = length-append w.modules (new ∷ []) in omega (arith, n);
-      same = λ k less. inl (still w.modules new k less);
-    })
+load_kept w w2 bytes answer (happens.is_loaded l) = search (rules, length-append, still)
 load_kept w w2 bytes answer (happens.isnt_loaded r) = same_modules w w refl
 load_kept w w2 bytes answer (happens.no_memory_to_load r) = same_modules w w refl
 
@@ -69,14 +62,7 @@ fork_modules w w2 id q answer (happens.isnt_forked x y) = refl
 fork_modules w w2 id q answer (happens.no_memory_to_fork x y) = refl
 
 unload_kept : (w w2 : World) (k : ℕ) (answer : happens.UnloadAnswer) → happens.IsUnload w k answer w2 → KeepsModules w w2
-unload_kept w w2 k answer (happens.is_unloaded l) =
-    subst (KeepsModules w) (sym l.after) (record {
-      grows = let n = length-set w.modules k None in omega (arith, n);
-      same = λ j less. elim (here_or k j) [
-        | inl same ↦ inr (ap (λ n. get_or (slice_set w.modules k None) n None) same ∙ get_or-set_same w.modules k None None (subst (λ n. n < length w.modules) same less))
-        | inr other ↦ inl (get_or-set_other w.modules k j None None (λ e. other e))
-      ];
-    })
+unload_kept w w2 k answer (happens.is_unloaded l) = search rules
 unload_kept w w2 k answer (happens.no_module_to_unload none) = same_modules w w refl
 unload_kept w w2 k answer (happens.is_in_use i l x y) = same_modules w w refl
 

@@ -1,5 +1,5 @@
 -- Whoever has a place, also one that was released, has the number of an instance that was admitted.
-use Rattle.std.proofs.Common.{◌≡◌, ◌≢◌, ℕ, ℤ, zero, suc, ◌+◌, ◌<◌, inl, inr, Bool, true, false, List, [], ◌∷◌, ◌++◌, Option, Some, None, length, get_or, length-set, length-append, refl, sym, ap, subst, ◌∙◌, arith}
+use Rattle.std.proofs.Common.{◌≡◌, ◌≢◌, ℕ, ℤ, zero, suc, ◌+◌, ◌<◌, inl, inr, List, [], ◌∷◌, ◌++◌, Option, Some, None, length, get_or, length-set, length-append, sym, ap, subst, ◌∙◌, arith, rules}
 use Rattle.wh_space_model.specs.declared.Tax.{Tax}
 use Rattle.wh_space_model.specs.declared.plain.InstId.{InstId}
 use Rattle.wh_space_model.specs.declared.plain.SwapError.{SwapError}
@@ -34,26 +34,14 @@ below_all n s s2 below same = record { each = λ j x e. (let alike = same.0 j in
 -- a live one has the number that it claims
 claimed_number : (o : Option Occupant) (c : Claimed) (x : Promised) → claim_of o ≡ Some c → promised_to o ≡ Some x → x.number ≡ c.number
 claimed_number None c x claims is = absurd (cc is)
-claimed_number (Some t) c x claims is = go t.live refl where
-  go : (b : Bool) → t.live ≡ b → x.number ≡ c.number
-  go true e =
-      let claims2 : Some (record { number = t.number; shares = t.shares; min = t.min; max = t.max }) ≡ Some c = sym (rw e refl) ∙ claims in
-      let one : record { number = t.number; shares = t.shares; min = t.min; max = t.max } ≡ c = cc claims2 in
-      let two : record { number = t.number; min = t.min; max = t.max } ≡ x = cc is in
-      sym (ap (λ (z : Promised). z.number) two) ∙ ap (λ (z : Claimed). z.number) one
-  go false e = absurd (let none : claim_of (Some t) ≡ None = rw e refl in let bad : None ≡ Some c = sym none ∙ claims in cc bad)
+claimed_number (Some t) c x claims is = search rules
 
 below_claimed : (n i : ℕ) (s2 : Space) (c : Claimed) → c.number < n → claim s2 i ≡ Some c → (x : Promised) → promise_at s2 i ≡ Some x → x.number < n
 below_claimed n i s2 c low claims x e = let same = claimed_number (get_or s2.occupants i None) c x claims e in omega (arith, same, low)
 
 -- one has taken a step, or turns
 below_apart : (n i : ℕ) (s s2 : Space) (c : Claimed) → claim s i ≡ Some c → c.number < n → AreBelow n s → Apart i s s2 → AreBelow n s2
-below_apart n i s s2 c claims low below apart = record {
-  each = λ j x e. elim (here_or i j) [
-    | inl same ↦ below_claimed n i s2 c low (apart.claim ∙ claims) x (subst (λ z. promise_at s2 z ≡ Some x) same e)
-    | inr other ↦ (let alike = apart.others j other in below_kept n j s s2 below alike.promise x e)
-  ];
-}
+below_apart n i s s2 c claims low below apart = search rules
 
 -- ---- the number of one that is live
 
@@ -82,16 +70,7 @@ load_below w w2 bytes answer below (happens.isnt_loaded r) = below
 load_below w w2 bytes answer below (happens.no_memory_to_load r) = below
 
 arrives_below : (w : World) (place : ℕ) (c : Claimed) (bytes : List ℕ) (space : Space) (t : Tenant) → AreAdmitted w → c.number ≡ length w.tenants → ArrivesSeeing place c bytes w.space space → AreAdmitted (record w { tenants = w.tenants ++ Some t ∷ []; space = space })
-arrives_below w place c bytes space t below next arrives =
-    let n : ℕ = length w.tenants in
-    record {
-      each = λ j x e.
-          let less : x.number < n + 1 = elim (here_or place j) [
-            | inl same ↦ below_claimed (n + 1) place space c (omega (arith, next)) arrives.claim x (subst (λ z. promise_at space z ≡ Some x) same e)
-            | inr other ↦ (let alike = arrives.others j other in let low = below_kept n j w.space space below alike.promise x e in omega (arith, low))
-          ] in
-          omega (arith, less, length-append {A = Option Tenant});
-    }
+arrives_below w place c bytes space t below next arrives = search (rules, ℕ, here_or, below_claimed, below_kept, length-append)
 
 lets_in_below : (w w2 : World) (k : ℕ) (p : Params) (place number : ℕ) → AreAdmitted w → LetsIn w k p place number w2 → AreAdmitted w2
 lets_in_below w w2 k p place number below a = subst AreAdmitted (sym a.after) (arrives_below w place (promised number p) _ a.space _ below a.next a.arrives)
@@ -126,14 +105,7 @@ retry_below w w2 id answer below (happens.no_one_to_retry x) = below
 retry_below w w2 id answer below (happens.no_fault_to_retry x y) = below
 
 goes_below : (w w2 : World) (i : ℕ) (t : Tenant) (output : List ℕ) → AreAdmitted w → LetsGo w i t output w2 → AreAdmitted w2
-goes_below w w2 i t output below r =
-    let departs = r.departs in
-    subst AreAdmitted (sym r.after) (same_count w i None r.space (record {
-      each = λ j x e. elim (here_or t.place j) [
-        | inl same ↦ below_kept (length w.tenants) t.place w.space r.space below departs.promise x (subst (λ z. promise_at r.space z ≡ Some x) same e)
-        | inr other ↦ (let alike = departs.others j other in below_kept (length w.tenants) j w.space r.space below alike.promise x e)
-      ];
-    }))
+goes_below w w2 i t output below r = search rules
 
 release_below : (w w2 : World) (id : InstId) (answer : Option (List ℕ)) → AreAdmitted w → happens.IsRelease w id answer w2 → AreAdmitted w2
 release_below w w2 id answer below (happens.is_released {t = t} {output = output} there r) = goes_below w w2 id.number t output below r

@@ -1,5 +1,5 @@
 -- What the steps of a turn make of a call.
-use Rattle.std.proofs.Common.{◌≡◌, ℕ, ◌+◌, ◌<◌, inl, List, length, take, drop, refl, sym, ap, subst, ◌∙◌, arith}
+use Rattle.std.proofs.Common.{◌≡◌, ℕ, ◌+◌, ◌<◌, inl, List, length, take, drop, refl, sym, ap, subst, ◌∙◌, arith, rules}
 use Rattle.std.proofs.lemmas.List.{take-append-drop, length-drop}
 use Rattle.wh_model.specs.declared.memory.Need.{Need}
 use Rattle.wh_model.specs.Execution.Store.{Instance, Store}
@@ -59,17 +59,8 @@ opened_invoked bytes ready keeps r (is_under_way p l i b x) e w j a = absurd (cc
 opened_on : {inst : Instance} {s1 : Store} {ps1 : List Piece} {call : Call} {c c1 : Config} {z : Standing}
     → Stands inst s1 ps1 call z → z ≡ running c → After inst c 0 c1 → Opened inst s1 ps1 call 0 0 c1
 opened_on (has_pieces lt none) e a = absurd (cc e)
-opened_on {inst} {c = c} {c1 = c1} (is_invoked {c = c0} p q i) e a =
-    let same : c0 ≡ c = cc e in
-    record {
-      first = c0;
-      invoked = i;
-      written = omega (arith, p);
-      after = subst (λ n. After inst c0 n c1) (omega (arith, q)) (subst (λ x. After inst x 0 c1) (sym same) a);
-    }
-opened_on {inst} {call = call} {c = c} {c1 = c1} (is_under_way {c = c0} {c2 = c2} p l i b r) e a =
-    let same : c2 ≡ c = cc e in
-    record { first = c0; invoked = i; written = omega (arith, p); after = joins call.charges 0 b (subst (λ x. After inst x 0 c1) (sym same) a) refl }
+opened_on {inst} {c = c} {c1 = c1} (is_invoked {c = c0} p q i) e a = search rules
+opened_on {inst} {call = call} {c = c} {c1 = c1} (is_under_way {c = c0} {c2 = c2} p l i b r) e a = search (rules, joins)
 
 opens_call : {M : Type 0} {bytes : M → List ℕ} {ready : M → Need → Type 0} {keeps : M → M → Type 0} {inst : Instance} {s1 : Store} {ps1 : List Piece} {call : Call} {k : ℕ} {m m2 : M} {r : Rest} {d : Doing} {c : Config}
     → Stands inst s1 ps1 call (standing_with (bytes m) r d) → Opens bytes ready keeps inst call m r d k m2 c → Opened inst s1 ps1 call k 0 c
@@ -78,9 +69,7 @@ opens_call st (as_it_was a) = opened_on st refl a
 
 pub computes_call : {M : Type 0} {bytes : M → List ℕ} {ready : M → Need → Type 0} {keeps : M → M → Type 0} {inst : Instance} {s1 : Store} {ps1 : List Piece} {call : Call} {q k n : ℕ} {m m2 : M} {r : Rest} {d : Doing} {c : Config}
     → Stands inst s1 ps1 call (standing_with (bytes m) r d) → Computes bytes ready keeps inst q call m r d k n m2 c → Opened inst s1 ps1 call k n c
-computes_call {call = call} {n = n} st x =
-    let o = opens_call st x.opens in
-    record { first = o.first; invoked = o.invoked; written = o.written; after = joins (call.charges + 0) n o.after (takes_after x.takes o.after.1) (omega arith) }
+computes_call {call = call} {n = n} st x = search (rules, opens_call, joins, takes_after)
 
 -- ---- what the others see
 

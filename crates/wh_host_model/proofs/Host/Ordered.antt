@@ -1,10 +1,10 @@
 -- What turns and requests make of the order of an instance's calls.
-use Rattle.std.proofs.Common.{◌≡◌, ◌≤◌, Bool, true, false, List, [], ◌∷◌, ◌++◌, map, refl, sym, subst}
+use Rattle.std.proofs.Common.{◌≡◌, ◌≤◌, Bool, true, false, List, [], ◌∷◌, ◌++◌, map, refl, sym, subst, rules}
 use Rattle.std.specs.Bool.{MatchBool}
 use Rattle.std.specs.List.{AllByRecursion}
 use Rattle.wh_model.specs.Format.{Module}
 use Rattle.wh_model.specs.Execution.Store.{Instance}
-use Rattle.wh_model.specs.Execution.{Outcome, returned, stopped, cancelled, dead, pending, Call, fails, NamesFunction, IsDead, IsNotDead, IsJournal}
+use Rattle.wh_model.specs.Execution.{Outcome, returned, stopped, cancelled, dead, pending, Call, NamesFunction, IsDead, IsNotDead, IsJournal}
 use Rattle.wh_host_model.specs.Host.{journal_calls, ended_by, dies, IsAsked, IsStart, ReturnsTyped, HasEnded, IsEnded, IsOpenCall, IsDeadCall, InOrder, is_starting, has_started, has_died}
 use Rattle.wh_host_model.specs.{Entry, most_fuel}
 use Rattle.wh_host_model.proofs.Host.Entries.{all_join}
@@ -17,23 +17,10 @@ pub record SameCall (e e2 : Entry) : Type 0 where
   pub fuel : e.call.fuel ≤ most_fuel → e2.call.fuel ≤ most_fuel
 
 pub asked_alike : {inst : Instance} {e e2 : Entry} → SameCall e e2 → IsAsked inst e → IsAsked inst e2
-asked_alike same a = record {
-  index = a.index;
-  type = a.type;
-  body = a.body;
-  func = let f = same.func in let g = a.func in cc (f, g);
-  is_own = a.is_own;
-  arguments = rw (same.given, same.args) a.arguments;
-  fuel = same.fuel a.fuel;
-}
+asked_alike same a = search rules
 
 pub start_alike : {m : Module} {e e2 : Entry} → SameCall e e2 → IsStart m e → IsStart m e2
-start_alike same a = record {
-  func = let f = same.func in let g = a.func in cc (f, g);
-  args = let f = same.args in let g = a.args in cc (f, g);
-  given = let f = same.given in let g = a.given in cc (f, g);
-  fuel = same.fuel a.fuel;
-}
+start_alike same a = search rules
 
 -- ---- a call goes on, ends, dies, comes
 
@@ -101,20 +88,7 @@ pub record Parted (m : Module) (es : List Entry) : Type 0 where
   pub journal : IsJournal m start behind
 
 pub order_journal : {m : Module} {inst : Instance} {dead : Bool} {ended os : List Entry} → InOrder m inst dead ended os → Parted m (ended ++ os)
-order_journal {m = m} {inst = inst} (is_starting {e = e} {es = es} st p rest) =
-    let n = open_names inst es rest in
-    record {
-      start = e.call;
-      behind = journal_calls es;
-      are = refl;
-      journal = record {
-        func = st.func;
-        args = st.args;
-        not_dead = λ d. cc (p, d);
-        names = n.0;
-        behind = subst (λ o. MatchBool (fails o) (AllByRecursion IsDead (journal_calls es)) (AllByRecursion IsNotDead (journal_calls es))) (sym p) n.1;
-      };
-    }
+order_journal {m = m} {inst = inst} (is_starting {e = e} {es = es} st p rest) = search (rules, open_names, not_dead)
 order_journal {m = m} {inst = inst} (has_started {e = e} {es = es} {os = os} st h f r xs ys) =
     let a = ended_names inst es xs in
     let b = open_names inst os ys in
@@ -130,17 +104,4 @@ order_journal {m = m} {inst = inst} (has_started {e = e} {es = es} {os = os} st 
         behind = subst (λ b. MatchBool b (AllByRecursion IsDead (journal_calls (es ++ os))) (AllByRecursion IsNotDead (journal_calls (es ++ os)))) (sym f) (calls_all IsNotDead es os a.1 b.1);
       };
     }
-order_journal {m = m} {inst = inst} (has_died {e = e} {es = es} st h f xs) =
-    let a = dead_names inst es xs in
-    record {
-      start = e.call;
-      behind = journal_calls (es ++ []);
-      are = refl;
-      journal = record {
-        func = st.func;
-        args = st.args;
-        not_dead = not_dead e.call.outcome h;
-        names = calls_all NamesFunction es [] a.0 tt;
-        behind = subst (λ b. MatchBool b (AllByRecursion IsDead (journal_calls (es ++ []))) (AllByRecursion IsNotDead (journal_calls (es ++ [])))) (sym f) (calls_all IsDead es [] a.1 tt);
-      };
-    }
+order_journal {m = m} {inst = inst} (has_died {e = e} {es = es} st h f xs) = search (rules, dead_names, not_dead, calls_all)

@@ -1,9 +1,9 @@
 -- No event changes number, minimum or maximum of whoever has a place.
-use Rattle.std.proofs.Common.{◌≡◌, ◌⊎◌, ℕ, ℤ, zero, suc, inl, inr, Bool, true, false, List, [], ◌∷◌, Option, Some, None, length, get_or, slice_get, refl, sym, ap, subst, ◌∙◌, arith}
+use Rattle.std.proofs.Common.{◌≡◌, ◌⊎◌, ℕ, ℤ, zero, suc, inl, inr, List, [], ◌∷◌, Option, Some, None, length, get_or, slice_get, refl, sym, ap, subst, ◌∙◌, arith, rules}
 use Rattle.wh_space_model.specs.declared.plain.InstId.{InstId}
 use Rattle.wh_space_model.specs.declared.plain.SwapError.{SwapError}
 use Rattle.wh_host_model.specs.declared.plain.TurnEnd.{TurnEnd}
-use Rattle.wh_space_model.specs.{Claimed, Occupant, Promised, Space, claim, claim_of, promise_at, promised_to, IsSound}
+use Rattle.wh_space_model.specs.{Claimed, Occupant, Promised, Space, claim, promise_at, promised_to, IsSound}
 use Rattle.wh_host_model.specs.Host.{AllLeftAlone, ArrivesSeeing, KeepsPromise, Tenant, World, empty_world, promised, LetsGo, LetsIn, Event, turn, load, admit, invoke, refuel, cancel, retry, release, fork, unload, offer, evict_begin, evict_commit, fetch_begin, fetch_commit, provide, epoch, AwaitsFrame, AwaitsFrameFor, IsTurn, MovesPages, OnlyMoves, has_failed, moved, of_none, of_one, KeepsPromises, PromisesAreKept}
 use Rattle.wh_host_model.specs.{Params, Quota, with_quota}
 use Rattle.wh_host_model.specs.Host.OwnerCalls as requests
@@ -24,25 +24,8 @@ kept_at : (j : ℕ) (s s2 : Space) (x : Promised) → KeepsPromise j s s2 → pr
 kept_at j s s2 x (inl same) is = inl (same ∙ is)
 kept_at j s s2 x (inr none) is = inr none
 
--- who claims a place was promised it
-claim_promises : (o : Option Occupant) (c : Claimed) → claim_of o ≡ Some c → promised_to o ≡ Some (record { number = c.number; min = c.min; max = c.max })
-claim_promises None c e = absurd (cc e)
-claim_promises (Some t) c e = go t.live refl where
-  go : (b : Bool) → t.live ≡ b → promised_to (Some t) ≡ Some (record { number = c.number; min = c.min; max = c.max })
-  go true live =
-      let both : Some (record { number = t.number; shares = t.shares; min = t.min; max = t.max }) ≡ Some c = sym (rw live refl) ∙ e in
-      let one : record { number = t.number; shares = t.shares; min = t.min; max = t.max } ≡ c = cc both in
-      ap (λ (z : Claimed). Some (record { number = z.number; min = z.min; max = z.max })) one
-  go false live = absurd (let none : claim_of (Some t) ≡ None = rw live refl in let bad : None ≡ Some c = sym none ∙ e in cc bad)
-
 kept_apart : (s s2 : Space) (i : ℕ) (c : Claimed) → claim s i ≡ Some c → Apart i s s2 → KeepsPromises s s2
-kept_apart s s2 i c claims apart j x is = elim (here_or i j) [
-  | inr other ↦ (let alike = apart.others j other in kept_at j s s2 x alike.promise is)
-  | inl same ↦
-      (let before = claim_promises (get_or s.occupants i None) c claims in
-      let after = claim_promises (get_or s2.occupants i None) c (apart.claim ∙ claims) in
-      inl (ap (promise_at s2) same ∙ after ∙ sym before ∙ ap (promise_at s) (sym same) ∙ is))
-]
+kept_apart s s2 i c claims apart j x is = search rules
 
 kept_all : (s s2 : Space) → AllLeftAlone s s2 → KeepsPromises s s2
 kept_all s s2 same j x is = let alike = same.0 j in kept_at j s s2 x alike.promise is
@@ -68,11 +51,7 @@ load_kept w w2 bytes answer (happens.isnt_loaded r) = kept_self w.space w.space 
 load_kept w w2 bytes answer (happens.no_memory_to_load r) = kept_self w.space w.space refl
 
 arrives_kept : (s s2 : Space) (place : ℕ) (c : Claimed) (bytes : List ℕ) → ArrivesSeeing place c bytes s s2 → KeepsPromises s s2
-arrives_kept s s2 place c bytes arrives j x is =
-    elim (here_or place j) [
-      | inr other ↦ (let alike = arrives.others j other in kept_at j s s2 x alike.promise is)
-      | inl same ↦ absurd (let bad : None ≡ Some x = sym (none_promised s.occupants place arrives.free) ∙ (ap (promise_at s) (sym same) ∙ is) in cc bad)
-    ]
+arrives_kept s s2 place c bytes arrives j x is = search (rules, here_or, kept_at, none_promised)
 
 lets_in_kept : (w w2 : World) (k : ℕ) (p : Params) (place number : ℕ) → LetsIn w k p place number w2 → KeepsPromises w.space w2.space
 lets_in_kept w w2 k p place number a = subst (λ (z : World). KeepsPromises w.space z.space) (sym a.after) (arrives_kept w.space a.space place (promised number p) _ a.arrives)
@@ -118,14 +97,7 @@ retry_kept w w2 id answer (happens.no_one_to_retry x) = kept_self w.space w.spac
 retry_kept w w2 id answer (happens.no_fault_to_retry x y) = kept_self w.space w.space refl
 
 goes_kept : (w w2 : World) (i : ℕ) (t : Tenant) (output : List ℕ) → LetsGo w i t output w2 → KeepsPromises w.space w2.space
-goes_kept w w2 i t output r = subst (λ (z : World). KeepsPromises w.space z.space) (sym r.after) go where
-  go : KeepsPromises w.space r.space
-  go j x is =
-      let departs = r.departs in
-      elim (here_or t.place j) [
-        | inr other ↦ (let alike = departs.others j other in kept_at j w.space r.space x alike.promise is)
-        | inl same ↦ subst (λ z. (promise_at r.space z ≡ Some x) ⊎ (promise_at r.space z ≡ None)) (sym same) (kept_at t.place w.space r.space x departs.promise (ap (promise_at w.space) (sym same) ∙ is))
-      ]
+goes_kept w w2 i t output r = search rules
 
 release_kept : (w w2 : World) (id : InstId) (answer : Option (List ℕ)) → happens.IsRelease w id answer w2 → KeepsPromises w.space w2.space
 release_kept w w2 id answer (happens.is_released {t = t} {output = output} there r) = goes_kept w w2 id.number t output r

@@ -1,5 +1,5 @@
 -- Every event keeps every instance what its journal comes to.
-use Rattle.std.proofs.Common.{◌≡◌, ◌≢◌, ℕ, ℤ, zero, suc, ◌*◌, ◌/◌, ◌<◌, ◌≤◌, ◌⊎◌, ⊎_elim, inl, inr, Option, Some, None, List, [], ◌∷◌, ◌++◌, length, get_or, slice_get, slice_set, replicate, refl, sym, ap, subst, ◌∙◌, arith}
+use Rattle.std.proofs.Common.{◌≡◌, ◌≢◌, ℕ, ℤ, zero, suc, ◌*◌, ◌/◌, ◌<◌, ◌≤◌, ◌⊎◌, ⊎_elim, inl, inr, Option, Some, None, List, [], ◌∷◌, ◌++◌, length, get_or, slice_get, slice_set, replicate, refl, sym, ap, subst, ◌∙◌, arith, rules}
 use Rattle.std.proofs.lemmas.List.{get_or-set_same, get_or-set_other, length-replicate}
 use Rattle.wh_model.specs.declared.memory.Need.{Need}
 use Rattle.wh_model.specs.Format.{Module}
@@ -76,19 +76,11 @@ one_value x y e = cc e
 
 -- the instances after one of them was changed, or is gone
 at_place : {A : Type 0} (xs : List (Option A)) (i j : ℕ) (o : Option A) (x a : A) → get_or xs i None ≡ Some x → get_or (slice_set xs i o) j None ≡ Some a → ((j ≡ i) × (o ≡ Some a)) ⊎ ((j ≢ i) × (get_or xs j None ≡ Some a))
-at_place xs i j o x a there e =
-    ⊎_elim
-    (λ (same : j ≡ i). let in_range = some_within xs i x there in inl (same, sym (get_or-set_same xs i o None in_range) ∙ ap (λ n. get_or (slice_set xs i o) n None) (sym same) ∙ e))
-    (λ (other : j ≢ i). inr (other, sym (get_or-set_other xs i j o None other) ∙ e))
-    (same_or_not j i)
+at_place xs i j o x a there e = search (rules, ⊎_elim, some_within, get_or-set_same, get_or-set_other, same_or_not)
 
 -- another instance is still there
 elsewhere : (w : World) (i j : ℕ) (t u : Tenant) (o : Option Tenant) → tenant w i ≡ Some t → tenant w j ≡ Some u → u.place ≢ t.place → get_or (slice_set w.tenants i o) j None ≡ Some u
-elsewhere w i j t u o there here far =
-    ⊎_elim
-    (λ (same : j ≡ i). absurd (far (ap (λ (z : Tenant). z.place) (one_value u t (sym here ∙ ap (tenant w) same ∙ there)))))
-    (λ (other : j ≢ i). get_or-set_other w.tenants i j o None other ∙ here)
-    (same_or_not j i)
+elsewhere w i j t u o there here far = search rules
 
 -- ---- what belongs to the owner
 
@@ -510,16 +502,7 @@ module _ (K : Keeping) (up : IsKeptUp K) where
 -- ---- what its journal comes to
 
 pub kept_up : IsKeptUp Kept
-kept_up = record {
-  turned = λ k h. turn_kept k h;
-  cancelled = λ k h. cancel_kept k h;
-  refuelled = λ k h. refuel_kept k h;
-  faulted = λ k a b c. faulted_kept k a b c;
-  retried = λ k h. retry_kept k h;
-  accepted = λ s k h. accept_kept s k h;
-  forked = λ k none same place params. fork_kept k none same place params;
-  begun = λ m place of params p inst s ps fuel given initial few starts. begins_kept m place of params p inst s ps fuel given initial few starts;
-}
+kept_up = search (rules, turn_kept, cancel_kept, refuel_kept, faulted_kept, retry_kept, accept_kept, fork_kept, begins_kept)
 
 abbrev pub IsGood : World → Type 0
 IsGood w = IsGoodBy Kept w

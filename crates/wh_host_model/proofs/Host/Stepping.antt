@@ -1,5 +1,5 @@
 -- How far a call comes in a turn, and that such a turn can happen.
-use Rattle.std.proofs.Common.{◌≡◌, ◌≢◌, ℕ, zero, suc, ◌+◌, ◌*◌, ◌/◌, ◌<◌, ◌≤◌, ◌⊎◌, inl, inr, Bool, true, List, [], ◌∷◌, ◌++◌, Option, Some, None, length, map, replicate, reverse, get_or, slice_get, refl, sym, ap, subst, ◌∙◌, arith}
+use Rattle.std.proofs.Common.{◌≡◌, ◌≢◌, ℕ, zero, suc, ◌+◌, ◌*◌, ◌/◌, ◌<◌, ◌≤◌, ◌⊎◌, inl, inr, Bool, true, List, [], ◌∷◌, ◌++◌, Option, Some, None, length, map, replicate, reverse, get_or, slice_get, refl, sym, ap, subst, ◌∙◌, arith, rules}
 use Rattle.std.proofs.lemmas.Bool.{cases_lt}
 use Rattle.std.proofs.lemmas.List.{reverse-reverse}
 use Rattle.std.specs.List.{AllByRecursion}
@@ -170,12 +170,7 @@ claim_there s i t at live = ap claim_of (get_or_is s.occupants i (Some t) None a
 -- its pins have ended, and it waits for these bytes
 stands_then : (i : ℕ) (a b c : Space) (need : Need) → WaitsAlone i None a b → WaitsAlone i (Some need) b c → WaitsAlone i (Some need) a c
 stands_then i a b c need ab bc = record {
-  steps = record {
-    others = λ j other. left_then (ab.steps.others j other) (bc.steps.others j other);
-    places = λ j other. bc.steps.places j other ∙ ab.steps.places j other;
-    claim = bc.steps.claim ∙ ab.steps.claim;
-    sound = bc.steps.sound;
-  };
+  steps = search (rules, left_then);
   view = bc.view ∙ ab.view;
   wants = bc.wants;
   ready = λ want. (let h = bc.ready want in let k = ab.ready want in (λ r. k.0 (h.0 r), λ r. h.1 (k.1 r)));

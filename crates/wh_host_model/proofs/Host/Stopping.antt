@@ -1,5 +1,5 @@
 -- How far a call comes in a turn that doesn't wait is determined, whatever else memory is at each step.
-use Rattle.std.proofs.Common.{◌≡◌, ℕ, zero, suc, ◌+◌, ◌<◌, ◌≤◌, ◌⊎◌, ⊎_elim, inl, inr, List, [], length, reverse, None, refl, sym, ap, subst, ◌∙◌, arith}
+use Rattle.std.proofs.Common.{◌≡◌, ℕ, zero, suc, ◌+◌, ◌<◌, ◌≤◌, ◌⊎◌, ⊎_elim, inl, inr, List, [], length, reverse, None, refl, sym, ap, subst, ◌∙◌, arith, rules}
 use Rattle.std.proofs.lemmas.List.{reverse-reverse}
 use Rattle.wh_model.specs.declared.Trap.{Trap}
 use Rattle.wh_model.specs.declared.memory.Need.{Need}
@@ -78,9 +78,7 @@ reached go (has_had_its_turn x next u v y) = let f = computes_first x in by_step
 -- ---- it can't stop before, or go on behind
 
 pub further_on : {inst : Instance} {a c c2 : Config} (n j n2 : ℕ) → After inst a n c → After inst a n2 c2 → n + j ≡ n2 → After inst c j c2
-further_on {inst} {a} {c} {c2} n j n2 x y e =
-    let parts = after_splits inst n j a c2 (subst (λ i. After inst a i c2) (sym e) y) in
-    subst (λ b. After inst b j c2) (one_after inst n a parts.0 c parts.1 x) parts.2
+further_on {inst} {a} {c} {c2} n j n2 x y e = search (rules, after_splits, one_after)
 
 pub done_stops : {inst : Instance} {j : ℕ} {s : Store} {f vs : List Value} {c : Config} → Leads inst (config s f (code vs nothing)) j c → j ≡ 0
 done_stops stays = refl
@@ -142,14 +140,12 @@ stop_same (at_trap {s = s} {x = x} e) (at_fuel e2 next u) = absurd (trap_has_no_
 stop_same (at_trap {s = s} {x = x} e) (at_turn e2 next u v) = absurd (trap_has_no_next s x e next)
 stop_same (at_fuel e next u) (at_return {s = s} {vs = vs} e2) = absurd (done_has_no_next s (reverse vs) e2 next)
 stop_same (at_fuel e next u) (at_trap {s = s} {x = x} e2) = absurd (trap_has_no_next s x e2 next)
-stop_same (at_fuel {s = s} {term = t} e next u) (at_fuel {s = s2} {term = t2} e2 next2 u2) =
-    let same = sym e ∙ e2 in record { upshots = refl; stores = store_same s s2 [] [] t t2 same; doings = ap computing (term_same s s2 [] [] t t2 same) }
+stop_same (at_fuel {s = s} {term = t} e next u) (at_fuel {s = s2} {term = t2} e2 next2 u2) = search rules
 stop_same (at_fuel e next u) (at_turn e2 next2 u2 v2) = absurd (omega (arith, u, v2))
 stop_same (at_turn e next u v) (at_return {s = s} {vs = vs} e2) = absurd (done_has_no_next s (reverse vs) e2 next)
 stop_same (at_turn e next u v) (at_trap {s = s} {x = x} e2) = absurd (trap_has_no_next s x e2 next)
 stop_same (at_turn e next u v) (at_fuel e2 next2 u2) = absurd (omega (arith, v, u2))
-stop_same (at_turn {s = s} {term = t} e next u v) (at_turn {s = s2} {term = t2} e2 next2 u2 v2) =
-    let same = sym e ∙ e2 in record { upshots = refl; stores = store_same s s2 [] [] t t2 same; doings = ap computing (term_same s s2 [] [] t t2 same) }
+stop_same (at_turn {s = s} {term = t} e next u v) (at_turn {s = s2} {term = t2} e2 next2 u2 v2) = search rules
 
 -- ---- a call reaches one thing
 
@@ -168,13 +164,8 @@ pub record SameReach (to to2 : Upshot) (k k2 n n2 : ℕ) (s s2 : Store) (d d2 : 
   pub charges : n ≡ n2
   pub stop : SameStop to to2 s s2 d d2
 
-pieces_same : (ps qs : List Piece) → has_left ps ≡ has_left qs → ps ≡ qs
-pieces_same ps qs e = cc e
-
 never_begins : (inst : Instance) (call : Call) (s : Store) (d : Doing) (k : ℕ) (c : Config) (ps : List Piece) → d ≡ has_left ps → call.func ≡ None → FirstAt inst call s d k c → ⊥
-never_begins inst call s d k c ps e none f =
-    let i = subst (λ x. FirstAt inst call s x k c) e f in
-    cc (i.1.calls, none)
+never_begins inst call s d k c ps e none f = search rules
 
 pub reach_same : {inst : Instance} {q k k2 n n2 : ℕ} {call : Call} {s s2 s3 : Store} {d d2 d3 : Doing} {to to2 : Upshot} → Reached inst q call s d to k n s2 d2 → Reached inst q call s d to2 k2 n2 s3 d3 → SameReach to to2 k k2 n n2 s2 s3 d2 d3
 reach_same {inst} {q} {k} {k2} {n} {n2} {call} {s} {s2} {s3} {d} {d2} {d3} {to} {to2} (by_steps {first = a} {c = c} f x lq lf stop) (by_steps {first = b} {c = c2} g y lq2 lf2 stop2) =
@@ -195,5 +186,4 @@ reach_same {inst} {q} {k} {k2} {n} {n2} {call} {s} {s2} {s3} {d} {d2} {d3} {to} 
     (apart_by n n2)
 reach_same {inst} {q} {call = call} {s = s} {d = d} (by_steps {k = k} {first = c} f x lq lf stop) (by_pieces {ps = ps} e none) = absurd (never_begins inst call s d k c ps e none f)
 reach_same {inst} {q} {call = call} {s = s} {d = d} (by_pieces {ps = ps} e none) (by_steps {k = k} {first = c} f x lq lf stop) = absurd (never_begins inst call s d k c ps e none f)
-reach_same {s = s} (by_pieces {ps = ps} e none) (by_pieces {ps = qs} e2 none2) =
-    let same = pieces_same ps qs (sym e ∙ e2) in record { pieces = ap length same; charges = refl; stop = record { upshots = refl; stores = ap (with_pieces s) same; doings = refl } }
+reach_same {s = s} (by_pieces {ps = ps} e none) (by_pieces {ps = qs} e2 none2) = search rules

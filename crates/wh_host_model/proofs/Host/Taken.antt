@@ -1,8 +1,8 @@
 -- A step that is ready is taken.
-use Rattle.std.proofs.Common.{◌≡◌, ◌≢◌, ℕ, zero, suc, ◌+◌, ◌<◌, ◌≤◌, List, [], ◌∷◌, ◌++◌, length, map, slice_get, Some, refl, sym, ap, subst, ◌∙◌, arith, append_assoc}
+use Rattle.std.proofs.Common.{◌≡◌, ◌≢◌, ℕ, zero, suc, ◌+◌, ◌<◌, ◌≤◌, List, [], ◌∷◌, ◌++◌, length, slice_get, Some, refl, sym, ap, subst, ◌∙◌, arith, append_assoc, rules}
 use Rattle.wh_model.specs.declared.memory.Need.{Need}
 use Rattle.wh_model.specs.Execution.Store.{Instance}
-use Rattle.wh_model.specs.Execution.{Term, Config, config, After, IsNext, Asks, Piece, Call, dead, Writes, wrote_all, Takes, took_all, took}
+use Rattle.wh_model.specs.Execution.{Term, Config, config, After, IsNext, Asks, Piece, Call, Writes, wrote_all, Takes, took_all, took}
 use Rattle.wh_model.specs.Execution.Memory.{writing}
 use Rattle.wh_model.proofs.Chains.{one_after}
 use Rattle.wh_space_model.specs.{Space, view}
@@ -40,9 +40,7 @@ one_is_written p ps qs e = let n = ap length e in omega (arith, n)
 -- what waits isn't the first piece, where that is ready
 writes_some : {M : Type 0} {bytes : M → List ℕ} {ready : M → Need → Type 0} {keeps : M → M → Type 0} {m m2 : M} (ps qs more : List Piece) (p r : Piece)
     → Writes bytes ready keeps m qs m2 → p ∷ ps ≡ qs ++ r ∷ more → ready m (writing p.at (length p.items)) → ¬ (ready m2 (writing r.at (length r.items))) → 1 ≤ length qs
-writes_some {ready = ready} {m = m} ps [] more p r wrote_all e now never = absurd (never (subst (λ (x : Piece). ready m (writing x.at (length x.items))) (first_piece p r ps more e) now)) where
-  first_piece : (p r : Piece) (ps more : List Piece) → p ∷ ps ≡ r ∷ more → p ≡ r
-  first_piece p r ps more e = cc e
+writes_some {ready = ready} {m = m} ps [] more p r wrote_all e now never = search rules
 writes_some ps (x ∷ qs) more p r w e now never = omega arith
 
 opens_some : {M : Type 0} {bytes : M → List ℕ} {ready : M → Need → Type 0} {keeps : M → M → Type 0} {inst : Instance} {call : Call} {k : ℕ} {m m2 : M} {r : Rest} {d : Doing} {c : Config} (p : Piece) (ps : List Piece)
@@ -75,15 +73,11 @@ opens_there : {M : Type 0} {bytes : M → List ℕ} {ready : M → Need → Type
     → d ≡ computing term → After inst (config (store_with (bytes m) r) [] term) 0 c2 → Opens bytes ready keeps inst call m r d k m2 c → Unmoved m m2 c2 c
 opens_there term e after (by_invocation {ps = ps} w i a) = absurd (never_both ps term e)
 opens_there {bytes = bytes} {inst = inst} {m = m} {r = r} {c = c} {c2 = c2} term e after (as_it_was {term = u} a) =
-    let same = term_there u term e in
-    record { memory = refl; there = one_after inst 0 (config (store_with (bytes m) r) [] term) c c2 (subst (λ z. After inst (config (store_with (bytes m) r) [] z) 0 c) same a) after }
+    search (rules, term_there, one_after)
 
 unmoved : {M : Type 0} {bytes : M → List ℕ} {ready : M → Need → Type 0} {keeps : M → M → Type 0} {inst : Instance} {call : Call} {q k n : ℕ} {m m2 : M} {r : Rest} {d : Doing} {c c2 : Config} (term : Term)
     → d ≡ computing term → After inst (config (store_with (bytes m) r) [] term) 0 c2 → Computes bytes ready keeps inst q call m r d k n m2 c → n ≡ 0 → Unmoved m m2 c2 c
-unmoved term e after x none =
-    let o = opens_there term e after x.opens in
-    let t = takes_none x.takes none in
-    record { memory = t.memory ∙ o.memory; there = t.there ∙ o.there }
+unmoved term e after x none = search (rules, opens_there, takes_none)
 
 some_taken : (n : ℕ) → (n ≡ 0 → ⊥) → 1 ≤ n
 some_taken zero never = absurd (never refl)
@@ -115,8 +109,7 @@ further e k n some = omega (arith, some)
 
 closed_on : {s : Space} {t t2 : Tenant} {e2 : Entry} {es : List Entry} {r : Rest} → Closes s t e2 es r t2 → slice_get (journal t2) (length t.ended) ≡ Some e2
 closed_on {t = t} {e2 = e2} {es = es} (faces_next a f) = ap (λ xs. slice_get xs (length t.ended)) (append_assoc t.ended (e2 ∷ []) es) ∙ at_seam t.ended es e2
-closed_on {t = t} {e2 = e2} {es = es} (is_dead d) =
-    ap (λ xs. slice_get xs (length t.ended)) (append_assoc t.ended (e2 ∷ map (λ w. ended_by w dead) es) []) ∙ at_seam t.ended (map (λ w. ended_by w dead) es ++ []) e2
+closed_on {t = t} {e2 = e2} {es = es} (is_dead d) = search rules
 
 step_ready_of : {q : ℕ} {s : Space} {t : Tenant} {e f : Entry} → e ≡ f → IsStepReady q s t e → IsStepReady q s t f
 step_ready_of {q = q} {s = s} {t = t} same r = subst (IsStepReady q s t) same r

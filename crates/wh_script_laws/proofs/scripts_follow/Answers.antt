@@ -1,3 +1,4 @@
+use Rattle.std.proofs.Common.{rules}
 use Rattle.wh_script_laws.proofs.Commands.{modules_follow}
 use Rattle.wh_script_laws.proofs.CommandsAsked.{refuels_follow, retries_follow}
 use Rattle.wh_script_laws.proofs.CommandsEnding.{cancels_follow, releases_follow}
@@ -55,8 +56,7 @@ pub returns-clause-runs_well : goal.returns-clause-runs_well
 returns-clause-runs_well c = runs_well
 
 pub returns-clause-says_well : goal.returns-clause-says_well
-returns-clause-says_well c m starts calls instances invoked h print_starts print_calls =
-    (says_well m starts calls instances invoked h print_starts print_calls, all_said m starts calls instances invoked print_starts print_calls)
+returns-clause-says_well c m starts calls instances invoked h print_starts print_calls = search (rules, says_well, all_said)
 
 pub returns-clause-asks_well : goal.returns-clause-asks_well
 returns-clause-asks_well c = call_well

@@ -1,40 +1,20 @@
 use Rattle.wh_machine.specs.CallStates.{setting_of, call_state}
 use Rattle.wh_instance.proofs.Coming.{came_returned, came_trapped, came_to_wait, taken, still_standing, came_to_fuel, came_to_frame, came_to_again}
-use Rattle.std.proofs.Common.{ℕ, subst}
+use Rattle.std.proofs.Common.{ℕ, subst, rules}
 use Rattle.wh_instance.specs.Computed.{AsksUnready, AsksReady}
 use Rattle.wh_instance.proofs.computing.compute.Goals as goal
 
 pub returns-in-Returned-clause-computes : goal.returns-in-Returned-clause-computes
-returns-in-Returned-clause-computes g c =
-    let w = setting_of c.args.linked.now g.M.LinearMem.bytes g.M.LinearMem.ready g.M.LinearMem.keeps (g.M.LinearMem.limit c.args.memory.now) in
-    let r = c.run_on-end in
-    let before = call_state c.args.machine.now c.args.store.now c.args.memory.now in
-    let after = call_state r.new.machine r.new.store r.new.memory in
-    came_returned w before after c.lesser.result c.args.q c.args.left r.result.1 r.result.0 c.in-Returned.result c.lesser.ensures r.ensures.ends c.in-Returned.is
+returns-in-Returned-clause-computes g c = search (rules, came_returned)
 
 pub returns-in-Trapped-clause-computes : goal.returns-in-Trapped-clause-computes
-returns-in-Trapped-clause-computes g c =
-    let w = setting_of c.args.linked.now g.M.LinearMem.bytes g.M.LinearMem.ready g.M.LinearMem.keeps (g.M.LinearMem.limit c.args.memory.now) in
-    let r = c.run_on-end in
-    let before = call_state c.args.machine.now c.args.store.now c.args.memory.now in
-    let after = call_state r.new.machine r.new.store r.new.memory in
-    came_trapped w before after c.lesser.result c.args.q c.args.left r.result.1 r.result.0 c.in-Trapped.trap c.lesser.ensures r.ensures.ends c.in-Trapped.is
+returns-in-Trapped-clause-computes g c = search (rules, came_trapped)
 
 pub returns-in-NotReady-clause-computes : goal.returns-in-NotReady-clause-computes
-returns-in-NotReady-clause-computes g c =
-    let w = setting_of c.args.linked.now g.M.LinearMem.bytes g.M.LinearMem.ready g.M.LinearMem.keeps (g.M.LinearMem.limit c.args.memory.now) in
-    let r = c.run_on-end in
-    let before = call_state c.args.machine.now c.args.store.now c.args.memory.now in
-    let after = call_state r.new.machine r.new.store r.new.memory in
-    came_to_wait w before after c.lesser.result c.args.q c.args.left r.result.1 r.result.0 c.in-NotReady.need c.lesser.ensures r.ensures.ends c.in-NotReady.is
+returns-in-NotReady-clause-computes g c = search (rules, came_to_wait)
 
 pub returns-then-used-left-clause-computes : goal.returns-then-used-left-clause-computes
-returns-then-used-left-clause-computes g c =
-    let w = setting_of c.args.linked.now g.M.LinearMem.bytes g.M.LinearMem.ready g.M.LinearMem.keeps (g.M.LinearMem.limit c.args.memory.now) in
-    let r = c.run_on-end in
-    let before = call_state c.args.machine.now c.args.store.now c.args.memory.now in
-    let after = call_state r.new.machine r.new.store r.new.memory in
-    came_to_fuel w before after c.lesser.result c.args.q c.args.left r.result.1 c.lesser.ensures (taken w before after c.lesser.result r.result.1 r.result.0 r.ensures.ends c.in-OutOfFuel.is) c.if-used-left.true
+returns-then-used-left-clause-computes g c = search (rules, came_to_fuel, taken)
 
 pub lacking-requires : goal.lacking-requires
 lacking-requires g c =

@@ -1,14 +1,11 @@
-use Rattle.std.proofs.Common.{◌∙◌, None, Option, Some, sym, subst}
+use Rattle.std.proofs.Common.{◌∙◌, None, Option, Some, sym, subst, rules}
 use Rattle.wh_instance.specs.declared.stages.CallValue.{CallValue}
 use Rattle.wh_instance.specs.Told.{IsReturnedAs}
-use Rattle.wh_instance.proofs.Told.{no_function, no_word, value_told}
+use Rattle.wh_instance.proofs.Told.{no_word, value_told}
 use Rattle.wh_instance.proofs.telling.value_of.Goals as goal
 
 pub returns-in_default : goal.returns-in_default
-returns-in_default c =
-    let l = c.args.linked.now in
-    let none : Option CallValue = None in
-    subst (λ f. IsReturnedAs l f c.args.word none) (sym c.in_default.is) (no_function l c.args.word)
+returns-in_default c = search rules
 
 pub returns-in_default-word : goal.returns-in_default-word
 returns-in_default-word c =

@@ -1,13 +1,10 @@
-use Rattle.std.proofs.Common.{◌*◌, ◌-◌, arith}
-use Rattle.wh_control.specs.Represents.{result_of}
+use Rattle.std.proofs.Common.{◌*◌, ◌-◌, arith, rules}
 use Rattle.wh_machine.specs.CallStates.{setting_of, call_state}
 use Rattle.wh_instance.proofs.Beginnings.{on_now}
 use Rattle.wh_instance.proofs.turning.turn_on.Goals as goal
 
 pub compute_burst-requires : goal.compute_burst-requires
-compute_burst-requires g c =
-    let (inst, call, r, t, k) = c.requires.computing in
-    record { out = result_of k.type; inst = inst; cfg = _; stands = k.stands; settled = k.settled_in }
+compute_burst-requires g c = search rules
 
 pub returns-clause-turns : goal.returns-clause-turns
 returns-clause-turns g c inst call r t taken given k =

@@ -27,5 +27,4 @@ give-requires-in-Two-2 c =
     let some : 1 ≤ tally (one_if f) (numbers_in c.args.frames) = rw c.in-Two.is (omega arith) in
     let once = rw c.in-Two.is at (c.requires.once f) in
     let more = tally-append (one_if f) c.args.pool.now.free (c.in-Two.first ∷ []) in
-    let there = c.requires.there f some in
-    rw c.give-in-Two.ensures.gives (there, omega arith)
+    rw c.give-in-Two.ensures.gives (c.requires.there f some, omega arith)

@@ -14,9 +14,4 @@ overflow_add-sum c =
     omega arith
 
 pub loop-place-preserved : goal.loop-place-preserved
-loop-place-preserved c =
-    let xs = c.args.occupant_entries.now.items in
-    let within : c.loop-place.place < length xs = (search rules) in
-    let step = sum_step (of_occupant (λ t. t.min)) xs c.loop-place.place c.index.result.now within c.index.ensures in
-    let value = c.from-sum.ensures ∙ c.min_of.ensures in
-    omega arith
+loop-place-preserved c = search (rules, sum_step)

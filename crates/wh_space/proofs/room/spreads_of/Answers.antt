@@ -14,9 +14,4 @@ overflow_add-sum c =
     omega arith
 
 pub loop-place-preserved : goal.loop-place-preserved
-loop-place-preserved c =
-    let xs = c.args.occupant_entries.now.items in
-    let within : c.loop-place.place < length xs = (search rules) in
-    let step = sum_step (of_occupant (λ t. (t.max - t.min) + 1)) xs c.loop-place.place c.index.result.now within c.index.ensures in
-    let value = c.spread_of-sum.ensures in
-    omega arith
+loop-place-preserved c = search (rules, sum_step)

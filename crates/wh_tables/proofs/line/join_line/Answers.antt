@@ -21,6 +21,5 @@ returns c numbers within is =
     let bound = subst (λ (z : List InstId). c.rank_above-rank.result ≤ length z) same c.rank_above-rank.ensures.within in
     let split = subst (λ (z : List InstId). IsPartitionPoint (λ (id : InstId). id.number ≤ c.args.newcomer.number) (λ (id : InstId). c.args.newcomer.number < id.number) z c.rank_above-rank.result) same c.rank_above-rank.ensures.split in
     let joined = line_joined numbers c.args.line.now.items c.args.newcomer c.rank_above-rank.result within is bound split in
-    let ok = c.insert.ensures.succeeds (omega arith) in
-    let items = rw ok at c.insert.ensures.items in
+    let items = rw (c.insert.ensures.succeeds (omega arith)) at c.insert.ensures.items in
     rw (items, c.leave_line.ensures.items) joined

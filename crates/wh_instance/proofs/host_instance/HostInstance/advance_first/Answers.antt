@@ -79,12 +79,11 @@ returns-clause-advances g c t e es is_open given =
     let x2 : HostInstanceState = record x1 { store = k.new.store; machine = k.new.machine; progress = UnderWay } in
     let turns = k.ensures.turns t.inst e.call t.rest term (sym fuel) faced in
     let counted = o.counted in
-    let none = st.no_charges in
     advanced w c.args.q x2 m k.new.memory t e es k.result.0 0 k.result.1 [] (computing term) doing turns
     (record {
       started = λ ps is. absurd (isnt_left term ps is);
       counted = counted.pieces;
-      within = omega (arith, none);
+      within = omega (arith, st.no_charges);
       at_end = λ none. refl;
       at_piece = λ some. absurd (some refl);
       begun = isnt_faced;

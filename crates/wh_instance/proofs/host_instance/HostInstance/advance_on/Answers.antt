@@ -1,4 +1,4 @@
-use Rattle.std.proofs.Common.{◌≡◌, [], ◌*◌, refl, sym, ap, subst, ◌∙◌, arith}
+use Rattle.std.proofs.Common.{◌≡◌, [], ◌*◌, refl, sym, ap, subst, ◌∙◌, arith, rules}
 use Rattle.wh_journal.specs.Calls.{JournalCallState}
 use Rattle.wh_machine.specs.CallStates.{setting_of}
 use Rattle.wh_host_model.specs.Host.{computing}
@@ -7,9 +7,7 @@ use Rattle.wh_instance.proofs.Advanced.{opened, present, has_present, is_computi
 use Rattle.wh_instance.proofs.host_instance.HostInstance.advance_on.Goals as goal
 
 pub present-call-requires : goal.present-call-requires
-present-call-requires g c =
-    let w = setting_of c.args.linked.now g.M.LinearMem.bytes g.M.LinearMem.ready g.M.LinearMem.keeps (g.M.LinearMem.limit c.args.memory.now) in
-    has_present w c.args.self.now c.args.memory.now c.requires.call
+present-call-requires g c = search (rules, has_present)
 
 pub turn_on-requires : goal.turn_on-requires
 turn_on-requires g c =

@@ -1,4 +1,4 @@
-use Rattle.std.proofs.Common.{◌≡◌, ℕ, ◌+◌, ◌<◌, ◌^◌, length, List, sym, ap, subst, ◌∙◌, arith}
+use Rattle.std.proofs.Common.{◌≡◌, ℕ, ◌+◌, ◌<◌, ◌^◌, length, List, sym, ap, subst, ◌∙◌, arith, rules}
 use Rattle.wh_journal.specs.Calls.{JournalCallState}
 use Rattle.wh_model.specs.Execution.{Piece}
 use Rattle.wh_machine.specs.CallStates.{setting_of}
@@ -9,24 +9,10 @@ use Rattle.wh_instance.proofs.Advanced.{opened, present, has_present, is_writing
 use Rattle.wh_instance.proofs.host_instance.HostInstance.advance_start.Goals as goal
 
 pub present-requires : goal.present-requires
-present-requires g c =
-    let w = setting_of c.args.linked.now g.M.LinearMem.bytes g.M.LinearMem.ready g.M.LinearMem.keeps (g.M.LinearMem.limit c.args.memory.now) in
-    has_present w c.args.self.now c.args.memory.now c.requires.call
+present-requires g c = search (rules, has_present)
 
 pub turn_start-came-requires : goal.turn_start-came-requires
-turn_start-came-requires g c =
-    let w = setting_of c.args.linked.now g.M.LinearMem.bytes g.M.LinearMem.ready g.M.LinearMem.keeps (g.M.LinearMem.limit c.args.memory.now) in
-    let m = c.args.memory.now in
-    let i = c.self.inside in
-    let x1 : HostInstanceState = record { store = i.store; machine = i.machine; places = i.places.items; cursor = i.cursor; progress = i.progress; journal = i.journal; waiting_for = i.waiting_for; dead = i.dead } in
-    let same : x1 ≡ c.args.self.now = c.self.view_is in
-    let p = present w c.args.self.now m c.requires.call in
-    let t = p.t in
-    let e = p.e in
-    let rep = subst (λ z. RepresentsTenant w z m t) (sym same) p.represents in
-    let at = ap (λ (z : HostInstanceState). z.progress) same ∙ c.requires.writes in
-    let h = is_writing w x1 m t.inst t.rest t.doing e p.es at (subst (IsWhere w x1 m t.inst t.rest t.doing) p.is_open rep.is_where) in
-    record { starting = (t.inst, e.call, t.rest, h.func, starting_as w x1 m t.inst e t.rest h.ps (pieces_left c.args.linked.now.valid.decoded.segments.items c.deref.result.now i.cursor) h.starting (h.left ∙ ap (λ (z : List ℕ). pieces_left c.args.linked.now.valid.decoded.segments.items z i.cursor) (sym c.deref.ensures.value))) }
+turn_start-came-requires g c = search rules
 
 pub returns-clause-advances : goal.returns-clause-advances
 returns-clause-advances g c t e es is_open given =
@@ -39,8 +25,7 @@ returns-clause-advances g c t e es is_open given =
     let rep = subst (λ z. RepresentsTenant w z m t) (sym same) given in
     let at = ap (λ (z : HostInstanceState). z.progress) same ∙ c.requires.writes in
     let h = is_writing w x1 m t.inst t.rest t.doing e es at (subst (IsWhere w x1 m t.inst t.rest t.doing) is_open rep.is_where) in
-    let call = c.present.ensures o.c o.cs o.at in
-    let fuel = c.fuel-fuel.ensures ∙ ap (λ (z : JournalCallState). z.fuel) call ∙ sym o.first.fuel in
+    let fuel = c.fuel-fuel.ensures ∙ ap (λ (z : JournalCallState). z.fuel) (c.present.ensures o.c o.cs o.at) ∙ sym o.first.fuel in
     let segments = c.args.linked.now.valid.decoded.segments.items in
     let k = c.turn_start-came in
     let v : c.deref.result.now ≡ i.places.items = c.deref.ensures.value in

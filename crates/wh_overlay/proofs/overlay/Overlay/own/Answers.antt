@@ -1,4 +1,4 @@
-use Rattle.std.proofs.Common.{◌∙◌, ◌++◌, ◌∷◌, [], inl, inr, ap, refl, slice_get, subst, sym, arith}
+use Rattle.std.proofs.Common.{◌∙◌, ◌++◌, ◌∷◌, [], ap, refl, slice_get, subst, sym, arith, rules}
 use Rattle.wh_space_model.specs.{IsAtHand, at}
 use Rattle.wh_overlay.specs.declared.upper.WrittenPage.{WrittenPage}
 use Rattle.wh_overlay.specs.LaidPages.{IsNoted, UpperState}
@@ -15,10 +15,7 @@ returns-clause-sees c =
     c.in-Some-private_page.ensures.some (ap (λ (u : UpperState). u.grown) c.add-at.ensures.added) (ap (λ (u : UpperState). u.pages) c.add-at.ensures.added))
 
 pub returns-clause-can : goal.returns-clause-can
-returns-clause-can c =
-    let private = c.in-Some-private_page.ensures.private in
-    let room = c.if-not-has_room_for.ensures in
-    rw (← c.self.view_is) (inr (inl private, room.0, room.1))
+returns-clause-can c = search rules
 
 pub invariant_of-self : goal.invariant_of-self
 invariant_of-self c =

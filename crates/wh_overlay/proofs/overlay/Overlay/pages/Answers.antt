@@ -6,5 +6,4 @@ pub returns : goal.returns
 returns c =
     let o = c.self.inside in
     let seen = seen_length o.lower.now o.place o.upper c.invariant-2.ensures.sound c.self.invariant.at_hand c.invariant.ensures.whole in
-    let below = c.size.ensures.bytes in
-    rw (← c.self.view_is) (omega (arith, seen, below))
+    rw (← c.self.view_is) (omega (arith, seen, c.size.ensures.bytes))

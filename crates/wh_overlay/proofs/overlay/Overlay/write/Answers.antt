@@ -1,8 +1,8 @@
-use Rattle.std.proofs.Common.{◌≡◌, ◌∙◌, ◌+◌, ◌*◌, ◌<◌, ◌≤◌, ◌^◌, refl, ap, sym, subst, length, arith}
+use Rattle.std.proofs.Common.{◌≡◌, ◌∙◌, ◌+◌, ◌*◌, ◌<◌, ◌≤◌, ◌^◌, refl, ap, sym, subst, length, arith, rules}
 use Rattle.wh_model.specs.Execution.{written}
 use Rattle.wh_space_model.specs.{view}
 use Rattle.wh_overlay.specs.LaidPages.{IsNoted, IsWrittenAt, UpperState, with_upper}
-use Rattle.wh_overlay.specs.Over.{AreAtHand, HasGrown, IsOverSame, OverlayState, ReadsAreThere, frames_lacking, sees}
+use Rattle.wh_overlay.specs.Over.{HasGrown, IsOverSame, OverlayState, ReadsAreThere, frames_lacking, sees}
 use Rattle.wh_overlay.proofs.OverPages.{page_with}
 use Rattle.wh_overlay.proofs.Seen.{still_at_hand, still_lacking, write_page}
 use Rattle.wh_overlay.proofs.overlay.Overlay.write.Goals as goal
@@ -16,8 +16,7 @@ invariant_of-self c =
     let had = c.self.invariant.frames in
     let lacking = still_lacking o.lower.now o.place c.in-Some.at o.upper.pages x y done.1 refl in
     record {
-      at_hand = subst (λ (u : UpperState). AreAtHand o.lower.now o.place u.pages) (sym done.2)
-          (still_at_hand o.lower.now o.place c.in-Some.at o.upper.pages x y c.self.invariant.at_hand done.1 refl);
+      at_hand = search (rules, still_at_hand);
       there = subst (ReadsAreThere o.lower.now o.place) (sym done.2) c.self.invariant.there;
       frames = subst (λ (u : UpperState). frames_lacking o.lower.now o.place u.pages ≤ u.taken) (sym done.2) (omega (arith, had, lacking));
       lent = subst (λ (u : UpperState). u.taken ≤ u.lent) (sym done.2) c.self.invariant.lent;

@@ -14,9 +14,8 @@ invariant_of-self c =
       rw c.push_reserved.ensures.capacity had.1,
       had.2,
       (let room = subst (λ (u : UpperState). 1 ≤ u.room) (sym c.self.view_is) c.requires.room.1 in
-          let items = ap length c.push_reserved.ensures.items in
           let long = length-append c.self.inside.pages.items (record { number = c.args.number; bytes = c.args.bytes.now } ∷ []) in
-          omega (arith, room, items, long)),
+          omega (arith, room, ap length c.push_reserved.ensures.items, long)),
       noted_new c.self.inside.reads.items c.self.inside.marks.items c.args.number (c.len-place.result + 2) had.4 within (omega arith),
       (let same = length-set c.self.inside.marks.items c.args.number (c.len-place.result + 2) in let few = had.5 in omega (arith, same, few)),
     )

@@ -1,30 +1,20 @@
-use Rattle.std.proofs.Common.{◌≡◌, ◌∙◌, ◌+◌, ◌*◌, ◌<◌, ◌≤◌, ℕ, [], slice_get, subst, ap, sym, arith}
+use Rattle.std.proofs.Common.{◌≡◌, ◌∙◌, ◌+◌, ◌*◌, ◌<◌, ◌≤◌, ℕ, [], slice_get, subst, ap, sym, arith, rules}
 use Rattle.wh_space_model.specs.{view}
 use Rattle.wh_overlay.specs.LaidBack.{HasLaid}
-use Rattle.wh_overlay.specs.LaidPages.{IsNoted, UpperState, grown_by, laid_over}
+use Rattle.wh_overlay.specs.LaidPages.{UpperState, grown_by, laid_over}
 use Rattle.wh_overlay.specs.Over.{frames_lacking}
 use Rattle.wh_overlay.proofs.LaidSteps.{lacking_less}
-use Rattle.wh_overlay.proofs.SomeLaid.{grown_and_read, then_written, there_then}
+use Rattle.wh_overlay.proofs.SomeLaid.{grown_and_read, then_written}
 use Rattle.wh_overlay.proofs.upper.OverlayPages.lay.Goals as goal
 
 pub touch_all-requires : goal.touch_all-requires
-touch_all-requires c = λ p is.
-    (let s = c.args.memory.now in
-    let h = c.grow_by.ensures in
-    let reads = c.deref.ensures.value ∙ ap (λ (u : UpperState). u.reads) c.self.view_is in
-    let grown = ap (λ (u : UpperState). u.grown) c.self.view_is in
-    there_then s c.args.place c.args.self.now p c.grow_by.new.memory h.at_hand (λ q least less. h.come q least (omega (arith, less, grown))) (c.requires.there p (subst (λ rs. IsNoted rs p) reads is)))
+touch_all-requires c = search rules
 
 pub write_all-requires-clause-hand : goal.write_all-requires-clause-hand
-write_all-requires-clause-hand c = λ k x there.
-    (let h = grown_and_read c.args.memory.now c.grow_by.new.memory c.touch_all.new.memory c.args.place c.self.inside.grown c.deref.result.now c.grow_by.ensures c.touch_all.ensures in
-    let pages = c.deref-2.ensures.value ∙ ap (λ (u : UpperState). u.pages) c.self.view_is in
-    h.at_hand x.number (c.requires.hand k x (ap (λ xs. slice_get xs k) (sym pages) ∙ there)))
+write_all-requires-clause-hand c = search rules
 
 pub write_all-requires-clause-whole : goal.write_all-requires-clause-whole
-write_all-requires-clause-whole c = λ k x there.
-    (let pages = c.deref-2.ensures.value ∙ ap (λ (u : UpperState). u.pages) c.self.view_is in
-    c.invariant.ensures.whole k x (ap (λ xs. slice_get xs k) (sym pages) ∙ there))
+write_all-requires-clause-whole c = search rules
 
 pub write_all-requires-clause-frames : goal.write_all-requires-clause-frames
 write_all-requires-clause-frames c =
@@ -33,9 +23,8 @@ write_all-requires-clause-frames c =
     let m2 = c.touch_all.new.memory in
     let h = grown_and_read s c.grow_by.new.memory m2 i c.self.inside.grown c.deref.result.now c.grow_by.ensures c.touch_all.ensures in
     let pages = c.deref-2.ensures.value ∙ ap (λ (u : UpperState). u.pages) c.self.view_is in
-    let less = lacking_less s m2 i c.args.self.now.pages h.alone c.requires.hand in
     let is = ap (frames_lacking m2 i) pages in
-    omega (arith, less, h.free, is, c.requires.frames)
+    omega (arith, lacking_less s m2 i c.args.self.now.pages h.alone c.requires.hand, h.free, is, c.requires.frames)
 
 pub returns-clause-laid : goal.returns-clause-laid
 returns-clause-laid c =

@@ -1,26 +1,11 @@
-use Rattle.std.proofs.Common.{◌≡◌, ◌≢◌, ◌∙◌, Some, ◌<◌, ◌≤◌, get_or, inl, length, length-set, refl, rules, subst, sym, arith}
+use Rattle.std.proofs.Common.{◌≡◌, ◌≢◌, ◌∙◌, Some, ◌<◌, ◌≤◌, get_or, inl, length, length-set, refl, rules, subst, sym}
 use Rattle.std.proofs.lemmas.Option.{slice_get_read}
 use Rattle.wh_overlay.specs.LaidPages.{UpperState}
 use Rattle.wh_overlay.proofs.Marks.{get_there, known_page, marked_read, noted_read}
 use Rattle.wh_overlay.proofs.upper.OverlayPages.note_read.Goals as goal
 
 pub invariant_of-self : goal.invariant_of-self
-invariant_of-self c =
-    let o = c.self.inside in
-    let had = c.self.invariant in
-    let marks = o.marks.items in
-    let less : c.args.number < length marks = subst (λ (u : UpperState). c.args.number < u.most) (sym c.self.view_is) c.requires in
-    let none : get_or marks c.args.number 0 ≡ 0 = search rules in
-    let now = c.keep_read.ensures.marks in
-    let same = length-set marks c.args.number 1 in
-    let few = had.5 in (
-      rw now (marked_read o.pages.items marks c.args.number had.0 less none),
-      had.1,
-      had.2,
-      had.3,
-      rw (now, c.keep_read.ensures.reads) (noted_read o.reads.items marks c.args.number had.4 less none),
-      rw (now, c.keep_read.ensures.room) (omega (arith, same, few)),
-    )
+invariant_of-self c = search (rules, length-set, marked_read, noted_read)
 
 pub returns-else-index-eq0 : goal.returns-else-index-eq0
 returns-else-index-eq0 c =

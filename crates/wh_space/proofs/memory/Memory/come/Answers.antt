@@ -1,5 +1,4 @@
 use Rattle.std.proofs.Common.{◌≡◌, Some, length, slice_get, refl, rules}
-use Rattle.wh_space_model.specs.declared.states.Page.TheVariants.{Coming}
 use Rattle.wh_space_model.specs.declared.states.Slot.TheVariants.{Fetching}
 use Rattle.wh_space_model.specs.{has_come}
 use Rattle.wh_space_model.proofs.Tally.{one_same}
@@ -30,9 +29,7 @@ pub put_page-requires-clause-frame : goal.put_page-requires-clause-frame
 put_page-requires-clause-frame c = known c.self.inside c.args.frame c.self.invariant (fetched_into (space_of c.self.inside) c.args.slot c.args.frame (Fetching c.args.place c.args.page c.args.frame) c.self.invariant.sound (rw (← c.self.view_is) at c.requires) (one_same c.args.frame c.args.frame refl)).0
 
 pub put_page-requires-clause-there : goal.put_page-requires-clause-there
-put_page-requires-clause-there c =
-    let out = is_awaited (space_of c.self.inside) c.args.slot c.args.place c.args.page c.args.frame c.self.invariant.sound (rw (← c.self.view_is) at c.requires) in
-    (is_page (space_of c.self.inside).tables c.args.place c.args.page (Coming c.args.slot) out.page).1
+put_page-requires-clause-there c = search (rules, is_awaited, is_page)
 
 ended : (c : goal.After-put_page) → (space_of (record c.self.inside { occupant_entries = c.end_coming.new.occupant_entries; slots = c.give.new.self; pool = c.set_frame.new.pool; tables = c.put_page.new.tables }) ≡ has_come (space_of c.self.inside) c.args.place c.args.page c.args.frame c.args.slot c.args.bytes.now)
     × IsWell (record c.self.inside { occupant_entries = c.end_coming.new.occupant_entries; slots = c.give.new.self; pool = c.set_frame.new.pool; tables = c.put_page.new.tables })

@@ -1,6 +1,6 @@
-use Rattle.std.proofs.Common.{◌≡◌, [], refl, sym, arith}
+use Rattle.std.proofs.Common.{◌≡◌, [], refl, arith, rules}
 use Rattle.wh_space_model.specs.declared.states.Slot.TheVariants.{Evicting}
-use Rattle.wh_space_model.specs.{CanLeave, Space, frame_bytes, departing}
+use Rattle.wh_space_model.specs.{CanLeave, Space, departing}
 use Rattle.wh_space_model.proofs.Begun.{is_sound_begun}
 use Rattle.wh_space_model.proofs.Putting.{get_or_is, is_page}
 use Rattle.wh_space_model.proofs.Reading.{taken_under}
@@ -13,10 +13,7 @@ use Rattle.wh_space.proofs.Framing.{known_under, leaving_frame}
 use Rattle.wh_space.proofs.memory.Memory.depart.Goals as goal
 
 pub unreachable-requires : goal.unreachable-requires
-unreachable-requires c =
-    let can : CanLeave (space_of c.self.inside) c.args.place c.args.page = rw (← c.self.view_is) at c.requires.can in
-    let new = can_depart c.page.result (page_stays (space_of c.self.inside).tables c.args.place c.args.page c.page.result c.page.ensures can.0) in
-    c.in_default.ensures new.0 new.1
+unreachable-requires c = search (rules, can_depart, page_stays)
 
 pub bytes-requires : goal.bytes-requires
 bytes-requires c = taken_under (space_of c.self.inside) c.args.place c.args.page c.page.result c.in-Some.frame c.self.invariant.sound.frames c.page.ensures c.in-Some.ensures.0
@@ -52,7 +49,4 @@ pub invariant_of-self : goal.invariant_of-self
 invariant_of-self c = (ended c).1
 
 pub returns : goal.returns
-returns c =
-    let s : Space = space_of c.self.inside in
-    let bytes : c.bytes.result.now ≡ frame_bytes s c.in-Some.frame = sym (get_or_is s.pool.frames c.in-Some.frame c.bytes.result.now [] c.bytes.ensures) in
-    rw (← c.self.view_is) (c.in-Some.frame, c.page.result, c.in-Some.now, c.page.ensures, c.in-Some.ensures.0, c.in-Some.ensures.1, bytes, c.take.new.self.vacant, c.in-Some-take.ensures.vacant, (ended c).0)
+returns c = search (rules, get_or_is, ended)

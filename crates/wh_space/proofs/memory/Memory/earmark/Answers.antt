@@ -1,4 +1,4 @@
-use Rattle.std.proofs.Common.{◌≡◌, ◌+◌, ◌≤◌, [], Some, true, length, refl, ap, arith}
+use Rattle.std.proofs.Common.{◌≡◌, ◌+◌, ◌≤◌, [], Some, true, length, refl, ap, arith, rules}
 use Rattle.wh_space_model.specs.{Occupant, Space, kept, occupant_at}
 use Rattle.wh_space_model.proofs.Reserved.{is_sound_earmarked}
 use Rattle.wh_space.specs.declared.memory.Memory.TheInside.{Inside}
@@ -20,8 +20,4 @@ invariant_of-self c =
     (earmarks s c.args.place c.args.count b.pool c.pages_pinned-pages.result c.take_frames-frames.result none c.pages_pinned-pages.ensures e.many e.frames e.free))
 
 pub returns : goal.returns
-returns c =
-    let s : Space = space_of c.self.inside in
-    let none : kept s.pins ≡ [] = rw (← c.self.view_is) at c.requires.none in
-    let e = c.take_frames-frames.ensures in
-    rw (← c.self.view_is) (earmarks s c.args.place c.args.count c.take_frames-frames.new.pool c.pages_pinned-pages.result c.take_frames-frames.result none c.pages_pinned-pages.ensures e.many e.frames e.free)
+returns c = search rules

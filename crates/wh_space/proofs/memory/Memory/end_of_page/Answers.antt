@@ -12,9 +12,7 @@ returns-then-not-wrote c =
     ends_failed c.args.self.now c.args.slot c.args.place c.args.page c.args.wrote c.args.bytes.now c.stay.new.self (subst IsSound c.self.view_is c.self.invariant.sound) c.requires.out no c.stay.ensures
 
 pub page-requires : goal.page-requires
-page-requires c =
-    let out = is_out (space_of c.self.inside) c.args.slot c.args.place c.args.page c.self.invariant.sound (rw (← c.self.view_is) at c.requires.out) in
-    (is_page (space_of c.self.inside).tables c.args.place c.args.page out.page out.at_it).1
+page-requires c = search (rules, is_out, is_page)
 
 pub bytes-requires : goal.bytes-requires
 bytes-requires c = taken_under (space_of c.self.inside) c.args.place c.args.page c.page.result c.in-Some.frame c.self.invariant.sound.frames c.page.ensures (sym c.frame.ensures ∙ c.in-Some.is)
@@ -31,19 +29,7 @@ returns-then-ne c =
     ends_void s c.args.slot c.args.place c.args.page c.in-Some.frame c.page.result c.args.wrote c.args.bytes.now c.stay-then-ne.new.self (subst IsSound c.self.view_is c.self.invariant.sound) c.requires.out yes there on differ c.stay-then-ne.ensures
 
 pub leave-requires-clause-held : goal.leave-requires-clause-held
-leave-requires-clause-held c =
-    let s : Space = c.args.self.now in
-    let yes : c.args.wrote ≡ true = (search rules) in
-    let bytes : c.bytes.result.now ≡ frame_bytes s c.in-Some.frame = sym (get_or_is (space_of c.self.inside).pool.frames c.in-Some.frame c.bytes.result.now [] c.bytes.ensures) ∙ ap (λ (z : Space). frame_bytes z c.in-Some.frame) c.self.view_is in
-    let same : c.bytes.result.now ≡ c.args.bytes.now = (search rules) in
-    c.requires.held yes ∙ (sym same ∙ bytes)
+leave-requires-clause-held c = search (rules, get_or_is)
 
 pub returns : goal.returns
-returns c =
-    let s : Space = c.args.self.now in
-    let yes : c.args.wrote ≡ true = (search rules) in
-    let there : page_at s.tables c.args.place c.args.page ≡ Some c.page.result = ap (λ (z : Space). page_at z.tables c.args.place c.args.page) (sym c.self.view_is) ∙ c.page.ensures in
-    let on : frame_of c.page.result ≡ Some c.in-Some.frame = sym c.frame.ensures ∙ c.in-Some.is in
-    let bytes : c.bytes.result.now ≡ frame_bytes s c.in-Some.frame = sym (get_or_is (space_of c.self.inside).pool.frames c.in-Some.frame c.bytes.result.now [] c.bytes.ensures) ∙ ap (λ (z : Space). frame_bytes z c.in-Some.frame) c.self.view_is in
-    let same : c.bytes.result.now ≡ c.args.bytes.now = (search rules) in
-    ends_evicted s c.args.slot c.args.place c.args.page c.in-Some.frame c.page.result c.args.wrote c.args.bytes.now c.leave.new.self c.requires.out yes there on (sym same ∙ bytes) c.leave.ensures
+returns c = search (rules, get_or_is, ends_evicted)

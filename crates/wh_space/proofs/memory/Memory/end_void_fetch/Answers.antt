@@ -1,4 +1,4 @@
-use Rattle.std.proofs.Common.{◌≡◌, Some, slice_get, refl}
+use Rattle.std.proofs.Common.{◌≡◌, Some, slice_get, refl, rules}
 use Rattle.wh_space_model.specs.declared.states.Slot.TheVariants.{FetchVoid}
 use Rattle.wh_space_model.specs.{settled, with_free, without_slot}
 use Rattle.wh_space_model.proofs.Tally.{one_same}
@@ -19,14 +19,10 @@ pub give-requires-2 : goal.give-requires-2
 give-requires-2 c = fetched_into (space_of c.self.inside) c.args.slot c.args.frame (FetchVoid c.args.place c.args.frame) c.self.invariant.sound (rw (← c.self.view_is) at c.requires) (one_same c.args.frame c.args.frame refl)
 
 pub end_coming-requires : goal.end_coming-requires
-end_coming-requires c =
-    let void = is_void_fetch (space_of c.self.inside) c.args.slot c.args.place c.args.frame c.self.invariant.sound (rw (← c.self.view_is) at c.requires) in
-    guest_within c.self.inside c.args.place void.occupant void.there
+end_coming-requires c = search (rules, is_void_fetch, guest_within)
 
 pub settle-requires : goal.settle-requires
-settle-requires c =
-    let void = is_void_fetch (space_of c.self.inside) c.args.slot c.args.place c.args.frame c.self.invariant.sound (rw (← c.self.view_is) at c.requires) in
-    within_set c.self.inside.occupant_entries.items c.end_coming.new.occupant_entries.items c.args.place c.args.place _ c.end_coming.ensures (guest_within c.self.inside c.args.place void.occupant void.there)
+settle-requires c = search (rules, is_void_fetch, within_set, guest_within)
 
 ended : (c : goal.After-settle) → (space_of (record c.self.inside { occupant_entries = c.settle.new.occupant_entries; slots = c.give.new.self; pool = c.give-2.new.self }) ≡ settled (with_free (without_slot (space_of c.self.inside) c.args.slot) c.args.frame) c.args.place)
     × IsWell (record c.self.inside { occupant_entries = c.settle.new.occupant_entries; slots = c.give.new.self; pool = c.give-2.new.self })

@@ -1,5 +1,5 @@
-use Rattle.std.proofs.Common.{◌≡◌, ◌≢◌, ◌<◌, ◌^◌, ℕ, Some, refl, subst, sym, ◌∙◌, arith}
-use Rattle.wh_space_model.specs.{Occupant, Space, occupant_at, IsFreePlace, with_row}
+use Rattle.std.proofs.Common.{◌≡◌, ◌≢◌, ◌<◌, ◌^◌, ℕ, Some, refl, subst, sym, ◌∙◌, arith, rules}
+use Rattle.wh_space_model.specs.{Space, IsFreePlace, with_row}
 use Rattle.wh_space_model.proofs.Entered.{free_within}
 use Rattle.wh_space.specs.declared.memory.Memory.TheInside.{Inside}
 use Rattle.wh_space.specs.Parts.{space_of}
@@ -7,13 +7,7 @@ use Rattle.wh_space.proofs.Entering.{MayEnter, entered, guest_of, none_at_free, 
 use Rattle.wh_space.proofs.memory.Memory.enter.Goals as goal
 
 pub enter-requires-clause-place : goal.enter-requires-clause-place
-enter-requires-clause-place c =
-    let a : Inside = c.self.inside in
-    let s : Space = space_of a in
-    let free = subst (λ (z : Space). IsFreePlace z c.args.place) (sym c.self.view_is) c.requires.free in
-    let most = free_within s c.args.place free in
-    let many = c.self.invariant.sound.occupants.tables in
-    (omega (arith, c.if-place.false), omega arith)
+enter-requires-clause-place c = search (rules, free_within)
 
 pub enter-requires-clause-empty : goal.enter-requires-clause-empty
 enter-requires-clause-empty c =
@@ -21,17 +15,13 @@ enter-requires-clause-empty c =
     none_at_free (space_of c.self.inside) c.args.place c.self.invariant.sound free
 
 pub enter-requires-clause-fresh : goal.enter-requires-clause-fresh
-enter-requires-clause-fresh c j some =
-    let fresh = subst (λ (z : Space). (k : ℕ) (t : Occupant) → occupant_at z k t → t.number ≢ c.args.promise.number) (sym c.self.view_is) c.requires.fresh in
-    other_number c.self.inside j c.args.promise.number c.self.invariant fresh some
+enter-requires-clause-fresh c j some = search (rules, ℕ, other_number)
 
 pub invariant_of-self-2 : goal.invariant_of-self-2
 invariant_of-self-2 c =
     let a : Inside = c.self.inside in
     let b : Inside = record a { occupant_entries = c.put_occupant.new.occupant_entries; tables = c.enter.new.self } in
-    let may : MayEnter (space_of a) c.args.place c.args.promise c.args.size =
-    subst (λ (s : Space). MayEnter s c.args.place c.args.promise c.args.size) (sym c.self.view_is)
-    (record { free = c.requires.free; room = c.requires.room; shares = c.requires.shares; bounds = c.requires.bounds; fits = c.requires.fits; fresh = c.requires.fresh }) in
+    let may : MayEnter (space_of a) c.args.place c.args.promise c.args.size = search rules in
     let occupant_entries : b.occupant_entries.items ≡ with_row a.occupant_entries.items c.args.place (Some (guest_of c.args.promise)) = rw (c.put_occupant.ensures, c.in_ok-reserve.ensures.items, c.new.ensures) refl in
     let tables : b.tables ≡ with_table a.tables c.args.place c.args.promise c.args.size = c.in_ok-enter.ensures.ok in
     let place : c.args.place < 2 ^ 32 = omega (arith, c.if-place.false) in
@@ -43,9 +33,7 @@ pub returns-clause-ok : goal.returns-clause-ok
 returns-clause-ok c =
     let a : Inside = c.self.inside in
     let b : Inside = record a { occupant_entries = c.put_occupant.new.occupant_entries; tables = c.enter.new.self } in
-    let may : MayEnter (space_of a) c.args.place c.args.promise c.args.size =
-    subst (λ (s : Space). MayEnter s c.args.place c.args.promise c.args.size) (sym c.self.view_is)
-    (record { free = c.requires.free; room = c.requires.room; shares = c.requires.shares; bounds = c.requires.bounds; fits = c.requires.fits; fresh = c.requires.fresh }) in
+    let may : MayEnter (space_of a) c.args.place c.args.promise c.args.size = search rules in
     let occupant_entries : b.occupant_entries.items ≡ with_row a.occupant_entries.items c.args.place (Some (guest_of c.args.promise)) = rw (c.put_occupant.ensures, c.in_ok-reserve.ensures.items, c.new.ensures) refl in
     let tables : b.tables ≡ with_table a.tables c.args.place c.args.promise c.args.size = c.in_ok-enter.ensures.ok in
     let place : c.args.place < 2 ^ 32 = omega (arith, c.if-place.false) in

@@ -1,4 +1,4 @@
-use Rattle.std.proofs.Common.{arith, ap, ◌≡◌, Some, [], length, rules, refl}
+use Rattle.std.proofs.Common.{◌≡◌, Some, [], length, rules, refl}
 use Rattle.wh_space_model.specs.declared.states.Page.TheVariants.{Swapped}
 use Rattle.wh_space_model.specs.{Fetches, kept, page_at}
 use Rattle.wh_space_model.proofs.Putting.{is_page}
@@ -7,7 +7,6 @@ use Rattle.wh_space.specs.Parts.{IsWell, space_of}
 use Rattle.wh_space.specs.Pinning.{pins_of}
 use Rattle.wh_space.proofs.Fetching.{fetched_now, lies_there}
 use Rattle.wh_space.proofs.Moving.{given}
-use Rattle.wh_space.proofs.Framing.{known}
 use Rattle.wh_space.proofs.memory.Memory.fetch.Goals as goal
 
 pub give-requires-clause-there : goal.give-requires-clause-there
@@ -17,10 +16,7 @@ pub give-requires-clause-taken : goal.give-requires-clause-taken
 give-requires-clause-taken c = (lies_there (space_of c.self.inside) c.args.place c.args.page c.args.slot c.self.invariant.sound (rw (← c.self.view_is) at c.requires.page)).away
 
 pub put_page-requires-clause-frame : goal.put_page-requires-clause-frame
-put_page-requires-clause-frame c =
-    let long = ap length c.in-Ok.ensures.takes.frames in
-    let within = c.in-Ok.ensures.taken.0 in
-    known c.self.inside c.in-Ok.frame c.self.invariant (omega arith)
+put_page-requires-clause-frame c = search rules
 
 pub put_page-requires-clause-there : goal.put_page-requires-clause-there
 put_page-requires-clause-there c = (is_page (space_of c.self.inside).tables c.args.place c.args.page (Swapped c.args.slot) (rw (← c.self.view_is) at c.requires.page)).1

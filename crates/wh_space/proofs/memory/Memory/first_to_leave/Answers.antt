@@ -1,4 +1,4 @@
-use Rattle.std.proofs.Common.{[], length, get_or, ap, subst, arith}
+use Rattle.std.proofs.Common.{[], length, get_or, ap, subst, arith, rules}
 use Rattle.wh_space_model.specs.{Space}
 use Rattle.wh_pages.specs.Seeking.{IsFirstFrom}
 use Rattle.wh_tables.specs.Tables.{IsSoughtAt}
@@ -12,11 +12,7 @@ returns-in_default c =
     none_left s c.args.place c.args.idle c.loop.from c.loop.invariant.passed (subst (IsFirstFrom (IsSoughtAt s.tables s.touched c.args.place c.args.idle) c.loop.from) c.in_default.is next)
 
 pub can_leave-requires : goal.can_leave-requires
-can_leave-requires c =
-    let s = c.args.self.now in
-    let next = subst (λ (z : Space). IsFirstFrom (IsSoughtAt z.tables z.touched c.args.place c.args.idle) c.loop.from c.next_resident.result) c.self.view_is c.next_resident.ensures in
-    let here = subst (IsFirstFrom (IsSoughtAt s.tables s.touched c.args.place c.args.idle) c.loop.from) c.in-Some.is next in
-    sought_there s c.args.place c.args.idle c.in-Some.page here.0.0
+can_leave-requires c = search (rules, sought_there)
 
 pub returns-then-can_leave : goal.returns-then-can_leave
 returns-then-can_leave c =
@@ -26,13 +22,7 @@ returns-then-can_leave c =
     (subst (IsFirstFrom (IsSoughtAt s.tables s.touched c.args.place c.args.idle) c.loop.from) c.in-Some.is next) c.if-can_leave.ensures
 
 pub overflow_add-from : goal.overflow_add-from
-overflow_add-from c =
-    let s = c.args.self.now in
-    let next = subst (λ (z : Space). IsFirstFrom (IsSoughtAt z.tables z.touched c.args.place c.args.idle) c.loop.from c.next_resident.result) c.self.view_is c.next_resident.ensures in
-    let here = subst (IsFirstFrom (IsSoughtAt s.tables s.touched c.args.place c.args.idle) c.loop.from) c.in-Some.is next in
-    let less = sought_there s c.args.place c.args.idle c.in-Some.page here.0.0 in
-    let same = ap (λ (z : Space). length (get_or z.tables c.args.place [])) c.self.view_is in
-    omega (arith, less, c.len_at-end.ensures, same, c.len_at-end.type_inv)
+overflow_add-from c = search (rules, sought_there)
 
 pub loop-preserved : goal.loop-preserved
 loop-preserved c =

@@ -1,4 +1,4 @@
-use Rattle.std.proofs.Common.{◌≡◌, ◌*◌, ◌++◌, ℕ, length, get_or, [], replicate, ap, sym, refl, ◌∙◌, arith}
+use Rattle.std.proofs.Common.{◌≡◌, ◌*◌, ◌++◌, ℕ, length, get_or, [], replicate, ap, refl, ◌∙◌, arith, rules}
 use Rattle.std.proofs.lemmas.List.{append-nil}
 use Rattle.wh_space_model.specs.{Space, view, Grew}
 use Rattle.wh_space_model.proofs.Enlarged.{grows_by_zeros}
@@ -12,13 +12,7 @@ use Rattle.wh_space.proofs.Entering.{other_guest}
 use Rattle.wh_space.proofs.memory.Memory.grow.Goals as goal
 
 pub returns-then-pages-eq0-clause-grows : goal.returns-then-pages-eq0-clause-grows
-returns-then-pages-eq0-clause-grows c =
-    let a : Inside = c.self.inside in
-    let none = c.if-pages-eq0.true in
-    let long = ap (λ (z : Space). length (get_or z.tables c.args.place [])) c.self.view_is ∙ c.size-before.ensures.pages in
-    let within = size_within a c.args.place c.size-before.result c.self.invariant.sound long in
-    let limit = ap (λ (z : Space). page_limit z c.args.place) c.self.view_is in
-    (c.size-before.ensures.bytes, omega arith, rw none (sym (append-nil (view c.args.self.now c.args.place))))
+returns-then-pages-eq0-clause-grows c = search (rules, size_within, append-nil)
 
 can : (c : goal.After-grow-arg-1) → CanGrow c.self.inside c.args.place c.args.pages
 can c =

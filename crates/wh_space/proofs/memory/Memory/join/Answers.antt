@@ -1,7 +1,7 @@
 use Rattle.wh_space_model.specs.{Pool, FindsShared, HasHash, IsSound}
-use Rattle.std.proofs.Common.{refl, subst, sym, ap, ◌∙◌, ◌+◌, length, length-set, slice_get, slice_set, List, arith}
+use Rattle.std.proofs.Common.{refl, subst, sym, ap, ◌∙◌, ◌+◌, length, length-set, slice_get, slice_set, List, rules}
 use Rattle.wh_space_model.specs.declared.states.Mark.{Mark}
-use Rattle.wh_space_model.specs.declared.states.Mark.TheVariants.{Plain, Sharers}
+use Rattle.wh_space_model.specs.declared.states.Mark.TheVariants.{Sharers}
 use Rattle.wh_space_model.proofs.Putting.{there_of}
 use Rattle.wh_space.specs.Parts.{space_of}
 use Rattle.wh_space.specs.declared.memory.Memory.TheInside.{Inside}
@@ -16,17 +16,10 @@ pub forget_frame-requires : goal.forget_frame-requires
 forget_frame-requires c = (is_alone (space_of c.self.inside) c.args.place c.args.page c.args.frame c.self.invariant.sound (rw (← c.self.view_is) at c.requires.offered.0)).entry
 
 pub overflow_add-sharers : goal.overflow_add-sharers
-overflow_add-sharers c =
-    let few = few_sharers (space_of c.self.inside) c.args.place c.args.page c.args.frame c.args.shared c.args.sharers c.args.hash c.self.invariant.sound
-    (rw (← c.self.view_is) at c.requires.few) (rw (← c.self.view_is) at c.requires.offered.0) (rw (← c.self.view_is) at c.requires.found) in
-    omega arith
+overflow_add-sharers c = search (rules, few_sharers)
 
 pub share-requires-clause-within : goal.share-requires-clause-within
-share-requires-clause-within c =
-    let found : FindsShared (space_of c.self.inside) c.args.hash c.args.shared c.args.sharers = rw (← c.self.view_is) at c.requires.found in
-    let within = there_of c.self.inside.content c.args.shared (Sharers c.args.hash c.args.sharers) found in
-    let long = ap length c.forget_frame.ensures ∙ length-set c.self.inside.content c.args.frame Plain in
-    omega arith
+share-requires-clause-within c = search (rules, there_of, length-set)
 
 pub share-requires-clause-alone : goal.share-requires-clause-alone
 share-requires-clause-alone c =

@@ -1,4 +1,4 @@
-use Rattle.std.proofs.Common.{refl, ◌≡◌, ◌∙◌, ap, ℕ, Option, None, get_or}
+use Rattle.std.proofs.Common.{refl, ◌≡◌, ◌∙◌, ap, ℕ, Option, None, get_or, rules}
 use Rattle.wh_space_model.specs.{sharers}
 use Rattle.wh_space.specs.Parts.{space_of}
 use Rattle.wh_space.specs.Slotting.{leaver_of, voids_leaver}
@@ -39,7 +39,4 @@ pub invariant_of-self : goal.invariant_of-self
 invariant_of-self c = (is_owned c).well
 
 pub returns : goal.returns
-returns c =
-    let x = sharer c in
-    let o = is_owned c in
-    rw (← c.self.view_is) (can_keep_last (space_of c.self.inside) c.args.place c.args.number c.args.frame x.page c.self.invariant.sound x.there x.one (last c), o.breaks, o.page)
+returns c = search (rules, sharer, is_owned, can_keep_last, last)

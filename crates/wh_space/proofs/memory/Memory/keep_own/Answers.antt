@@ -1,4 +1,4 @@
-use Rattle.std.proofs.Common.{refl, ◌≡◌, ◌∙◌, ap, ℕ, Option, Some, None, get_or}
+use Rattle.std.proofs.Common.{refl, ◌≡◌, ◌∙◌, ap, ℕ, Option, Some, None, get_or, rules}
 use Rattle.wh_space_model.specs.declared.states.Page.{Page}
 use Rattle.wh_space_model.specs.{owns, page_at}
 use Rattle.wh_space.specs.Parts.{space_of}
@@ -12,9 +12,7 @@ pub void_written-requires : goal.void_written-requires
 void_written-requires c = leaver_within c.self.inside c.args.place c.leaver_at.result c.self.invariant.sound.slots c.leaver_at.ensures
 
 pub stand_alone-requires-clause-frame : goal.stand_alone-requires-clause-frame
-stand_alone-requires-clause-frame c =
-    let x = page_there (owns c.args.frame) (page_at (space_of c.self.inside).tables c.args.place c.args.number) (rw (← c.self.view_is) at c.requires) in
-    known_under c.self.inside c.args.place c.args.number c.args.frame x.0 c.self.invariant x.1 (owner_frame c.args.frame x.0 x.2)
+stand_alone-requires-clause-frame c = search (rules, page_there, known_under, owner_frame)
 
 there : (c : goal.After-stand_alone) → (x : Page) × (page_at (space_of c.self.inside).tables c.args.place c.args.number ≡ Some x) × (owns c.args.frame x ≡ 1)
 there c = page_there (owns c.args.frame) (page_at (space_of c.self.inside).tables c.args.place c.args.number) (rw (← c.self.view_is) at c.requires)
@@ -32,7 +30,4 @@ pub invariant_of-self : goal.invariant_of-self
 invariant_of-self c = (is_owned c).well
 
 pub returns : goal.returns
-returns c =
-    let x = there c in
-    let o = is_owned c in
-    rw (← c.self.view_is) (can_keep (space_of c.self.inside) c.args.place c.args.number c.args.frame x.0 c.self.invariant.sound x.1 x.2, o.breaks, o.page)
+returns c = search (rules, there, is_owned, can_keep)

@@ -1,4 +1,4 @@
-use Rattle.std.proofs.Common.{◌≡◌, ◌∙◌, [], Some, get_or, slice_get, refl, sym, ap}
+use Rattle.std.proofs.Common.{◌≡◌, ◌∙◌, [], Some, get_or, slice_get, refl, sym, ap, rules}
 use Rattle.wh_space_model.specs.declared.states.Slot.TheVariants.{Evicting}
 use Rattle.wh_space_model.specs.{Space, frame_bytes, sharers, sent_off}
 use Rattle.wh_space_model.proofs.Putting.{is_page}
@@ -30,9 +30,7 @@ end_leaving-requires c =
     guest_within c.self.inside c.args.place x.occupant x.there
 
 pub swap_page-requires : goal.swap_page-requires
-swap_page-requires c =
-    let x = is_left (space_of c.self.inside) c.args.slot c.args.place c.args.page c.args.frame c.self.invariant.sound (rw (← c.self.view_is) at c.requires.out) (rw (← c.self.view_is) at c.requires.frame) in
-    (is_page (space_of c.self.inside).tables c.args.place c.args.page x.page x.at_it).1
+swap_page-requires c = search (rules, is_left, is_page)
 
 ended : (c : goal.After-unpin_page)
     → (space_of (record c.self.inside { occupant_entries = c.end_leaving.new.occupant_entries; slots = c.set.new.self; pool = c.leave_frame.new.pool; content = c.leave_frame.new.content; tables = c.swap_page.new.tables; pins = c.unpin_page.new.pins }) ≡ sent_off (space_of c.self.inside) c.args.place c.args.page c.args.frame c.args.slot)

@@ -1,7 +1,7 @@
-use Rattle.std.proofs.Common.{refl, ap, ◌∙◌, ◌≡◌, Some, List, arith}
+use Rattle.std.proofs.Common.{refl, ap, ◌∙◌, ◌≡◌, List, arith, rules}
 use Rattle.wh_space_model.specs.declared.states.Page.{Page}
-use Rattle.wh_space_model.specs.declared.states.Page.TheVariants.{Private, Shared, Untouched}
-use Rattle.wh_space_model.specs.{Space, page_at, put}
+use Rattle.wh_space_model.specs.declared.states.Page.TheVariants.{Private, Shared}
+use Rattle.wh_space_model.specs.{put}
 use Rattle.wh_space_model.proofs.Evicted.{row_length}
 use Rattle.wh_space_model.proofs.Forked.{lends_page}
 use Rattle.wh_space_model.proofs.Putting.{is_page}
@@ -23,12 +23,7 @@ pub put_page-requires-clause-frame : goal.put_page-requires-clause-frame
 put_page-requires-clause-frame c = known_under c.self.inside c.args.from c.args.number c.args.frame (Private c.args.frame) c.self.invariant (rw (← c.self.view_is) at c.requires.own) refl
 
 pub put_page-requires-2-clause-there : goal.put_page-requires-2-clause-there
-put_page-requires-2-clause-there c =
-    let s : Space = space_of c.self.inside in
-    let there : page_at s.tables c.args.place c.args.number ≡ Some Untouched = rw (← c.self.view_is) at c.requires.onto in
-    let within = (is_page s.tables c.args.place c.args.number Untouched there).1 in
-    let long = row_length s.tables c.args.from c.args.number (Shared c.args.frame) c.args.place in
-    rw c.put_page.ensures.pages (omega (arith, within, long))
+put_page-requires-2-clause-there c = search (rules, is_page, row_length)
 
 pub put_page-requires-2-clause-frame : goal.put_page-requires-2-clause-frame
 put_page-requires-2-clause-frame c =
@@ -47,9 +42,4 @@ invariant_of-self c =
     (rw (← c.self.view_is) at c.requires.own) (rw (← c.self.view_is) at c.requires.onto) is)
 
 pub returns : goal.returns
-returns c =
-    let a = c.self.inside in
-    let b : Inside = record a { tables = c.put_page-2.new.tables; content = c.share_unlisted.new.self } in
-    let pages = c.put_page-2.ensures.pages ∙ ap (λ (t : List (List Page)). put t c.args.place c.args.number (Shared c.args.frame)) c.put_page.ensures.pages in
-    let is = remade_is a b _ _ _ _ refl refl refl refl pages (c.put_page-2.ensures.marks ∙ c.put_page.ensures.marks) refl c.share_unlisted.ensures in
-    rw (← c.self.view_is) is
+returns c = search rules

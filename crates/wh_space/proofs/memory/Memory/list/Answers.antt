@@ -1,10 +1,7 @@
-use Rattle.std.proofs.Common.{refl, subst, sym}
+use Rattle.std.proofs.Common.{rules}
 use Rattle.wh_space_model.specs.declared.states.Mark.TheVariants.{Unlisted}
-use Rattle.wh_space_model.specs.{Space, IsSound}
 use Rattle.wh_space_model.proofs.Listed.{listed_sound}
 use Rattle.wh_space_model.proofs.Putting.{there_of}
-use Rattle.wh_space.specs.Parts.{space_of}
-use Rattle.wh_space.specs.declared.memory.Memory.TheInside.{Inside}
 use Rattle.wh_space.proofs.Unshared.{none_has}
 use Rattle.wh_space.proofs.Merges.{remade_is}
 use Rattle.wh_space.proofs.Wellness.{well}
@@ -17,11 +14,4 @@ pub share-requires-clause-alone : goal.share-requires-clause-alone
 share-requires-clause-alone c = none_has c.self.inside.content c.args.frame c.args.hash (rw (← c.self.view_is) at c.requires.none)
 
 pub invariant_of-self : goal.invariant_of-self
-invariant_of-self c =
-    let a = c.self.inside in
-    let s : Space = space_of a in
-    let b : Inside = record a { content = c.share.new.self } in
-    let is = remade_is a b s.tables s.touched s.pool _ refl refl refl refl refl refl refl c.share.ensures in
-    well a b c.self.invariant refl refl refl refl
-    (subst IsSound (sym is)
-    (listed_sound s c.args.frame c.args.hash c.args.sharers c.self.invariant.sound (rw (← c.self.view_is) at c.requires.unlisted) (rw (← c.self.view_is) at c.requires.some) (rw (← c.self.view_is) at c.requires.none)))
+invariant_of-self c = search (rules, remade_is, well, listed_sound)

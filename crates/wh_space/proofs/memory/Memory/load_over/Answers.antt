@@ -46,11 +46,10 @@ returns-clause-loads c =
     let also : Hand c.load_inside.new.self i (k / 4096) = subst (λ (a : Space). Hand a i (k / 4096)) (sym mid) first in
     let done = is_true c.load_inside-2.result (Hand c.load_inside.new.self i (k / 4096)) c.load_inside-2.ensures.hand also in
     let low = c.load_inside-2.ensures.read done ∙ ap (λ (a : Space). bytes_at (view a i) (4096 * (k / 4096) + k % 4096) (length here)) mid in
-    let high = c.load_inside.ensures.read c.if-not-load_inside.false in
     let front = c.split_at_mut-here.ensures.front_len in
     let back = c.split_at_mut-here.ensures.back_len in
     let few = c.requires.few in
     let over = c.requires.over in
     let over_all = read_over (view s i) k (length here) (length there) (length old) (4096 * (k / 4096) + k % 4096) (4096 * (k / 4096 + 1) + 0) (omega arith) (omega arith) (omega arith) in
     got_value s i k old _ ((k / 4096) ∷ (k / 4096 + 1) ∷ []) sound c.requires.fits (on_two_pages k (length old) over) (two_hands s i (k / 4096) (k / 4096 + 1) first second)
-    (rw (low, high) over_all)
+    (rw (low, c.load_inside.ensures.read c.if-not-load_inside.false) over_all)

@@ -1,4 +1,4 @@
-use Rattle.std.proofs.Common.{◌≡◌, ◌≤◌, ◌+◌, List, ℕ, [], ◌∷◌, ◌/◌, ◌%◌, length, refl, subst, sym, arith, rules}
+use Rattle.std.proofs.Common.{◌≡◌, ◌≤◌, ◌+◌, List, ℕ, [], ◌∷◌, ◌/◌, ◌%◌, length, subst, sym, arith, rules}
 use Rattle.std.proofs.lemmas.Grind.{common_steps}
 use Rattle.std.proofs.lemmas.List.Elements.{All-nil}
 use Rattle.wh_model.specs.declared.memory.Got.TheVariants.{NotReady}
@@ -10,9 +10,7 @@ use Rattle.wh_space.proofs.Loading.{Hand, first_away, got_nothing, got_value, re
 use Rattle.wh_space.proofs.memory.Memory.load_slowly.Goals as goal
 
 pub returns-then-not-fits-clause-loads : goal.returns-then-not-fits-clause-loads
-returns-then-not-fits-clause-loads c =
-    let long = view_length c.args.self.now c.args.place (subst IsSound c.self.view_is c.self.invariant.sound) in
-    (grind (arith, common_steps), refl)
+returns-then-not-fits-clause-loads c = search (rules, view_length)
 
 pub returns-then-is_empty-clause-loads : goal.returns-then-is_empty-clause-loads
 returns-then-is_empty-clause-loads c =

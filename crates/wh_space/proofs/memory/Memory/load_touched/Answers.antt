@@ -1,10 +1,10 @@
-use Rattle.std.proofs.Common.{◌∙◌, sym, ap, true, length}
+use Rattle.std.proofs.Common.{◌∙◌, sym, ap, length, rules}
 use Rattle.wh_model.specs.Execution.{bytes_at}
-use Rattle.wh_space_model.specs.{Space, backing, page_at}
+use Rattle.wh_space_model.specs.{Space, backing}
 use Rattle.wh_space_model.proofs.Reading.{read_page, taken_under}
 use Rattle.wh_space_model.proofs.Transit.{on_frame}
 use Rattle.wh_space.specs.Parts.{space_of}
-use Rattle.wh_space.proofs.Marking.{frame_touched, on_frame_at_hand}
+use Rattle.wh_space.proofs.Marking.{frame_touched}
 use Rattle.wh_space.proofs.Owning.{put_found}
 use Rattle.wh_space.proofs.memory.Memory.load_touched.Goals as goal
 
@@ -14,15 +14,10 @@ read_frame-requires-clause-taken c =
     taken_under (space_of c.self.inside) c.args.place c.args.number found.0 c.in-Some.frame c.self.invariant.sound.frames found.1 found.3
 
 pub returns-clause-hand : goal.returns-clause-hand
-returns-clause-hand c =
-    let found = frame_touched _ _ c.in-Some.frame c.in-Some.ensures in
-    rw (← c.self.view_is) (λ yes. on_frame_at_hand (page_at c.self.inside.tables.pages c.args.place c.args.number) found.0 c.in-Some.frame found.1 found.3)
+returns-clause-hand c = search rules
 
 pub returns-clause-touched : goal.returns-clause-touched
-returns-clause-touched c =
-    let found = frame_touched _ _ c.in-Some.frame c.in-Some.ensures in
-    let s : Space = space_of c.self.inside in
-    rw (← c.self.view_is) (λ yes. ap (λ z. record s { touched = z }) (sym (put_found s.touched c.args.place c.args.number true found.2)))
+returns-clause-touched c = search (rules, frame_touched, put_found)
 
 pub returns-clause-read : goal.returns-clause-read
 returns-clause-read c =

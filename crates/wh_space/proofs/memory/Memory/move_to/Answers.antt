@@ -1,4 +1,4 @@
-use Rattle.std.proofs.Common.{refl, subst, sym, ap, ◌∙◌, ◌≡◌, ◌+◌, length, length-set, slice_set, List, cond, nat_lt, ◌++◌, [], ◌∷◌, arith}
+use Rattle.std.proofs.Common.{refl, subst, sym, ap, ◌∙◌, ◌≡◌, ◌+◌, length, length-set, slice_set, List, cond, nat_lt, ◌++◌, [], ◌∷◌, rules}
 use Rattle.wh_space_model.specs.{Pool, FindsShared, MayBeListed, moved_to, Space, sharers, IsSound}
 use Rattle.wh_space_model.specs.declared.states.Mark.{Mark}
 use Rattle.wh_space_model.specs.declared.states.Mark.TheVariants.{Sharers}
@@ -21,17 +21,10 @@ pub leave_frame-requires-clause-entry : goal.leave_frame-requires-clause-entry
 leave_frame-requires-clause-entry c = (on_shared (space_of c.self.inside) c.args.place c.args.page c.args.from.frame c.self.invariant.sound (rw (← c.self.view_is) at c.requires.may.0)).entry
 
 pub overflow_add-sharers : goal.overflow_add-sharers
-overflow_add-sharers c =
-    let few = few_elsewhere (space_of c.self.inside) c.args.place c.args.page c.args.from.frame c.args.from.sharers c.args.shared c.args.hash c.args.sharers c.self.invariant.sound
-    (rw (← c.self.view_is) at c.requires.few) (rw (← c.self.view_is) at c.requires.may) (rw (← c.self.view_is) at c.requires.found) in
-    omega arith
+overflow_add-sharers c = search (rules, few_elsewhere)
 
 pub share-requires-clause-within : goal.share-requires-clause-within
-share-requires-clause-within c =
-    let found : FindsShared (space_of c.self.inside) c.args.hash c.args.shared c.args.sharers = rw (← c.self.view_is) at c.requires.found in
-    let within = there_of c.self.inside.content c.args.shared (Sharers c.args.hash c.args.sharers) found in
-    let long = ap length c.leave_frame.ensures.marks ∙ length-set c.self.inside.content c.args.from.frame _ in
-    omega (arith, within, long)
+share-requires-clause-within c = search (rules, there_of, length-set)
 
 pub share-requires-clause-alone : goal.share-requires-clause-alone
 share-requires-clause-alone c =

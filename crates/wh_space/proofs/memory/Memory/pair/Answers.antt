@@ -1,7 +1,7 @@
 use Rattle.wh_space_model.specs.{Pool, FindsHint, Space, HasHash, IsSound, page_at, put}
-use Rattle.std.proofs.Common.{refl, subst, sym, ap, ◌∙◌, ◌≡◌, Some, length, length-set, slice_get, slice_set, List, arith}
+use Rattle.std.proofs.Common.{refl, subst, sym, ap, ◌∙◌, ◌≡◌, Some, length, length-set, slice_get, slice_set, List, arith, rules}
 use Rattle.wh_space_model.specs.declared.states.Mark.{Mark}
-use Rattle.wh_space_model.specs.declared.states.Mark.TheVariants.{Hint, Plain, Sharers}
+use Rattle.wh_space_model.specs.declared.states.Mark.TheVariants.{Sharers}
 use Rattle.wh_space_model.specs.declared.states.Page.{Page}
 use Rattle.wh_space_model.specs.declared.states.Page.TheVariants.{Private, Shared}
 use Rattle.wh_space_model.proofs.Evicted.{row_length}
@@ -21,11 +21,7 @@ pub forget_frame-requires : goal.forget_frame-requires
 forget_frame-requires c = (is_alone (space_of c.self.inside) c.args.place c.args.page c.args.frame c.self.invariant.sound (rw (← c.self.view_is) at c.requires.offered.0)).entry
 
 pub share-requires-clause-within : goal.share-requires-clause-within
-share-requires-clause-within c =
-    let found : FindsHint (space_of c.self.inside) c.args.hash c.args.shared c.args.other_place c.args.other_page = rw (← c.self.view_is) at c.requires.found in
-    let within = there_of c.self.inside.content c.args.shared (Hint c.args.hash c.args.other_place c.args.other_page) found in
-    let long = ap length c.forget_frame.ensures ∙ length-set c.self.inside.content c.args.frame Plain in
-    omega arith
+share-requires-clause-within c = search (rules, there_of, length-set)
 
 pub share-requires-clause-alone : goal.share-requires-clause-alone
 share-requires-clause-alone c =
@@ -43,12 +39,7 @@ put_page-requires-2-clause-frame c =
     omega arith
 
 pub put_page-requires-2-clause-there : goal.put_page-requires-2-clause-there
-put_page-requires-2-clause-there c =
-    let s : Space = space_of c.self.inside in
-    let there : page_at s.tables c.args.other_place c.args.other_page ≡ Some (Private c.args.shared) = rw (← c.self.view_is) at c.requires.hinted.0 in
-    let within = (is_page s.tables c.args.other_place c.args.other_page (Private c.args.shared) there).1 in
-    let long = row_length s.tables c.args.place c.args.page (Shared c.args.shared) c.args.other_place in
-    rw c.put_page.ensures.pages (omega arith)
+put_page-requires-2-clause-there c = search (rules, is_page, row_length)
 
 pub invariant_of-self : goal.invariant_of-self
 invariant_of-self c =

@@ -1,5 +1,5 @@
 use Rattle.wh_space_model.specs.{Pool, residents, pages_of_need, IsSound, WaitsForBytes}
-use Rattle.std.proofs.Common.{length, ap, ◌≡◌, Some, refl, sym, subst}
+use Rattle.std.proofs.Common.{length, ap, ◌≡◌, Some, refl, sym, subst, rules}
 use Rattle.wh_space_model.proofs.Reserved.{is_sound_pinned}
 use Rattle.wh_space.specs.declared.memory.Memory.TheInside.{Inside}
 use Rattle.wh_space.specs.Parts.{space_of}
@@ -31,7 +31,4 @@ invariant_of-self c =
     well a b c.self.invariant refl refl (ap (λ (z : Pool). length z.frames) c.end_all_pins.ensures.pool) refl (subst IsSound (sym (pins_now (space_of a) c.args.place c.args.need b.pool c.residents_of-pages.result pages c.end_all_pins.ensures.pool)) (is_sound_pinned (space_of a) c.args.place c.args.need c.self.invariant.sound (stands_there (space_of a) c.args.place c.args.need stands)))
 
 pub returns : goal.returns
-returns c =
-    let a : Inside = c.self.inside in
-    let pages : numbers_in c.residents_of-pages.result ≡ residents (space_of a) c.args.place (pages_of_need c.args.need) = rw (← c.self.view_is) at c.residents_of-pages.ensures in
-    rw (← c.self.view_is) (pins_now (space_of a) c.args.place c.args.need c.end_all_pins.new.pool c.residents_of-pages.result pages c.end_all_pins.ensures.pool)
+returns c = search rules

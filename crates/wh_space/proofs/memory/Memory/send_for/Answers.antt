@@ -1,4 +1,4 @@
-use Rattle.std.proofs.Common.{◌≡◌, Some, refl, arith}
+use Rattle.std.proofs.Common.{◌≡◌, Some, refl, arith, rules}
 use Rattle.wh_space_model.specs.declared.states.Page.TheVariants.{Swapped}
 use Rattle.wh_space_model.specs.declared.states.Slot.TheVariants.{Taken}
 use Rattle.wh_space_model.specs.{Space, page_at, sent_for}
@@ -41,6 +41,4 @@ pub invariant_of-self : goal.invariant_of-self
 invariant_of-self c = (ended c).1
 
 pub returns : goal.returns
-returns c =
-    let page : page_at (space_of c.self.inside).tables c.args.place c.args.page ≡ Some (Swapped c.args.slot) = rw (← c.self.view_is) at c.requires.page in
-    rw (← c.self.view_is) (c.in-Some.frame, page, c.in-Some.ensures.some.0, c.in-Some.ensures.some.1, (ended c).0)
+returns c = search (rules, ended)

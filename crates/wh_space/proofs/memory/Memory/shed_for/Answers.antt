@@ -1,23 +1,17 @@
-use Rattle.std.proofs.Common.{◌≡◌, ◌<◌, Some, length, sym, ap, ◌∙◌, subst, arith}
+use Rattle.std.proofs.Common.{◌≡◌, ◌<◌, Some, sym, ap, ◌∙◌, arith, rules}
 use Rattle.wh_space_model.specs.{Space, page_at}
 use Rattle.wh_space.specs.Steps.{frame_shared}
 use Rattle.wh_space.proofs.Besides.{sheds_few, within_pool}
 use Rattle.wh_space.proofs.memory.Memory.shed_for.Goals as goal
 
 pub is_charged_with-requires : goal.is_charged_with-requires
-is_charged_with-requires c =
-    let within = within_pool c.self.inside c.args.place c.args.number c.in-Some.frame c.page.result c.self.invariant c.page.ensures (sym c.shared_under.ensures ∙ c.in-Some.is) in
-    subst (λ (z : Space). c.in-Some.frame < length z.pool.frames) c.self.view_is within
+is_charged_with-requires c = search (rules, within_pool)
 
 pub sharers_of-requires : goal.sharers_of-requires
-sharers_of-requires c =
-    let within = within_pool c.self.inside c.args.place c.args.number c.in-Some.frame c.page.result c.self.invariant c.page.ensures (sym c.shared_under.ensures ∙ c.in-Some.is) in
-    subst (λ (z : Space). c.in-Some.frame < length z.pool.frames) c.self.view_is within
+sharers_of-requires c = search (rules, within_pool)
 
 pub last_beside-requires-clause-frame : goal.last_beside-requires-clause-frame
-last_beside-requires-clause-frame c =
-    let within = within_pool c.self.inside c.args.place c.args.number c.in-Some.frame c.page.result c.self.invariant c.page.ensures (sym c.shared_under.ensures ∙ c.in-Some.is) in
-    subst (λ (z : Space). c.in-Some.frame < length z.pool.frames) c.self.view_is within
+last_beside-requires-clause-frame c = search (rules, within_pool)
 
 pub returns-then-sharers_of-sharing_among : goal.returns-then-sharers_of-sharing_among
 returns-then-sharers_of-sharing_among c =

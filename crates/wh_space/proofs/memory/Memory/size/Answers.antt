@@ -9,16 +9,14 @@ long c = ap (λ (z : Space). length (get_or z.tables c.args.place [])) (sym c.se
 
 pub returns-clause-pages : goal.returns-clause-pages
 returns-clause-pages c =
-    let n = sixteens c.args.self.now c.args.place (subst IsSound c.self.view_is c.self.invariant.sound) in
-    let e = n.1 in
+    let e = (sixteens c.args.self.now c.args.place (subst IsSound c.self.view_is c.self.invariant.sound)).1 in
     let l = long c in
     omega arith
 
 pub returns-clause-bytes : goal.returns-clause-bytes
 returns-clause-bytes c =
     let sound = subst IsSound c.self.view_is c.self.invariant.sound in
-    let n = sixteens c.args.self.now c.args.place sound in
-    let e = n.1 in
+    let e = (sixteens c.args.self.now c.args.place sound).1 in
     let l = long c in
     let k = view_length c.args.self.now c.args.place sound in
     omega arith

@@ -1,7 +1,7 @@
-use Rattle.std.proofs.Common.{◌≡◌, Some, slice_get, refl, sym, subst, ap, ◌∙◌}
+use Rattle.std.proofs.Common.{◌≡◌, Some, slice_get, refl, subst, ◌∙◌, rules}
 use Rattle.wh_space_model.specs.declared.states.Page.{Page}
 use Rattle.wh_space_model.specs.declared.states.Slot.TheVariants.{Evicting}
-use Rattle.wh_space_model.specs.{Space, page_at, as_before, not_sent}
+use Rattle.wh_space_model.specs.{Space, as_before, not_sent}
 use Rattle.wh_space_model.proofs.Returned.{is_sound_returned}
 use Rattle.wh_space.specs.declared.memory.Memory.TheInside.{Inside}
 use Rattle.wh_space.specs.Parts.{IsWell, space_of}
@@ -31,6 +31,4 @@ pub invariant_of-self : goal.invariant_of-self
 invariant_of-self c = (ended c).1
 
 pub returns : goal.returns
-returns c =
-    let is : page_at c.args.self.now.tables c.args.place c.args.page ≡ Some c.page-was.result = ap (λ (z : Space). page_at z.tables c.args.place c.args.page) (sym c.self.view_is) ∙ c.page-was.ensures in
-    rw is (rw (← c.self.view_is) (ended c).0)
+returns c = search (rules, ended)

@@ -1,5 +1,4 @@
-use Rattle.std.proofs.Common.{◌≡◌, Some, slice_get, refl}
-use Rattle.wh_space_model.specs.declared.states.Page.TheVariants.{Coming}
+use Rattle.std.proofs.Common.{◌≡◌, Some, slice_get, refl, rules}
 use Rattle.wh_space_model.specs.declared.states.Slot.TheVariants.{Fetching}
 use Rattle.wh_space_model.specs.{not_come}
 use Rattle.wh_space_model.proofs.Tally.{one_same}
@@ -23,9 +22,7 @@ end_coming-requires c =
     table_within c.self.inside c.args.place c.self.invariant.sound out.row
 
 pub put_page-requires-clause-there : goal.put_page-requires-clause-there
-put_page-requires-clause-there c =
-    let out = is_awaited (space_of c.self.inside) c.args.slot c.args.place c.args.page c.args.frame c.self.invariant.sound (rw (← c.self.view_is) at c.requires) in
-    (is_page (space_of c.self.inside).tables c.args.place c.args.page (Coming c.args.slot) out.page).1
+put_page-requires-clause-there c = search (rules, is_awaited, is_page)
 
 ended : (c : goal.After-put_page) → (space_of (record c.self.inside { occupant_entries = c.end_coming.new.occupant_entries; slots = c.set.new.self; pool = c.give.new.self; tables = c.put_page.new.tables }) ≡ not_come (space_of c.self.inside) c.args.place c.args.page c.args.frame c.args.slot)
     × IsWell (record c.self.inside { occupant_entries = c.end_coming.new.occupant_entries; slots = c.set.new.self; pool = c.give.new.self; tables = c.put_page.new.tables })

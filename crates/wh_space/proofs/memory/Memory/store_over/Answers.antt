@@ -12,10 +12,7 @@ use Rattle.wh_space.proofs.Storing.{can_first, can_second, not_stored, other_pag
 use Rattle.wh_space.proofs.memory.Memory.store_over.Goals as goal
 
 pub returns-then-not-is_ready-clause-stores : goal.returns-then-not-is_ready-clause-stores
-returns-then-not-is_ready-clause-stores c =
-    let s = c.args.self.now in
-    let away : ¬ Ready s c.args.place (writing c.args.at (length c.args.given.now)) = (search rules) in
-    not_stored s c.args.place c.args.at c.args.given.now (subst IsSound c.self.view_is c.self.invariant.sound) c.requires.fits away
+returns-then-not-is_ready-clause-stores c = search (rules, not_stored)
 
 pub unreachable-requires : goal.unreachable-requires
 unreachable-requires c =
@@ -45,10 +42,7 @@ unreachable-requires-in_default-own c =
     c.in_default-own.ensures.0 (can_second s c.args.place (k / 4096) c.own.new.self (subst IsSound c.self.view_is c.self.invariant.sound) can c.in-Some.ensures.1)
 
 pub write_own-requires-clause-own : goal.write_own-requires-clause-own
-write_own-requires-clause-own c =
-    let p : ℕ = c.args.at / 4096 in
-    let mid = (breaks_soundly c.args.self.now c.args.place p c.own.new.self (subst IsSound c.self.view_is c.self.invariant.sound) c.in-Some.ensures.1).0 in
-    other_page c.own.new.self c.args.place (p + 1) p c.own-2.new.self mid c.in-Some-own.ensures.1 (λ e. omega arith) ∙ c.in-Some.ensures.2
+write_own-requires-clause-own c = search (rules, ℕ, breaks_soundly, other_page)
 
 over : (c : goal.After-write_own-2) → Overwrites c.args.self.now c.args.place c.args.at c.args.given.now c.write_own-2.new.self
 over c =
@@ -69,14 +63,12 @@ over c =
     let front = c.split_at.ensures.front_len in
     let back = c.split_at.ensures.back_len in
     let few = c.requires.few in
-    let more = c.requires.over in
     let fits = c.requires.fits in
     let long = view_length mid i sound2 in
     let first : Fills mid i k a c.write_own.new.self = subst (λ z. Fills mid i z a c.write_own.new.self) (let e : 4096 * p + k % 4096 ≡ k = omega arith in e) c.write_own.ensures.fills in
-    let second : Fills c.write_own.new.self i (k + length a) b c.write_own-2.new.self =
-    subst (λ z. Fills c.write_own.new.self i z b c.write_own-2.new.self) (let e : 4096 * (p + 1) + 0 ≡ k + length a = omega arith in e) c.write_own-2.ensures.fills in
+    let second : Fills c.write_own.new.self i (k + length a) b c.write_own-2.new.self = search rules in
     let here : (k + length a) / 4096 ≡ p + 1 = omega arith in
-    let both = on_two_pages k (length given) more in
+    let both = on_two_pages k (length given) c.requires.over in
     overwrites s mid c.write_own-2.new.self i k given (p ∷ (p + 1) ∷ []) both (each_two s i p (p + 1) c.own.new.self mid c.in-Some.ensures.1 c.in-Some-own.ensures.1)
     (fills_both mid i p k a b given c.write_own.new.self c.write_own-2.new.self first second
     (on_one_page k (length a) (omega arith) (omega arith))

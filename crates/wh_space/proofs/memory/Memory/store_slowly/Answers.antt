@@ -1,4 +1,4 @@
-use Rattle.std.proofs.Common.{◌≡◌, ◌≤◌, ◌+◌, ◌*◌, List, ℕ, [], ◌∷◌, ◌/◌, ◌%◌, true, length, refl, subst, sym, arith}
+use Rattle.std.proofs.Common.{◌≡◌, ◌≤◌, ◌+◌, ◌*◌, List, ℕ, [], ◌∷◌, ◌/◌, ◌%◌, true, length, subst, sym, arith, rules}
 use Rattle.std.proofs.lemmas.Grind.{common_steps}
 use Rattle.wh_model.specs.declared.memory.Got.TheVariants.{NotReady}
 use Rattle.wh_model.specs.Execution.Memory.{writing}
@@ -12,9 +12,7 @@ use Rattle.wh_space.proofs.Storing.{can_step_one, cannot_step_one, no_step, not_
 use Rattle.wh_space.proofs.memory.Memory.store_slowly.Goals as goal
 
 pub returns-then-not-fits-clause-stores : goal.returns-then-not-fits-clause-stores
-returns-then-not-fits-clause-stores c =
-    let long = view_length c.args.self.now c.args.place (subst IsSound c.self.view_is c.self.invariant.sound) in
-    (grind (arith, common_steps), refl)
+returns-then-not-fits-clause-stores c = search (rules, view_length)
 
 pub returns-then-is_empty-clause-stores : goal.returns-then-is_empty-clause-stores
 returns-then-is_empty-clause-stores c =

@@ -1,4 +1,4 @@
-use Rattle.std.proofs.Common.{arith, length, refl, ◌≡◌, ◌≤◌, ◌∙◌, ap, ℕ, Option, None, get_or}
+use Rattle.std.proofs.Common.{arith, length, refl, ◌≡◌, ◌≤◌, ◌∙◌, ap, ℕ, Option, None, get_or, rules}
 use Rattle.wh_space_model.specs.{Space, sharers}
 use Rattle.wh_space.specs.Parts.{space_of}
 use Rattle.wh_space.specs.Pinning.{pins_of}
@@ -65,10 +65,4 @@ returns c =
     rw (← c.self.view_is) (can_copy (space_of c.self.inside) c.args.place c.args.number c.args.frame x.page c.self.invariant.sound x.there x.one (several c) some, o.breaks, o.page)
 
 pub returns-in_err-fresh : goal.returns-in_err-fresh
-returns-in_err-fresh c =
-    let s : Space = space_of c.self.inside in
-    let x = is_sharer s c.args.place c.args.number c.args.frame c.self.invariant.sound (rw (← c.self.view_is) at c.requires.shares) in
-    rw c.from_residual.ensures (
-      rw (← c.self.view_is) (cannot_copy s c.args.place c.args.number c.args.frame x.page c.self.invariant.sound x.there x.one (rw (← c.self.view_is) at c.requires.several) c.in_err-fresh.ensures.none),
-      rw (c.in_err-fresh.ensures.pool, c.in_err-fresh.ensures.pins) c.self.view_is,
-    )
+returns-in_err-fresh c = search (rules, is_sharer, cannot_copy)

@@ -1,10 +1,9 @@
-use Rattle.wh_space_model.specs.{Pool, Fills}
-use Rattle.std.proofs.Common.{◌∙◌, length-set, length, ap, refl, ◌*◌, ◌+◌}
+use Rattle.wh_space_model.specs.{Fills}
+use Rattle.std.proofs.Common.{◌∙◌, length-set, refl, ◌*◌, ◌+◌, rules}
 use Rattle.wh_space_model.specs.declared.states.Page.TheVariants.{Private}
 use Rattle.wh_space_model.proofs.Filled.{filled_sound}
 use Rattle.wh_space_model.proofs.Reading.{taken_under}
 use Rattle.wh_space_model.proofs.Writing.{fills_page}
-use Rattle.wh_space.specs.declared.memory.Memory.TheInside.{Inside}
 use Rattle.wh_space.specs.Parts.{space_of}
 use Rattle.wh_space.proofs.Wellness.{well}
 use Rattle.wh_space.proofs.memory.Memory.write_own.Goals as goal
@@ -17,10 +16,7 @@ fills c = rw c.write_frame.ensures (fills_page (space_of c.self.inside) c.args.p
     c.self.invariant.sound (rw (← c.self.view_is) at c.requires.own) c.requires.inside c.requires.some refl)
 
 pub invariant_of-self : goal.invariant_of-self
-invariant_of-self c =
-    let a : Inside = c.self.inside in
-    well a (record a { pool = c.write_frame.new.pool }) c.self.invariant refl refl (ap (λ (z : Pool). length z.frames) c.write_frame.ensures ∙ length-set a.pool.frames c.args.frame _) refl
-    (filled_sound (space_of a) c.args.place (4096 * c.args.number + c.args.offset) c.args.given.now (space_of (record a { pool = c.write_frame.new.pool })) c.self.invariant.sound (fills c))
+invariant_of-self c = search (rules, well, length-set, filled_sound, fills)
 
 pub returns-clause-fills : goal.returns-clause-fills
 returns-clause-fills c = rw (← c.self.view_is) (fills c)

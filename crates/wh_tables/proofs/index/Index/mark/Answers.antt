@@ -1,14 +1,10 @@
-use Rattle.std.proofs.Common.{true, refl, sym, ap, ◌∙◌, subst}
+use Rattle.std.proofs.Common.{true, refl, sym, ap, ◌∙◌, subst, rules}
 use Rattle.wh_tables.specs.Index.{Counted, IsIndexBut, counted_of, with_mark}
 use Rattle.wh_tables.proofs.Settling.{marked_there, room_touched}
 use Rattle.wh_tables.proofs.index.Index.mark.Goals as goal
 
 pub touch-requires-clause-few : goal.touch-requires-clause-few
-touch-requires-clause-few c =
-    let held = c.requires.0 in
-    let holds = c.requires.1 in
-    let touchers = ap (λ (z : Counted). z.touchers) c.self.view_is ∙ c.set_aside.ensures.touchers in
-    rw touchers (room_touched c.args.self.now held c.args.frame holds.index (holds.index.order.room c.args.frame c.args.id holds.on).frame)
+touch-requires-clause-few c = search (rules, room_touched)
 
 pub take_back-requires-clause-index : goal.take_back-requires-clause-index
 take_back-requires-clause-index c =

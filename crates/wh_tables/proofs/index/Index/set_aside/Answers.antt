@@ -1,6 +1,5 @@
-use Rattle.std.proofs.Common.{◌<◌, None, length, nat_lt, sym, subst, arith}
-use Rattle.wh_tables.specs.Index.{Counted, CountsOneMore, IsIndexOf, counted_of}
-use Rattle.wh_tables.specs.Order.{next_in}
+use Rattle.std.proofs.Common.{◌<◌, length, sym, subst, arith, rules}
+use Rattle.wh_tables.specs.Index.{Counted, IsIndexOf, counted_of}
 use Rattle.wh_tables.proofs.Counting.{aside, got_there, has_active, has_charged}
 use Rattle.wh_tables.proofs.index.Index.set_aside.Goals as goal
 
@@ -23,12 +22,4 @@ uncount-requires-clause-active c =
     has_active x held c.args.frame c.index-touchers.result.now index frame got c.next.result (sym c.next.ensures)
 
 pub returns-clause-index : goal.returns-clause-index
-returns-clause-index c held index0 =
-    let x : Counted = counted_of c.self.inside in
-    let index = subst (λ (z : Counted). IsIndexOf z held) (sym c.self.view_is) index0 in
-    let frame = subst (λ (z : Counted). c.args.frame < length z.chains.ends) (sym c.self.view_is) c.requires.frame in
-    let m = index.measured.touchers in
-    let got = got_there x.touchers c.args.frame c.index-touchers.result.now c.index-touchers.ensures (omega arith) in
-    let less = subst (λ w. CountsOneMore w (nat_lt 0 c.index-touchers.result.now) c.uncount.new.counts.items x.counts) c.next.ensures c.uncount.ensures in
-    let lesser = subst (λ n. CountsOneMore (next_in x.chains c.args.frame None) (nat_lt 0 n) c.uncount.new.counts.items x.counts) (sym got) less in
-    aside x held c.args.frame c.uncount.new.counts.items index frame lesser
+returns-clause-index c held index0 = search (rules, got_there, aside)

@@ -1,6 +1,5 @@
-use Rattle.std.proofs.Common.{◌<◌, None, length, nat_lt, sym, subst, arith}
-use Rattle.wh_tables.specs.Index.{Counted, CountsOneMore, IsIndexBut, counted_of}
-use Rattle.wh_tables.specs.Order.{next_in}
+use Rattle.std.proofs.Common.{◌<◌, length, sym, subst, arith, rules}
+use Rattle.wh_tables.specs.Index.{Counted, IsIndexBut, counted_of}
 use Rattle.wh_tables.proofs.Counting.{again, got_there, room_active, room_charged}
 use Rattle.wh_tables.proofs.index.Index.take_back.Goals as goal
 
@@ -23,12 +22,4 @@ count-requires-clause-active c =
     room_active x held c.args.frame c.index-touchers.result.now index frame got c.next.result (sym c.next.ensures)
 
 pub returns-clause-index : goal.returns-clause-index
-returns-clause-index c held index0 =
-    let x : Counted = counted_of c.self.inside in
-    let index = subst (λ (z : Counted). IsIndexBut c.args.frame z held) (sym c.self.view_is) index0 in
-    let frame = subst (λ (z : Counted). c.args.frame < length z.chains.ends) (sym c.self.view_is) c.requires.frame in
-    let m = index.measured.touchers in
-    let got = got_there x.touchers c.args.frame c.index-touchers.result.now c.index-touchers.ensures (omega arith) in
-    let more = subst (λ w. CountsOneMore w (nat_lt 0 c.index-touchers.result.now) x.counts c.count.new.counts.items) c.next.ensures c.count.ensures in
-    let mored = subst (λ n. CountsOneMore (next_in x.chains c.args.frame None) (nat_lt 0 n) x.counts c.count.new.counts.items) (sym got) more in
-    again x held c.args.frame c.count.new.counts.items index frame mored
+returns-clause-index c held index0 = search (rules, got_there, again)

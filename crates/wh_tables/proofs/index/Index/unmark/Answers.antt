@@ -1,14 +1,10 @@
-use Rattle.std.proofs.Common.{true, false, refl, sym, ap, ◌∙◌, subst}
+use Rattle.std.proofs.Common.{false, refl, sym, ap, ◌∙◌, subst, rules}
 use Rattle.wh_tables.specs.Index.{Counted, IsIndexBut, counted_of, with_mark}
 use Rattle.wh_tables.proofs.Settling.{counts_touched, unmarked_there}
 use Rattle.wh_tables.proofs.index.Index.unmark.Goals as goal
 
 pub untouch-requires-clause-some : goal.untouch-requires-clause-some
-untouch-requires-clause-some c =
-    let held = c.requires.0 in
-    let holds = c.requires.1 in
-    let touchers = ap (λ (z : Counted). z.touchers) c.self.view_is ∙ c.set_aside.ensures.touchers in
-    rw touchers (counts_touched c.args.self.now held c.args.frame c.args.id true holds)
+untouch-requires-clause-some c = search (rules, counts_touched)
 
 pub take_back-requires-clause-index : goal.take_back-requires-clause-index
 take_back-requires-clause-index c =

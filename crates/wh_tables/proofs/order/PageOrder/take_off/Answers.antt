@@ -1,4 +1,4 @@
-use Rattle.std.proofs.Common.{Some}
+use Rattle.std.proofs.Common.{Some, rules}
 use Rattle.wh_tables.proofs.Chaining.{has_links, links_after, next_stop, prior_stop, taken_off}
 use Rattle.wh_tables.proofs.order.PageOrder.take_off.Goals as goal
 
@@ -17,6 +17,4 @@ set_prior-requires c =
     rw c.next-next.ensures (links_after c.args.self.now c.set_next.new.self pages c.args.frame _ c.set_next.ensures.large chains (chains.room c.args.frame c.args.id on).frame (next_stop c.args.self.now pages c.args.frame (Some c.args.id) chains on))
 
 pub returns-clause-in_order : goal.returns-clause-in_order
-returns-clause-in_order c pages chains on =
-    taken_off c.args.self.now c.set_next.new.self c.set_prior.new.self pages c.args.frame c.args.id chains on
-    (rw (← c.prior-prior.ensures.page, ← c.next-next.ensures) c.set_next.ensures) (rw (← c.prior-prior.ensures.page, ← c.next-next.ensures) c.set_prior.ensures)
+returns-clause-in_order c pages chains on = search (rules, taken_off)

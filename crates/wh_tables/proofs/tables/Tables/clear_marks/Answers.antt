@@ -1,4 +1,4 @@
-use Rattle.std.proofs.Common.{List, refl}
+use Rattle.std.proofs.Common.{List, rules}
 use Rattle.wh_pages.specs.Table.{PageTableState}
 use Rattle.wh_tables.specs.Index.{Counted}
 use Rattle.wh_tables.specs.Tables.{AreIndexed}
@@ -13,8 +13,4 @@ invariant_of-self c =
     rw (c.clear_tables.ensures, c.clear_marks.ensures) (kept_unmarked tables x kept)
 
 pub returns : goal.returns
-returns c =
-    let tables : List PageTableState = c.self.inside.tables.items in
-    let x : Counted = c.self.inside.index in
-    let kept : AreIndexed tables x = c.self.invariant in
-    rw (← c.self.view_is, c.clear_tables.ensures, c.clear_marks.ensures, same_pages tables, same_limits tables, marks_gone tables kept.marks) refl
+returns c = search (rules, same_pages, same_limits, marks_gone)

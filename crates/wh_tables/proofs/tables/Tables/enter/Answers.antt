@@ -1,4 +1,4 @@
-use Rattle.std.proofs.Common.{◌≡◌, ◌≢◌, ℕ, ◌≤◌, List, [], length, get_or, sym, ap, ◌∙◌, subst, arith}
+use Rattle.std.proofs.Common.{◌≡◌, ◌≢◌, ℕ, ◌≤◌, List, [], length, get_or, sym, ap, ◌∙◌, subst, arith, rules}
 use Rattle.wh_space_model.specs.{with_row}
 use Rattle.wh_pages.specs.Table.{PageTableState}
 use Rattle.wh_tables.specs.Index.{Counted}
@@ -21,9 +21,4 @@ invariant_of-self-2 c =
     rw (rows, c.in_ok-enter.ensures.ok) (kept_arrived tables x c.args.place c.args.number c.args.pages c.args.max kept may)
 
 pub returns-clause-ok : goal.returns-clause-ok
-returns-clause-ok c =
-    let tables : List PageTableState = c.self.inside.tables.items in
-    let x : Counted = c.self.inside.index in
-    let kept : AreIndexed tables x = c.self.invariant in
-    let rows = c.put_row.ensures ∙ ap (λ xs. with_row xs c.args.place c.in_ok-table.table) c.in_ok-reserve.ensures.items ∙ ap (λ (t : PageTableState). with_row tables c.args.place t) c.in_ok-table.ensures in
-    rw (← c.self.view_is, rows, c.in_ok-enter.ensures.ok) (tables_arrived tables x c.args.place c.args.number c.args.pages c.args.max)
+returns-clause-ok c = search (rules, tables_arrived)

@@ -1,4 +1,4 @@
-use Rattle.std.proofs.Common.{◌≡◌, ℕ, ◌<◌, List, Some, None, length, refl, sym, ap, ◌∙◌, subst, arith}
+use Rattle.std.proofs.Common.{◌≡◌, ℕ, ◌<◌, List, Some, None, length, sym, ◌∙◌, subst, arith, rules}
 use Rattle.wh_space_model.specs.declared.states.Page.{Page}
 use Rattle.wh_space_model.specs.{frame_of, page_at}
 use Rattle.wh_pages.specs.Table.{PageTableState}
@@ -19,11 +19,4 @@ invariant_of-self c =
     kept_gone tables x c.args.place c.index_mut-table.result.now c.clear.new.self kept (omega arith) c.index_mut-table.ensures.value c.clear.ensures (none_stands (pages_by_place tables) c.args.place off)
 
 pub returns : goal.returns
-returns c =
-    let tables : List PageTableState = c.self.inside.tables.items in
-    let x : Counted = c.self.inside.index in
-    let kept : AreIndexed tables x = c.self.invariant in
-    let row = tables_row tables x c.args.place c.index_mut-table.result.now c.clear.new.self c.index_mut-table.ensures.value (ap (λ (t : PageTableState). t.max) c.clear.ensures) in
-    let pages = ap (λ (t : PageTableState). t.pages) c.clear.ensures in
-    let marks = ap (λ (t : PageTableState). t.touched) c.clear.ensures in
-    rw (← c.self.view_is) (row ∙ rw (pages, marks) refl)
+returns c = search (rules, tables_row)

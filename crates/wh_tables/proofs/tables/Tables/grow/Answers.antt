@@ -1,4 +1,4 @@
-use Rattle.std.proofs.Common.{◌≢◌, ℕ, ◌+◌, ◌<◌, ◌≤◌, List, [], length, get_or, refl, sym, ap, ◌∙◌, subst, arith}
+use Rattle.std.proofs.Common.{◌≢◌, ℕ, ◌+◌, ◌<◌, ◌≤◌, List, [], length, get_or, sym, ap, ◌∙◌, subst, arith, rules}
 use Rattle.wh_pages.specs.Table.{PageTableState}
 use Rattle.wh_tables.specs.Index.{Counted}
 use Rattle.wh_tables.specs.Tables.{AreIndexed, TablesState}
@@ -23,22 +23,4 @@ invariant_of-self c =
     kept_grown tables x c.args.place c.args.count row c.grow.new.self kept within c.index_mut-table.ensures.value (c.grow.ensures.grown (c.grow.ensures.fits.1 fits)) fits apart
 
 pub returns : goal.returns
-returns c =
-    let tables : List PageTableState = c.self.inside.tables.items in
-    let x : Counted = c.self.inside.index in
-    let kept : AreIndexed tables x = c.self.invariant in
-    let row : PageTableState = c.index_mut-table.result.now in
-    let there = subst (λ (s : TablesState). c.args.place < length s.pages) (sym c.self.view_is) c.requires.there in
-    let long = long_map (λ (t : PageTableState). t.pages) tables in
-    let within : c.args.place < length tables = omega arith in
-    let room = subst (λ (s : TablesState). length (get_or s.pages c.args.place []) + c.args.count ≤ get_or s.limits c.args.place 0) (sym c.self.view_is) c.requires.room in
-    let pages = column_at (λ (t : PageTableState). t.pages) tables c.args.place row [] within c.index_mut-table.ensures.value in
-    let marks = column_at (λ (t : PageTableState). t.touched) tables c.args.place row [] within c.index_mut-table.ensures.value in
-    let limit = column_at (λ (t : PageTableState). t.max) tables c.args.place row 0 within c.index_mut-table.ensures.value in
-    let longer = ap length pages in
-    let fits : length row.pages + c.args.count ≤ row.max = omega arith in
-    let grown = c.grow.ensures.grown (c.grow.ensures.fits.1 fits) in
-    let same = tables_row tables x c.args.place row c.grow.new.self c.index_mut-table.ensures.value (ap (λ (t : PageTableState). t.max) grown) in
-    let new_pages = ap (λ (t : PageTableState). t.pages) grown in
-    let new_marks = ap (λ (t : PageTableState). t.touched) grown in
-    rw (← c.self.view_is) (same ∙ rw (new_pages, new_marks, pages, marks) refl)
+returns c = search (rules, long_map, column_at, tables_row)

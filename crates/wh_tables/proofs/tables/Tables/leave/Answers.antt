@@ -1,4 +1,4 @@
-use Rattle.std.proofs.Common.{List, sym, subst}
+use Rattle.std.proofs.Common.{List, sym, subst, rules}
 use Rattle.wh_pages.specs.Table.{PageTableState}
 use Rattle.wh_tables.specs.Index.{Counted, HoldsOn}
 use Rattle.wh_tables.specs.Tables.{AreIndexed, TablesState, marked_of, pages_by_place}
@@ -9,46 +9,16 @@ use Rattle.wh_tables.proofs.Standing.{page_of_standing}
 use Rattle.wh_tables.proofs.tables.Tables.leave.Goals as goal
 
 pub overflow_cast-id : goal.overflow_cast-id
-overflow_cast-id c =
-    let tables : List PageTableState = c.self.inside.tables.items in
-    let x : Counted = c.self.inside.index in
-    let kept : AreIndexed tables x = c.self.invariant in
-    let on = subst (λ (s : TablesState). IsOnFrame s.pages c.args.place c.args.number c.args.frame) (sym c.self.view_is) c.requires in
-    let was = page_of_standing (pages_by_place tables) c.args.frame (record { place = c.args.place; page = c.args.number }) on in
-    let within = page_there tables c.args.place c.args.number was.0 was.1 in
-    record { fits = place_small tables x c.args.place c.args.number kept within }
+overflow_cast-id c = search (rules, page_of_standing, page_there, place_small)
 
 pub is_touched-touched-requires : goal.is_touched-touched-requires
-is_touched-touched-requires c =
-    let tables : List PageTableState = c.self.inside.tables.items in
-    let x : Counted = c.self.inside.index in
-    let kept : AreIndexed tables x = c.self.invariant in
-    let on = subst (λ (s : TablesState). IsOnFrame s.pages c.args.place c.args.number c.args.frame) (sym c.self.view_is) c.requires in
-    let was = page_of_standing (pages_by_place tables) c.args.frame (record { place = c.args.place; page = c.args.number }) on in
-    let within = page_there tables c.args.place c.args.number was.0 was.1 in
-    row_within tables c.args.place c.args.number c.index.result.now c.index.ensures within
+is_touched-touched-requires c = search (rules, page_of_standing, page_there, row_within)
 
 pub leave-requires : goal.leave-requires
-leave-requires c =
-    let tables : List PageTableState = c.self.inside.tables.items in
-    let x : Counted = c.self.inside.index in
-    let kept : AreIndexed tables x = c.self.invariant in
-    let on = subst (λ (s : TablesState). IsOnFrame s.pages c.args.place c.args.number c.args.frame) (sym c.self.view_is) c.requires in
-    let was = page_of_standing (pages_by_place tables) c.args.frame (record { place = c.args.place; page = c.args.number }) on in
-    let within = page_there tables c.args.place c.args.number was.0 was.1 in
-    let holds : HoldsOn x (marked_of tables) c.args.frame (record { place = c.args.place; page = c.args.number }) c.is_touched-touched.result =
-    record { index = kept.index; on = on; mark = mark_there tables c.args.place c.args.number c.index.result.now c.is_touched-touched.result c.index.ensures (place_within tables c.args.place c.args.number within) c.is_touched-touched.ensures } in
-    (marked_of tables, holds)
+leave-requires c = search (rules, page_of_standing, page_there, mark_there, place_within)
 
 pub set-requires : goal.set-requires
-set-requires c =
-    let tables : List PageTableState = c.self.inside.tables.items in
-    let x : Counted = c.self.inside.index in
-    let kept : AreIndexed tables x = c.self.invariant in
-    let on = subst (λ (s : TablesState). IsOnFrame s.pages c.args.place c.args.number c.args.frame) (sym c.self.view_is) c.requires in
-    let was = page_of_standing (pages_by_place tables) c.args.frame (record { place = c.args.place; page = c.args.number }) on in
-    let within = page_there tables c.args.place c.args.number was.0 was.1 in
-    row_within tables c.args.place c.args.number c.index_mut.result.now c.index_mut.ensures.value within
+set-requires c = search (rules, page_of_standing, page_there, row_within)
 
 pub invariant_of-self : goal.invariant_of-self
 invariant_of-self c =
@@ -64,8 +34,4 @@ invariant_of-self c =
     (c.leave.ensures.index (marked_of tables) holds)
 
 pub returns : goal.returns
-returns c =
-    let tables : List PageTableState = c.self.inside.tables.items in
-    let x : Counted = c.self.inside.index in
-    let kept : AreIndexed tables x = c.self.invariant in
-    rw (← c.self.view_is) (tables_page tables x c.leave.new.self c.args.place c.args.number c.index_mut.result.now c.set.new.self Untouched c.index_mut.ensures.value c.set.ensures c.leave.ensures.large)
+returns c = search (rules, tables_page)

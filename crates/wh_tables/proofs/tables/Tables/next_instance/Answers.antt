@@ -1,4 +1,4 @@
-use Rattle.std.proofs.Common.{◌≡◌, List, length, subst, arith}
+use Rattle.std.proofs.Common.{◌≡◌, List, length, subst, arith, rules}
 use Rattle.wh_space_model.specs.declared.plain.InstId.{InstId}
 use Rattle.wh_tables.specs.declared.tables.Tables.TheInside.{Inside}
 use Rattle.wh_tables.specs.Line.{IsLineOf}
@@ -21,9 +21,7 @@ loop-rank-init c =
     ]
 
 pub returns-then-len_at-gt0-clause-some : goal.returns-then-len_at-gt0-clause-some
-returns-then-len_at-gt0-clause-some c =
-    sought_found c.args.self.now.pages c.args.self.now.numbers c.args.after c.line-line.result.now c.loop-rank.rank _ (numbered c.self.inside c.args.self.now c.line-line.result.now c.self.view_is c.line-line.ensures) (long c.self.inside c.args.self.now c.self.view_is c.self.invariant) c.loop-rank.invariant c.loop-rank-test.true
-    (omega (arith, c.len_at.ensures, c.if-len_at-gt0.true))
+returns-then-len_at-gt0-clause-some c = search (rules, sought_found, numbered, long)
 
 pub loop-rank-preserved : goal.loop-rank-preserved
 loop-rank-preserved c =
@@ -31,5 +29,4 @@ loop-rank-preserved c =
     (omega (arith, c.len_at.ensures, c.if-len_at-gt0.false))
 
 pub returns-clause-none : goal.returns-clause-none
-returns-clause-none c =
-    sought_none c.args.self.now.pages c.args.self.now.numbers c.args.after c.line-line.result.now c.loop-rank.rank (numbered c.self.inside c.args.self.now c.line-line.result.now c.self.view_is c.line-line.ensures) (long c.self.inside c.args.self.now c.self.view_is c.self.invariant) c.loop-rank.invariant c.loop-rank-test.false
+returns-clause-none c = search (rules, sought_none, numbered, long)

@@ -1,4 +1,4 @@
-use Rattle.std.proofs.Common.{◌≡◌, List, Some, sym, subst}
+use Rattle.std.proofs.Common.{◌≡◌, List, Some, sym, subst, rules}
 use Rattle.wh_space_model.specs.{page_at}
 use Rattle.wh_pages.specs.Table.{PageTableState}
 use Rattle.wh_tables.specs.Index.{Counted}
@@ -7,12 +7,7 @@ use Rattle.wh_tables.proofs.Keeping.{kept_page, page_alike, page_there, row_with
 use Rattle.wh_tables.proofs.tables.Tables.replace.Goals as goal
 
 pub set-requires : goal.set-requires
-set-requires c =
-    let tables : List PageTableState = c.self.inside.tables.items in
-    let x : Counted = c.self.inside.index in
-    let kept : AreIndexed tables x = c.self.invariant in
-    let there = subst (λ (s : TablesState). page_at s.pages c.args.place c.args.number ≡ Some c.requires.0) (sym c.self.view_is) c.requires.1 in
-    row_within tables c.args.place c.args.number c.index_mut.result.now c.index_mut.ensures.value (page_there tables c.args.place c.args.number c.requires.0 there)
+set-requires c = search (rules, row_within, page_there)
 
 pub invariant_of-self : goal.invariant_of-self
 invariant_of-self c =
@@ -24,8 +19,4 @@ invariant_of-self c =
     (page_alike tables x c.args.place c.args.number c.requires.0 c.args.page kept there c.requires.2)
 
 pub returns : goal.returns
-returns c =
-    let tables : List PageTableState = c.self.inside.tables.items in
-    let x : Counted = c.self.inside.index in
-    let kept : AreIndexed tables x = c.self.invariant in
-    rw (← c.self.view_is) (tables_page tables x x c.args.place c.args.number c.index_mut.result.now c.set.new.self c.args.page c.index_mut.ensures.value c.set.ensures (same_size x.chains))
+returns c = search (rules, tables_page, same_size)
