@@ -1,0 +1,14 @@
+use Rattle.std.proofs.Common.{◌≡◌, sym, ap, ◌∙◌, length}
+use Rattle.wh_desk.specs.declared.trace.Trace.{Trace}
+use Rattle.wh_desk.specs.Tracing.{left_by, owned_in}
+use Rattle.wh_desk.proofs.Traced.{begins_so}
+use Rattle.wh_desk.proofs.desk.HostDesk.new.Goals as goal
+
+pub invariant_of-desk : goal.invariant_of-desk
+invariant_of-desk g c =
+    let is = sym c.open-record.ensures in (
+      begins_so g.D.SwapDev.keeps g.D.SwapDev.honest g.D.SwapDev.faults c.open-record.result c.args.owner c.open-record.ensures c.requires.new,
+      ap (λ (t : Trace g.row.D.Denot). left_by t.first t.entries) is,
+      c.new.ensures ∙ ap (λ (t : Trace g.row.D.Denot). owned_in t.entries) is,
+      c.open-replies.ensures.total ∙ ap (λ (t : Trace g.row.D.Denot). length t.entries) is,
+    )

@@ -1,0 +1,38 @@
+-- Of a stranger's things a desk replies as of none.
+use Rattle.std.specs.Prelude.{◌≡◌, None}
+use Rattle.wh_space_model.specs.declared.plain.InstId.{InstId}
+use Rattle.wh_host_model.specs.Host.Worlds.{World, loaded_of}
+use Rattle.wh_host_model.specs.Host.Happens.{NoInstance}
+use Rattle.wh_host.specs.declared.parts.ModuleId.{ModuleId}
+use Rattle.wh_host.specs.Hosting.{HostState, IsHost}
+use Rattle.wh_params.specs.declared.Params.{Params}
+use Rattle.wh_desk.specs.declared.trace.Question.{Question}
+use Rattle.wh_desk.specs.declared.trace.Question.TheVariants.{Load, Admit, Invoke, Refuel, Cancel, Retry, Release, BeginEpoch, Status, Report, Transcript}
+use Rattle.wh_desk.specs.Permits.{refusal}
+use Rattle.wh_desk.specs.Replying.{HostReplies}
+
+-- the question is about this instance
+abbrev pub IsAbout : Question → InstId → Type 0
+IsAbout (Load bytes) id = ⊥
+IsAbout (Admit of params) id = ⊥
+IsAbout (Invoke asked name given fuel) id = asked ≡ id
+IsAbout (Refuel asked fuel) id = asked ≡ id
+IsAbout (Cancel asked) id = asked ≡ id
+IsAbout (Retry asked) id = asked ≡ id
+IsAbout (Release asked) id = asked ≡ id
+IsAbout BeginEpoch id = ⊥
+IsAbout (Status asked at) id = asked ≡ id
+IsAbout Report id = ⊥
+IsAbout (Transcript asked) id = asked ≡ id
+
+-- Where there is no such instance, a host replies what a desk replies to who may not ask about it.
+abbrev pub InstancesAsNone : Type 0
+InstancesAsNone =
+    (h : HostState) (id : InstId) (question : Question) → IsAbout question id
+    → ((w : World) → IsHost h w → NoInstance w id) → HostReplies h question (refusal question) h
+
+-- And where there is no such module.
+abbrev pub ModulesAsNone : Type 0
+ModulesAsNone =
+    (h : HostState) (of : ModuleId) (params : Params) → ((w : World) → IsHost h w → loaded_of w of.number ≡ None)
+    → HostReplies h (Admit of params) (refusal (Admit of params)) h

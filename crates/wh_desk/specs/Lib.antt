@@ -1,0 +1,7 @@
+pub mod AsNone
+pub mod Others
+pub mod Permits
+pub mod Questions
+pub mod Replying
+pub mod Stored
+pub mod Tracing

@@ -1,0 +1,87 @@
+-- Whose each module and each instance is, and who may ask for what.
+use Rattle.std.specs.Prelude.{◌≡◌, ◌⊎◌, ℕ, ◌++◌, ◌==◌, ◌||◌, Bool, not, List, [], ◌∷◌, filter, Contains, ⊤, Ok, Err, None}
+use Rattle.wh_space_model.specs.declared.plain.InstId.{InstId}
+use Rattle.wh_host.specs.declared.parts.ModuleId.{ModuleId}
+use Rattle.wh_host.specs.declared.error.HostError.TheVariants.{NoInstance}
+use Rattle.wh_admit.specs.declared.error.AdmitError.TheVariants.{NoModule}
+use Rattle.wh_desk.specs.declared.principal.Principal.{Principal}
+use Rattle.wh_desk.specs.declared.principal.Principal.TheVariants.{Operator, Tenant}
+use Rattle.wh_desk.specs.declared.ownership.OwnedInstance.{OwnedInstance}
+use Rattle.wh_desk.specs.declared.ownership.OwnedModule.{OwnedModule}
+use Rattle.wh_desk.specs.declared.ownership.Ownership.{Ownership}
+use Rattle.wh_desk.specs.declared.trace.Question.{Question}
+use Rattle.wh_desk.specs.declared.trace.Question.TheVariants.{Load, Admit, Invoke, Refuel, Cancel, Retry, Release, BeginEpoch, Status, Report, Transcript}
+use Rattle.wh_desk.specs.declared.request.DeskReply.{DeskReply}
+use Rattle.wh_desk.specs.declared.request.DeskReply.TheVariants as says
+
+-- the modules that were loaded and the instances that are there, each with whose it is
+pub record OwnershipState : Type 0 where
+  pub modules : List OwnedModule
+  pub instances : List OwnedInstance
+
+-- what the code has of it
+abbrev pub ownership_of : Ownership → OwnershipState
+ownership_of o = record { modules = o.modules.items; instances = o.instances.items }
+
+-- nobody has anything
+abbrev pub nothing_owned : OwnershipState
+nothing_owned = record { modules = []; instances = [] }
+
+-- it is of another instance
+abbrev pub is_other : InstId → OwnedInstance → Bool
+is_other id x = not (x.id.number == id.number) || not (x.id.place == id.place)
+
+-- A module is whoever's asked for it to be loaded, an instance whoever's asked for it to be admitted, until it is released.
+abbrev pub owned_after : Principal → Question → DeskReply → OwnershipState → OwnershipState
+owned_after who (Load bytes) (says.Loaded (Ok id)) owned =
+    record owned { modules = owned.modules ++ record { id = id; owner = who } ∷ [] }
+owned_after who (Admit of params) (says.Admitted (Ok id)) owned =
+    record owned { instances = owned.instances ++ record { id = id; owner = who } ∷ [] }
+owned_after who (Release id) (says.Released (Ok output)) owned =
+    record owned { instances = filter (is_other id) owned.instances }
+owned_after who question reply owned = owned
+
+-- the instance is this tenant's
+abbrev pub IsTenants : OwnershipState → ℕ → InstId → Type 0
+IsTenants owned t id = Contains owned.instances (record { id = id; owner = Tenant t })
+
+-- It may ask for instances of the module, which it has loaded, or the operator.
+abbrev pub MayAdmit : OwnershipState → ℕ → ModuleId → Type 0
+MayAdmit owned t of =
+    Contains owned.modules (record { id = of; owner = Tenant t })
+    ⊎ Contains owned.modules (record { id = of; owner = Operator })
+
+-- What a tenant may ask: for a module; for an instance of its own modules and of the operator's; and whatever is asked of its own
+-- instances. Epochs and the report on the whole are the operator's.
+abbrev pub MayAsk : OwnershipState → ℕ → Question → Type 0
+MayAsk owned t (Load bytes) = ⊤
+MayAsk owned t (Admit of params) = MayAdmit owned t of
+MayAsk owned t (Invoke id name given fuel) = IsTenants owned t id
+MayAsk owned t (Refuel id fuel) = IsTenants owned t id
+MayAsk owned t (Cancel id) = IsTenants owned t id
+MayAsk owned t (Retry id) = IsTenants owned t id
+MayAsk owned t (Release id) = IsTenants owned t id
+MayAsk owned t BeginEpoch = ⊥
+MayAsk owned t (Status id at) = IsTenants owned t id
+MayAsk owned t Report = ⊥
+MayAsk owned t (Transcript id) = IsTenants owned t id
+
+-- the operator may ask for everything
+abbrev pub Permits : OwnershipState → Principal → Question → Type 0
+Permits owned Operator question = ⊤
+Permits owned (Tenant t) question = MayAsk owned t question
+
+-- What is replied to who may not ask: what the host replies where there is no such module or instance. What is the operator's isn't
+-- allowed.
+abbrev pub refusal : Question → DeskReply
+refusal (Load bytes) = says.NotAllowed
+refusal (Admit of params) = says.Admitted (Err NoModule)
+refusal (Invoke id name given fuel) = says.Invoked (Err NoInstance)
+refusal (Refuel id fuel) = says.Done (Err NoInstance)
+refusal (Cancel id) = says.Done (Err NoInstance)
+refusal (Retry id) = says.Done (Err NoInstance)
+refusal (Release id) = says.Released (Err NoInstance)
+refusal BeginEpoch = says.NotAllowed
+refusal (Status id at) = says.Status None
+refusal Report = says.NotAllowed
+refusal (Transcript id) = says.Transcript (Err NoInstance)

@@ -1,0 +1,122 @@
+// Whose each module and each instance is.
+
+ghost use Rattle.std.specs.Prelude.{◌≡◌};
+ghost use Rattle.std.specs.Bool.{MatchBool};
+ghost use Rattle.wh_desk.specs.Permits.{IsTenants, MayAdmit, MayAsk, Permits, nothing_owned, ownership_of, refusal};
+ghost use Rattle.wh_desk.specs.Questions.{question_of};
+
+use crate::principal::Principal;
+use crate::request::{DeskReply, DeskRequest};
+use std::alloc::Global;
+use wh_host::{AdmitError, HostError, ModuleId};
+use wh_space_model::InstId;
+
+/// A module that was loaded, and whose it is: whoever's asked for it.
+#[derive(Clone, Copy, Debug, PartialEq, Eq)]
+pub struct OwnedModule {
+    /// The module.
+    pub id: ModuleId,
+    /// Whose it is.
+    pub owner: Principal,
+}
+
+/// An instance that is there, and whose it is: whoever's asked for it.
+#[derive(Clone, Copy, Debug, PartialEq, Eq)]
+pub struct OwnedInstance {
+    /// The instance.
+    pub id: InstId,
+    /// Whose it is.
+    pub owner: Principal,
+}
+
+/// Knows whose each module and each instance is, at most 1024 and 4096 of them.
+#[derive(Drop)]
+pub struct Ownership {
+    pub modules: Vec<OwnedModule>,
+    pub instances: Vec<OwnedInstance>,
+}
+
+impl Ownership {
+    /// Returns a table in which nobody has anything.
+    pub fn new(alloc: Global) -> Ownership
+        ensures { ownership_of result ≡ nothing_owned }
+    {
+        Ownership {
+            modules: Vec::new(alloc),
+            instances: Vec::new(alloc),
+        }
+    }
+
+    // Whether an instance is this tenant's.
+    fn is_tenants(&self, t: u32, id: InstId) -> bool
+        ensures { MatchBool result (IsTenants (ownership_of self.now) t id) (¬ (IsTenants (ownership_of self.now) t id)) }
+    {
+        let owner = Principal::Tenant(t);
+        self.instances.contains(&OwnedInstance { id, owner })
+    }
+
+    // Whether a tenant may ask for instances of a module.
+    fn may_admit(&self, t: u32, of: ModuleId) -> bool
+        ensures { MatchBool result (MayAdmit (ownership_of self.now) t of) (¬ (MayAdmit (ownership_of self.now) t of)) }
+    {
+        let own = OwnedModule {
+            id: of,
+            owner: Principal::Tenant(t),
+        };
+        let common = OwnedModule {
+            id: of,
+            owner: Principal::Operator,
+        };
+        self.modules.contains(&own) || self.modules.contains(&common)
+    }
+
+    // Whether a tenant may ask this.
+    fn may_ask(&self, t: u32, request: &DeskRequest<'_>) -> bool
+        ensures { MatchBool result (MayAsk (ownership_of self.now) t (question_of request.now))
+            (¬ (MayAsk (ownership_of self.now) t (question_of request.now))) }
+    {
+        match request {
+            DeskRequest::Load { .. } => true,
+            DeskRequest::Admit { of, .. } => self.may_admit(t, *of),
+            DeskRequest::Invoke { id, .. } => self.is_tenants(t, *id),
+            DeskRequest::Refuel { id, .. } => self.is_tenants(t, *id),
+            DeskRequest::Cancel { id } => self.is_tenants(t, *id),
+            DeskRequest::Retry { id } => self.is_tenants(t, *id),
+            DeskRequest::Release { id } => self.is_tenants(t, *id),
+            DeskRequest::BeginEpoch => false,
+            DeskRequest::Status { id, .. } => self.is_tenants(t, *id),
+            DeskRequest::Report => false,
+            DeskRequest::Transcript { id } => self.is_tenants(t, *id),
+        }
+    }
+
+    /// Returns whether somebody may ask this.
+    pub fn permits(&self, who: Principal, request: &DeskRequest<'_>) -> bool
+        ensures { MatchBool result (Permits (ownership_of self.now) who (question_of request.now))
+            (¬ (Permits (ownership_of self.now) who (question_of request.now))) }
+    {
+        match who {
+            Principal::Operator => true,
+            Principal::Tenant(t) => self.may_ask(t, request),
+        }
+    }
+}
+
+/// Returns what is replied to who may not ask this.
+pub fn refuse(request: &DeskRequest<'_>) -> DeskReply
+    ensures { result ≡ refusal (question_of request.now) }
+{
+    let none = HostError::NoInstance;
+    match request {
+        DeskRequest::Load { .. } | DeskRequest::BeginEpoch | DeskRequest::Report => {
+            DeskReply::NotAllowed
+        }
+        DeskRequest::Admit { .. } => DeskReply::Admitted(Err(AdmitError::NoModule)),
+        DeskRequest::Invoke { .. } => DeskReply::Invoked(Err(none)),
+        DeskRequest::Refuel { .. } => DeskReply::Done(Err(none)),
+        DeskRequest::Cancel { .. } | DeskRequest::Retry { .. } => DeskReply::Done(Err(none)),
+        DeskRequest::Release { .. } => DeskReply::Released(Err(none)),
+        DeskRequest::Status { .. } => DeskReply::Status(None),
+        DeskRequest::Transcript { .. } => DeskReply::Transcript(Err(none)),
+    }
+}

@@ -1,0 +1,84 @@
+// What a desk is asked, and what it replies.
+
+use std::alloc::Global;
+use wh_host::{
+    AdmitError, CallStatus, HostError, ModuleError, ModuleId, Params, Report, Transcript,
+};
+use wh_space_model::InstId;
+
+/// Is asked of a desk.
+#[derive(Drop)]
+pub enum DeskRequest<'a> {
+    /// Asks for the module that these bytes spell to be kept.
+    Load {
+        bytes: &'a [u8],
+    },
+    /// Asks for an instance of a module to be admitted, which is whoever's asks for it.
+    Admit {
+        of: ModuleId,
+        params: Params,
+    },
+    /// Asks for a call of the function that an instance's module exports as `name`, with these arguments and as many charges at
+    /// most.
+    Invoke {
+        id: InstId,
+        name: &'a str,
+        given: &'a [i128],
+        fuel: u64,
+    },
+    /// Asks for `fuel` charges to be added to an instance's present call.
+    Refuel {
+        id: InstId,
+        fuel: u64,
+    },
+    /// Asks for an instance's present call to be cancelled.
+    Cancel {
+        id: InstId,
+    },
+    /// Asks for an instance's present call to be tried again after a fault of the device.
+    Retry {
+        id: InstId,
+    },
+    /// Asks for an instance to be released.
+    Release {
+        id: InstId,
+    },
+    /// Asks for a new epoch to begin. The operator alone may.
+    BeginEpoch,
+    /// Asks for the status of the call at place `at` of an instance's journal, the start being at 0.
+    Status {
+        id: InstId,
+        at: u32,
+    },
+    /// Asks for the report of the whole host. The operator alone may.
+    Report,
+    /// Asks for an instance's transcript.
+    Transcript {
+        id: InstId,
+    },
+}
+
+/// Is what a desk replies.
+#[derive(Drop)]
+pub enum DeskReply {
+    /// To `Load`: the module's number, or why it isn't kept.
+    Loaded(Result<ModuleId, ModuleError>),
+    /// To `Admit`: the instance, or why it isn't admitted.
+    Admitted(Result<InstId, AdmitError>),
+    /// To `Invoke`: the call's place in the journal, or why it isn't taken.
+    Invoked(Result<u32, HostError>),
+    /// To `Refuel`, `Cancel` and `Retry`: that it is done, or why it isn't.
+    Done(Result<(), HostError>),
+    /// To `Release`: what the instance has written, or why it isn't released.
+    Released(Result<Vec<u8>, HostError>),
+    /// To `BeginEpoch`: one has begun.
+    Begun,
+    /// To `Status`: how far the call is, if it is there.
+    Status(Option<CallStatus>),
+    /// To `Report`: how frames, slots and pages are used.
+    Report(Result<Report, HostError>),
+    /// To `Transcript`: what was asked of the instance, and its calls.
+    Transcript(Result<Transcript, HostError>),
+    /// To what the operator alone may ask: nothing was done.
+    NotAllowed,
+}

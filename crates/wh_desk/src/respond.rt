@@ -1,0 +1,171 @@
+// One request, under the lock.
+
+ghost use Rattle.std.specs.Prelude.{◌≡◌};
+ghost use Rattle.wh_cell.specs.Locking.{now_of};
+ghost use Rattle.wh_desk.specs.Permits.{Permits, owned_after, ownership_of};
+ghost use Rattle.wh_desk.specs.Questions.{question_of};
+ghost use Rattle.wh_desk.specs.Replying.{IsRight};
+ghost use Rattle.wh_desk.specs.Tracing.{entry};
+ghost use Rattle.wh_desk.specs.declared.request.DeskReply.TheVariants.{Admitted, Loaded, Released};
+ghost use Rattle.wh_desk.specs.declared.trace.Question.TheVariants as asked;
+
+use crate::ownership::{OwnedInstance, OwnedModule, Ownership, refuse};
+use crate::principal::Principal;
+use crate::request::{DeskReply, DeskRequest};
+use std::alloc::Global;
+use std::sync::ledger::Ledger;
+use wh_cell::{CellAgreements, Locked, Owner};
+use wh_host::{
+    Admit, AdmitError, BeginEpoch, Cancel, HostError, Invoke, Load, ModuleError, ModuleId, Refuel,
+    Release, Request, Retry,
+};
+use wh_space_model::InstId;
+use wh_swap::SwapDev;
+
+// Asks something of the host, by the owner's right, who knows it as it is.
+fn ask<D: SwapDev, T: Ledger, C: Ledger, O: Ledger, E: Ledger, B: CellAgreements, Q: Request>(
+    locked: &mut Locked<D, T, C, O, E, B>,
+    owner: &mut Owner<D, B>,
+    request: Q,
+) -> Result<Q::Answer, Q::Error>
+    requires known { owner.old ≡ now_of locked.old }
+    ensures asks { Q.asks request owner.old.host result owner.new.host }
+    ensures device { owner.new.device ≡ owner.old.device }
+{
+    locked.ask(owner, request)
+}
+
+// Has the host load a module, which is then whoever's asks.
+fn load<D: SwapDev, T: Ledger, C: Ledger, O: Ledger, E: Ledger, B: CellAgreements>(
+    locked: &mut Locked<D, T, C, O, E, B>,
+    owner: &mut Owner<D, B>,
+    ownership: &mut Ownership,
+    who: Principal,
+    request: Load<'_>,
+) -> Result<ModuleId, ModuleError>
+    requires known { owner.old ≡ now_of locked.old }
+    requires permitted { Permits (ownership_of ownership.old) who (asked.Load request.bytes.now) }
+    ensures right { IsRight (ownership_of ownership.old)
+        (entry who (asked.Load request.entry.bytes.now) (Loaded result) owner.old owner.new) }
+    ensures owned { ownership_of ownership.new ≡ owned_after who (asked.Load request.entry.bytes.now)
+        (Loaded result) (ownership_of ownership.old) }
+{
+    if ownership.modules.reserve(1).is_err() {
+        return Err(ModuleError::Memory);
+    }
+    let id = ask(locked, owner, request)?;
+    ownership
+        .modules
+        .push_reserved(OwnedModule { id, owner: who });
+    Ok(id)
+}
+
+// Has the host admit an instance, which is then whoever's asks.
+fn admit<D: SwapDev, T: Ledger, C: Ledger, O: Ledger, E: Ledger, B: CellAgreements>(
+    locked: &mut Locked<D, T, C, O, E, B>,
+    owner: &mut Owner<D, B>,
+    ownership: &mut Ownership,
+    who: Principal,
+    request: Admit,
+) -> Result<InstId, AdmitError>
+    requires known { owner.old ≡ now_of locked.old }
+    requires permitted { Permits (ownership_of ownership.old) who
+        (asked.Admit request.of request.params) }
+    ensures right { IsRight (ownership_of ownership.old)
+        (entry who (asked.Admit request.of request.params) (Admitted result) owner.old owner.new) }
+    ensures owned { ownership_of ownership.new ≡ owned_after who
+        (asked.Admit request.of request.params) (Admitted result) (ownership_of ownership.old) }
+{
+    if ownership.instances.reserve(1).is_err() {
+        return Err(AdmitError::Memory);
+    }
+    let id = ask(locked, owner, request)?;
+    ownership
+        .instances
+        .push_reserved(OwnedInstance { id, owner: who });
+    Ok(id)
+}
+
+// Has the host release an instance, which is then nobody's.
+fn release<D: SwapDev, T: Ledger, C: Ledger, O: Ledger, E: Ledger, B: CellAgreements>(
+    locked: &mut Locked<D, T, C, O, E, B>,
+    owner: &mut Owner<D, B>,
+    ownership: &mut Ownership,
+    who: Principal,
+    request: Release,
+) -> Result<Vec<u8>, HostError>
+    requires known { owner.old ≡ now_of locked.old }
+    requires permitted { Permits (ownership_of ownership.old) who (asked.Release request.id) }
+    ensures right { IsRight (ownership_of ownership.old)
+        (entry who (asked.Release request.id) (Released result) owner.old owner.new) }
+    ensures owned { ownership_of ownership.new ≡ owned_after who (asked.Release request.id)
+        (Released result) (ownership_of ownership.old) }
+{
+    let id = request.id;
+    let output = ask(locked, owner, request)?;
+    ownership
+        .instances
+        .retain(|x| x.id.number != id.number || x.id.place != id.place);
+    Ok(output)
+}
+
+/// Replies to a request, and keeps whose is what then.
+pub fn respond<D: SwapDev, T: Ledger, C: Ledger, O: Ledger, E: Ledger, B: CellAgreements>(
+    locked: &mut Locked<D, T, C, O, E, B>,
+    owner: &mut Owner<D, B>,
+    ownership: &mut Ownership,
+    who: Principal,
+    alloc: Global,
+    request: DeskRequest<'_>,
+) -> DeskReply
+    requires known { owner.old ≡ now_of locked.old }
+    ensures right { IsRight (ownership_of ownership.old)
+        (entry who (question_of request.entry) result owner.old owner.new) }
+    ensures owned { ownership_of ownership.new ≡ owned_after who (question_of request.entry) result
+        (ownership_of ownership.old) }
+{
+    if !ownership.permits(who, &request) {
+        return refuse(&request);
+    }
+    match request {
+        DeskRequest::Load { bytes } => {
+            let request = Load { alloc, bytes };
+            DeskReply::Loaded(load(locked, owner, ownership, who, request))
+        }
+        DeskRequest::Admit { of, params } => {
+            let request = Admit { alloc, of, params };
+            DeskReply::Admitted(admit(locked, owner, ownership, who, request))
+        }
+        DeskRequest::Invoke {
+            id,
+            name,
+            given,
+            fuel,
+        } => {
+            let request = Invoke {
+                alloc,
+                id,
+                name,
+                given,
+                fuel,
+            };
+            DeskReply::Invoked(ask(locked, owner, request))
+        }
+        DeskRequest::Refuel { id, fuel } => {
+            DeskReply::Done(ask(locked, owner, Refuel { id, fuel }))
+        }
+        DeskRequest::Cancel { id } => DeskReply::Done(ask(locked, owner, Cancel { id })),
+        DeskRequest::Retry { id } => DeskReply::Done(ask(locked, owner, Retry { id })),
+        DeskRequest::Release { id } => {
+            let request = Release { alloc, id };
+            DeskReply::Released(release(locked, owner, ownership, who, request))
+        }
+        DeskRequest::BeginEpoch => {
+            let _ = ask(locked, owner, BeginEpoch);
+            DeskReply::Begun
+        }
+        DeskRequest::Status { id, at } => DeskReply::Status(locked.host().call_status(id, at)),
+        DeskRequest::Report => DeskReply::Report(locked.host().report(alloc)),
+        DeskRequest::Transcript { id } => DeskReply::Transcript(locked.transcript(alloc, id)),
+    }
+}

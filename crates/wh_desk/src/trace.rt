@@ -1,0 +1,71 @@
+// What contracts see of all that a desk has replied.
+
+use crate::principal::Principal;
+use crate::request::DeskReply;
+use std::collections::LinkedList;
+use wh_cell::AgreedHost;
+use wh_host::{ModuleId, Params};
+use wh_space_model::InstId;
+use wh_threads::AgreedValue;
+
+/// Is what was asked, as a trace has it. It is a value of contracts alone: none is made.
+pub enum Question {
+    Load {
+        bytes: LinkedList<u8>,
+    },
+    Admit {
+        of: ModuleId,
+        params: Params,
+    },
+    Invoke {
+        id: InstId,
+        name: LinkedList<u8>,
+        given: LinkedList<i128>,
+        fuel: u64,
+    },
+    Refuel {
+        id: InstId,
+        fuel: u64,
+    },
+    Cancel {
+        id: InstId,
+    },
+    Retry {
+        id: InstId,
+    },
+    Release {
+        id: InstId,
+    },
+    BeginEpoch,
+    Status {
+        id: InstId,
+        at: u32,
+    },
+    Report,
+    Transcript {
+        id: InstId,
+    },
+}
+
+/// Is one reply of a desk: who asked, what was asked, what was replied, and the host and its device as they were then and as they
+/// were left. It is a value of contracts alone: none is made.
+pub struct TraceEntry<D> {
+    pub who: Principal,
+    pub question: Question,
+    pub reply: DeskReply,
+    pub at: AgreedHost<D>,
+    pub left: AgreedHost<D>,
+}
+
+/// Is all that a desk has replied, the last reply first, and the host with which it began. It is a value of contracts alone: none
+/// is made.
+pub struct Trace<D> {
+    pub first: AgreedHost<D>,
+    pub entries: LinkedList<TraceEntry<D>>,
+}
+
+impl<D> AgreedValue for Trace<D> {
+    ghost use Rattle.wh_desk.specs.Tracing.{no_trace};
+
+    ghost nothing = { no_trace };
+}
