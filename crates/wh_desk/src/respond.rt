@@ -31,6 +31,7 @@ fn ask<D: SwapDev, T: Ledger, C: Ledger, O: Ledger, E: Ledger, B: CellAgreements
     requires known { owner.old ≡ now_of locked.old }
     ensures asks { Q.asks request owner.old.host result owner.new.host }
     ensures device { owner.new.device ≡ owner.old.device }
+    ensures knows { owner.new ≡ now_of locked.new }
 {
     locked.ask(owner, request)
 }
