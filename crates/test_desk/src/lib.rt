@@ -1,0 +1,9 @@
+//! Tests of a desk: what it replies to an operator and to tenants, and what to a stranger, by one thread and by several.
+#![tactic(auto)]
+
+#[cfg(test)]
+mod begun;
+#[cfg(test)]
+mod strangers;
+#[cfg(test)]
+mod threads;
