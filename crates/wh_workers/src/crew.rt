@@ -200,7 +200,7 @@ fn dispatch_all<
     lender: &mut ThreadCounts<T, C, O, E>,
     sender: &TurnSender,
     slip: &mut MessagePass,
-    first: Next,
+    first: Option<Next>,
     run_config: WorkerSetup,
 ) -> (u64, Result<(), ServeError>)
     requires channel { IsSeatAt (sends_on sender.now) slip.old × (0 < (view slip.old).parts) }
@@ -220,8 +220,8 @@ fn dispatch_all<
     fed
 }
 
-/// Starts the workers, dispatches the turns, and joins the workers. Returns the number of turns dispatched, and an
-/// error if memory, a worker's thread or a reclaimer was lacking.
+/// Starts the workers, dispatches the turns, the first as the supply has said already, if it has, and joins the workers.
+/// Returns the number of turns dispatched, and an error if memory, a worker's thread or a reclaimer was lacking.
 #[tactic(auto, using(crate::proofs::Turns::turns_handed, crate::proofs::Turns::turns_still))]
 pub fn run_crew<
     T: Ledger + Send + 'static,
@@ -241,7 +241,7 @@ pub fn run_crew<
     helpers: &mut Helpers<O, E, H, P>,
     lender: &mut ThreadCounts<T, C, O, E>,
     slip: &mut MessagePass,
-    first: Next,
+    first: Option<Next>,
     run_config: WorkerSetup,
 ) -> (u64, Result<(), ServeError>)
     requires can { J.can }

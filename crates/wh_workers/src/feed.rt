@@ -76,7 +76,7 @@ fn next_of<S: Supply, R: Wait>(
     }
 }
 
-/// Dispatches series of turns of at most `quantum` charges each, the first as the supply has said already, until the
+/// Dispatches series of turns of at most `quantum` charges each, the first as the supply has said already, if it has, until the
 /// supply ends, no worker is left, so many turns were dispatched (over 2^64 - 2^32) that a further series might not be
 /// counted, or a reclaimer is wanted that can't be started. Returns the number of turns, and an error only in the last
 /// case. If the scanner can't be started, goes on without it.
@@ -96,7 +96,7 @@ pub fn feed<
     lender: &mut ThreadCounts<T, C, O, E>,
     sender: &TurnSender,
     slip: &mut MessagePass,
-    first: Next,
+    first: Option<Next>,
     quantum: u32,
 ) -> (u64, Result<(), ServeError>)
     requires channel { IsSeatAt (sends_on sender.now) slip.old × (0 < (view slip.old).parts) }
@@ -110,7 +110,7 @@ pub fn feed<
       reclaimers_out = lender.new.reclaimers_out;
     } }
 {
-    let mut left = Some(first);
+    let mut left = first;
     let mut count: u64 = 0;
     for _ in rt.forever() {
         if count > MOST_TURNS_BEFORE_A_SERIES {

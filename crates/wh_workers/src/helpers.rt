@@ -2,7 +2,7 @@
 
 ghost use Rattle.std.specs.Prelude.{◌≡◌, ◌≤◌, None, IfOk, IsSome, OnErr, OnOk};
 ghost use Rattle.wh_threads.specs.Counting.{LenderState};
-ghost use Rattle.wh_workers.specs.LentHelpers.{IsLent};
+ghost use Rattle.wh_workers.specs.LentHelpers.{AreLent, IsLent};
 
 use crate::crew::ServeError;
 use std::alloc::{AllocError, Global};
@@ -257,5 +257,30 @@ impl<O: Ledger, E: Ledger, H: Help<O> + Drop, P: Help<E> + Drop> Helpers<O, E, H
             scanner: LazyHelper::new(for_scanner),
             reclaimer: LazyHelper::new(for_reclaimer),
         })
+    }
+}
+
+impl<
+    O: Ledger + Send + 'static,
+    E: Ledger + Send + 'static,
+    H: Help<O> + Drop + Send + 'static,
+    P: Help<E> + Drop + Send + 'static,
+> Helpers<O, E, H, P> {
+    /// Starts both that aren't started. Returns an error if one can't be: the other may have been started then.
+    pub fn start_both<T: Ledger, C: Ledger, R: Threads + Wait + Copy + Send + 'static>(
+        &mut self,
+        rt: R,
+        lender: &mut ThreadCounts<T, C, O, E>,
+    ) -> Result<(), ServeError>
+        requires { AreLent self.old.scanner self.old.reclaimer lender.old }
+        ensures ok { OnOk result (IsSome self.new.scanner × IsSome self.new.reclaimer) }
+        ensures lent { AreLent self.new.scanner self.new.reclaimer lender.new }
+        ensures only { lender.new ≡ record lender.old {
+          scanners_out = lender.new.scanners_out;
+          reclaimers_out = lender.new.reclaimers_out;
+        } }
+    {
+        self.reclaimer.start_reclaimer(rt, lender)?;
+        self.scanner.start_scanner(rt, lender)
     }
 }

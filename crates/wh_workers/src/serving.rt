@@ -1,10 +1,11 @@
 // A call of `serve`: workers, and beside them a scanner and a reclaimer, where they are wanted.
 
-ghost use Rattle.std.specs.Prelude.{◌≡◌, ◌+◌, ◌/◌, ◌<◌, ◌≤◌, [], IfOk, OnOk, OnErr};
+ghost use Rattle.std.specs.Prelude.{◌≡◌, ◌+◌, ◌/◌, ◌<◌, ◌≤◌, [], None, IfNone, IfOk, IsSome, OnOk, OnErr};
 ghost use Rattle.crossbeam_channel.specs.Claims.{view, IsSeatAt};
 ghost use Rattle.crossbeam_channel.specs.Ends.{sends_on};
 ghost use Rattle.wh_threads.specs.Counting.{HasAllParts, LenderState, turns_of};
 ghost use Rattle.wh_threads.specs.Handover.{SameMessages, all_parts, traffic, turns_in};
+ghost use Rattle.wh_workers.specs.LentHelpers.{AreLent};
 ghost use Rattle.wh_workers.specs.Serving.{AreRun, AreTurns};
 
 use crate::crew::{ServeError, Served, Team, run_crew};
@@ -42,6 +43,93 @@ pub struct Jobs<J, H, P> {
     pub reclaims: P,
 }
 
+/// When the threads of a call are started.
+#[derive(Clone, Copy, Debug, PartialEq, Eq)]
+pub enum Start {
+    /// Each where it is first wanted; none where no turn comes.
+    WhereWanted,
+    /// All at once, before the supply is asked for the first turn.
+    AtOnce,
+}
+
+// Starts both helpers, unless the supply has said already which turns come first: then they are started where they are wanted.
+fn begin_helpers<
+    T: Ledger,
+    C: Ledger,
+    O: Ledger + Send + 'static,
+    E: Ledger + Send + 'static,
+    H: Help<O> + Drop + Send + 'static,
+    P: Help<E> + Drop + Send + 'static,
+    R: Threads + Wait + Copy + Send + 'static,
+>(
+    rt: R,
+    first: Option<Next>,
+    helpers: &mut Helpers<O, E, H, P>,
+    lender: &mut ThreadCounts<T, C, O, E>,
+) -> Result<(), ServeError>
+    requires { AreLent helpers.old.scanner helpers.old.reclaimer lender.old }
+    ensures begun { OnOk result (IfNone first (IsSome helpers.new.scanner × IsSome helpers.new.reclaimer)) }
+    ensures lent { AreLent helpers.new.scanner helpers.new.reclaimer lender.new }
+    ensures only { lender.new ≡ record lender.old {
+      scanners_out = lender.new.scanners_out;
+      reclaimers_out = lender.new.reclaimers_out;
+    } }
+{
+    match first {
+        Some(_) => Ok(()),
+        None => helpers.start_both(rt, lender),
+    }
+}
+
+// Runs the turns by workers, once those helpers are started that are to be.
+fn run_with_helpers<
+    T: Ledger + Send + 'static,
+    C: Ledger + Send + 'static,
+    O: Ledger + Send + 'static,
+    E: Ledger + Send + 'static,
+    J: Turns<T, C> + Drop + Send + 'static,
+    S: Supply,
+    H: Help<O> + Drop + Send + 'static,
+    P: Help<E> + Drop + Send + 'static,
+    R: Threads + Wait + Copy + Send + 'static,
+>(
+    rt: R,
+    alloc: Global,
+    team: &Team<J>,
+    supply: &mut S,
+    helpers: &mut Helpers<O, E, H, P>,
+    lender: &mut ThreadCounts<T, C, O, E>,
+    slip: &mut MessagePass,
+    first: Option<Next>,
+    run_config: WorkerSetup,
+) -> (u64, Result<(), ServeError>)
+    requires can { J.can }
+    requires channel { IsSeatAt (sends_on team.now.sender) slip.old }
+    requires parts { (view slip.old).parts ≡ all_parts }
+    requires begun { AreTurns 0 run_config.quantum (view slip.old).sent }
+    requires few { run_config.workers ≤ 64 }
+    requires lender { lender.old.workers_out ≡ 0 }
+    requires lent { AreLent helpers.old.scanner helpers.old.reclaimer lender.old }
+    ensures channel { IsSeatAt (sends_on team.now.sender) slip.new }
+    ensures parts { (view slip.new).parts ≡ all_parts }
+    ensures dispatched { AreTurns result.0 run_config.quantum (view slip.new).sent }
+    ensures grown { turns_of lender.new.tallies + turns_in (view slip.old).received
+        ≡ turns_of lender.old.tallies + turns_in (view slip.new).received }
+    ensures lent { AreLent helpers.new.scanner helpers.new.reclaimer lender.new }
+    ensures only { lender.new ≡ record lender.old {
+      tallies = lender.new.tallies;
+      scanners_out = lender.new.scanners_out;
+      reclaimers_out = lender.new.reclaimers_out;
+    } }
+{
+    if let Err(error) = begin_helpers(rt, first, helpers, lender) {
+        return (0, Err(error));
+    }
+    run_crew(
+        rt, alloc, team, supply, helpers, lender, slip, first, run_config,
+    )
+}
+
 // Runs the turns by workers, with a scanner and a reclaimer where they are wanted. Allocates everything for their
 // threads but the stacks.
 fn crew_with_helpers<
@@ -63,7 +151,7 @@ fn crew_with_helpers<
     reclaims: &P,
     lender: &mut ThreadCounts<T, C, O, E>,
     slip: &mut MessagePass,
-    first: Next,
+    first: Option<Next>,
     run_config: WorkerSetup,
 ) -> (u64, Result<(), ServeError>)
     requires can { J.can }
@@ -86,7 +174,7 @@ fn crew_with_helpers<
         return (0, Err(ServeError::Memory));
     };
     let mut helpers = helpers;
-    let ended = run_crew(
+    let ended = run_with_helpers(
         rt,
         alloc,
         team,
@@ -125,6 +213,7 @@ fn run_turns<
     reclaims: &P,
     lender: &mut ThreadCounts<T, C, O, E>,
     slip: &mut MessagePass,
+    start: Start,
     run_config: WorkerSetup,
 ) -> (u64, Result<(), ServeError>)
     requires can { J.can }
@@ -142,9 +231,13 @@ fn run_turns<
     ensures owner { lender.new.owner ≡ lender.old.owner }
     ensures whole { HasAllParts lender.new }
 {
-    let first = supply.next(&rt, false);
-    if first == Next::End {
-        return (0, Ok(()));
+    let mut first = None;
+    if start == Start::WhereWanted {
+        let next = supply.next(&rt, false);
+        if next == Next::End {
+            return (0, Ok(()));
+        }
+        first = Some(next);
     }
     crew_with_helpers(
         rt, alloc, team, supply, scans, reclaims, lender, slip, first, run_config,
@@ -170,6 +263,7 @@ fn serve_turns<
     scans: &H,
     reclaims: &P,
     lender: &mut ThreadCounts<T, C, O, E>,
+    start: Start,
     run_config: WorkerSetup,
 ) -> Result<Served, ServeError>
     requires can { J.can }
@@ -178,11 +272,12 @@ fn serve_turns<
     ensures dispatched { IfOk result (λ s. AreTurns s.turns run_config.quantum (view s.slip).sent) }
     ensures grown { IfOk result (λ s. AreRun (turns_of lender.old.tallies) s.left (view s.slip).received
         (turns_of lender.new.tallies)) }
-    ensures once { IfOk result (λ s. OnOk s.end
+    ensures once { IfOk result (λ s. IfNone s.left
         (SameMessages (view s.slip).sent (view s.slip).received)) }
-    ensures turns { IfOk result (λ s. OnOk s.end
+    ensures turns { IfOk result (λ s. IfNone s.left
         (turns_of lender.new.tallies ≡ turns_of lender.old.tallies + s.turns)) }
-    ensures err { OnErr result (lender.new.tallies ≡ lender.old.tallies) }
+    ensures well { IfOk result (λ s. OnOk s.end (s.left ≡ None)) }
+    ensures err { OnErr result (lender.new ≡ lender.old) }
     ensures offers { lender.old.offers ≤ lender.new.offers }
     ensures evictions { lender.old.evictions ≤ lender.new.evictions }
     ensures owner { lender.new.owner ≡ lender.old.owner }
@@ -198,7 +293,7 @@ fn serve_turns<
         sender,
     };
     let (turns, end) = run_turns(
-        rt, alloc, &team, supply, scans, reclaims, lender, &mut slip, run_config,
+        rt, alloc, &team, supply, scans, reclaims, lender, &mut slip, start, run_config,
     );
     let left = left_over(&rt, &team.receiver, &mut slip);
     let end = match left {
@@ -329,8 +424,9 @@ pub fn serve<
     } = jobs;
     let lender = &mut shares.all;
     let before = lender.offers();
+    let start = Start::WhereWanted;
     let served = serve_turns(
-        rt, alloc, job, supply, &scans, &reclaims, lender, run_config,
+        rt, alloc, job, supply, &scans, &reclaims, lender, start, run_config,
     )?;
     let Served {
         turns,
@@ -348,4 +444,60 @@ pub fn serve<
         left,
         end,
     })
+}
+
+/// Runs all turns that come, as `serve` does, for a run of no certain end: its scanner owes no page for them. All threads
+/// are started at the beginning, before the supply is asked for the first turn, and stay until it ends: the reclaimer,
+/// the scanner and the workers.
+///
+/// Turns are numbered in the order in which they are dispatched, and the workers' counts grow by those that they
+/// received. If no message is left over, each turn that was dispatched was received once. No count gets smaller.
+///
+/// # Errors
+/// `Memory` if the allocation for the channel fails. `Served::end` says so if another one fails at the beginning, and
+/// `NoThread` if a thread couldn't be started then: no turn was dispatched. It is `NoThread` too if a message was left
+/// that no worker received.
+pub fn serve_on<
+    T: Ledger + Send + 'static,
+    C: Ledger + Send + 'static,
+    O: Ledger + Send + 'static,
+    E: Ledger + Send + 'static,
+    J: Turns<T, C> + Drop + Send + 'static,
+    S: Supply,
+    H: Help<O> + Drop + Send + 'static,
+    P: Help<E> + Drop + Send + 'static,
+    R: Threads + Wait + Copy + Send + 'static,
+>(
+    rt: R,
+    alloc: Global,
+    jobs: Jobs<J, H, P>,
+    supply: &mut S,
+    shares: &mut Shares<T, C, O, E>,
+    run_config: WorkerSetup,
+) -> Result<Served, ServeError>
+    requires can { J.can }
+    requires crew { (0 < run_config.workers) × (run_config.workers ≤ 64) }
+    ensures dispatched { IfOk result (λ s. AreTurns s.turns run_config.quantum (view s.slip).sent) }
+    ensures grown { IfOk result (λ s. AreRun (turns_of shares.old.tallies) s.left (view s.slip).received
+        (turns_of shares.new.tallies)) }
+    ensures once { IfOk result (λ s. IfNone s.left
+        (SameMessages (view s.slip).sent (view s.slip).received)) }
+    ensures turns { IfOk result (λ s. IfNone s.left
+        (turns_of shares.new.tallies ≡ turns_of shares.old.tallies + s.turns)) }
+    ensures well { IfOk result (λ s. OnOk s.end (s.left ≡ None)) }
+    ensures err { OnErr result (shares.new ≡ shares.old) }
+    ensures offers { shares.old.offers ≤ shares.new.offers }
+    ensures evictions { shares.old.evictions ≤ shares.new.evictions }
+    ensures owner { shares.new.owner ≡ shares.old.owner }
+{
+    let Jobs {
+        turns: job,
+        scans,
+        reclaims,
+    } = jobs;
+    let lender = &mut shares.all;
+    let start = Start::AtOnce;
+    serve_turns(
+        rt, alloc, job, supply, &scans, &reclaims, lender, start, run_config,
+    )
 }
