@@ -1,5 +1,9 @@
 //! What the threads of a run share, who dispatches turns, and who makes steps ready that wait for frames.
 
+ghost use Rattle.std.specs.Prelude.{◌≡◌, ◌<◌, ◌+◌, ◌++◌, ◌∷◌, [], Some, slice_get, vec_len};
+ghost use Rattle.wh_scheduler.specs.declared.run_queue.Series.{Series};
+ghost use Rattle.wh_scheduler.specs.RunQueues.{at_most};
+
 use crate::frame_waits::FrameWaits;
 use crate::round_room::{MOST_AT_ONCE, RoundRoom};
 use crate::run_queue::{Choice, RunQueue, Series, Waiter};
@@ -61,11 +65,11 @@ impl Drop for Schedule {
     }
 }
 
-// How many turns these are.
-fn turns_in_all(list: &[Series]) -> u64 {
+// How many turns these are, of which each series has `most` at most.
+fn turns_in_all(list: &[Series], most: u32) -> u64 {
     let mut turns: u64 = 0;
     for series in list {
-        turns = turns.wrapping_add(u64::from(series.count));
+        turns = turns.wrapping_add(u64::from(series.count.min(most)));
     }
     turns
 }
@@ -198,20 +202,26 @@ impl<D: SwapDev + Drop, T: Ledger, C: Ledger, O: Ledger, E: Ledger, B: CellAgree
     }
 }
 
-/// Dispatches turns of whoever can go on and has none, until none can.
+/// Dispatches turns of whoever can go on and has none, until none can. Those that have come, or were woken, go first.
 pub struct TurnSupply<D: SwapDev, T: Ledger, C: Ledger, O: Ledger, E: Ledger, B: CellAgreements> {
-    /// The cell.
-    pub cell: HostCell<D, T, C, O, E, B>,
-    /// Whose turns are dispatched.
-    pub schedule: Arc<Schedule, Global>,
-    /// Which series come next.
-    pub queued: Vec<Series>,
-    /// How many of these were dispatched.
-    pub dispatched: usize,
-    /// How long it spins for a completed turn before it sleeps.
-    pub spin_backoff: SpinBackoff,
-    /// How often each call waits for a frame.
-    pub frame_waits: FrameWaits,
+    // The cell.
+    cell: HostCell<D, T, C, O, E, B>,
+    // Whose turns are dispatched.
+    schedule: Arc<Schedule, Global>,
+    // How many turns all series that are out have together, while instances arrive.
+    short: u32,
+    // How many turns each has at most that is dispatched now.
+    most: u32,
+    // Turns of those that had none out, one of each.
+    newcomers: Vec<Series>,
+    // The series that were due.
+    queued: Vec<Series>,
+    // How many of these were dispatched.
+    dispatched: usize,
+    // How long it spins for a completed turn before it sleeps.
+    spin_backoff: SpinBackoff,
+    // How often each call waits for a frame.
+    frame_waits: FrameWaits,
 }
 
 impl<D: SwapDev + Drop, T: Ledger, C: Ledger, O: Ledger, E: Ledger, B: CellAgreements> Drop
@@ -220,6 +230,9 @@ impl<D: SwapDev + Drop, T: Ledger, C: Ledger, O: Ledger, E: Ledger, B: CellAgree
         let TurnSupply {
             cell: _,
             schedule: _,
+            short: _,
+            most: _,
+            newcomers: _,
             queued: _,
             dispatched: _,
             spin_backoff: _,
@@ -236,13 +249,62 @@ impl<D: SwapDev + Drop, T: Ledger, C: Ledger, O: Ledger, E: Ledger, B: CellAgree
     E,
     B,
 > {
-    // The next one of the series that it has.
-    fn next_queued(&mut self) -> Option<Series> {
+    /// Returns a supply for `many` instances. While instances arrive all series that are out have about `short` turns together.
+    ///
+    /// # Errors
+    /// `AllocError` if an allocation fails.
+    pub fn new(
+        alloc: Global,
+        cell: HostCell<D, T, C, O, E, B>,
+        schedule: Arc<Schedule, Global>,
+        many: usize,
+        short: u32,
+    ) -> Result<TurnSupply<D, T, C, O, E, B>, AllocError> {
+        let newcomers = Vec::with_capacity(alloc, many)?;
+        let queued = Vec::with_capacity(alloc, many)?;
+        Ok(TurnSupply {
+            cell,
+            schedule,
+            short,
+            most: u32::MAX,
+            newcomers,
+            queued,
+            dispatched: 0,
+            spin_backoff: SpinBackoff::new(),
+            frame_waits: FrameWaits::new(),
+        })
+    }
+
+    // The next one of the series that it has: that of a newcomer, while there is one; else one of those that are due, which has
+    // `most` turns at most.
+    fn next_series(&mut self) -> Option<Series>
+        ensures first { 0 < vec_len self.old.newcomers → (series : Series) × (result ≡ Some series)
+            × (self.old.newcomers.items ≡ self.new.newcomers.items ++ series ∷ [])
+            × (self.new.dispatched ≡ self.old.dispatched) }
+        ensures then { vec_len self.old.newcomers ≡ 0 → (series : Series)
+            → slice_get self.old.queued.items self.old.dispatched ≡ Some series
+            → (result ≡ Some (at_most self.old.most series))
+            × (self.new.dispatched ≡ self.old.dispatched + 1) }
+        ensures same { (self.new.queued ≡ self.old.queued) × (self.new.most ≡ self.old.most) }
+    {
+        if let Some(series) = self.newcomers.pop() {
+            return Some(series);
+        }
         if self.dispatched >= self.queued.len() {
             return None;
         }
-        let series = self.queued[self.dispatched];
+        let Series { id, count } = self.queued[self.dispatched];
         self.dispatched += 1;
+        Some(Series {
+            id,
+            count: count.min(self.most),
+        })
+    }
+
+    /// Returns the next series that is to be dispatched, if it has one: that of a newcomer, while there is one.
+    pub fn dispatch_next(&mut self) -> Option<Series> {
+        let series = self.next_series()?;
+        self.schedule.turn_lock.dispatch();
         Some(series)
     }
 
@@ -252,6 +314,7 @@ impl<D: SwapDev + Drop, T: Ledger, C: Ledger, O: Ledger, E: Ledger, B: CellAgree
         self.dispatched = 0;
         let mut run_queue = self.schedule.run_queue.lock(rt);
         run_queue.take_queued(&mut self.queued);
+        self.most = run_queue.most_turns(self.short);
         run_queue.needs_rescan
     }
 
@@ -265,7 +328,7 @@ impl<D: SwapDev + Drop, T: Ledger, C: Ledger, O: Ledger, E: Ledger, B: CellAgree
             let Choice::Turn(id) = choice else {
                 return choice;
             };
-            if self.queued.push(Series { id, count: 1 }).is_err() {
+            if self.newcomers.push(Series { id, count: 1 }).is_err() {
                 run_queue.complete(id);
                 return Choice::Wait;
             }
@@ -284,16 +347,23 @@ impl<D: SwapDev + Drop, T: Ledger, C: Ledger, O: Ledger, E: Ledger, B: CellAgree
         }
     }
 
-    // Takes whatever series there are now. What comes after them, as far as the host was looked at: else `Wait`.
-    fn refill<R: Wait>(&mut self, rt: &R) -> Choice {
+    /// Takes whatever series there are now. Returns what comes after them, as far as the host was looked at: else `Wait`.
+    pub fn refill<R: Wait>(&mut self, rt: &R) -> Choice {
         let needs_rescan = self.take_queued(rt);
         let then = if needs_rescan {
             self.choose_all(rt)
         } else {
             Choice::Wait
         };
-        self.count_turns(rt, turns_in_all(&self.queued));
+        let due = turns_in_all(&self.queued, self.most);
+        let more = turns_in_all(&self.newcomers, self.most);
+        self.count_turns(rt, due.wrapping_add(more));
         then
+    }
+
+    /// Returns whether it has no series that was not dispatched.
+    pub fn is_empty(&self) -> bool {
+        self.newcomers.is_empty() && self.dispatched >= self.queued.len()
     }
 
     // Whether nothing goes on, while some call waits for a frame, and that was so too often, after few turns each time.
@@ -307,8 +377,8 @@ impl<D: SwapDev + Drop, T: Ledger, C: Ledger, O: Ledger, E: Ledger, B: CellAgree
         true
     }
 
-    // Waits until it is notified again, having been notified `rings` times when it was last looked at.
-    fn wait<R: Wait>(&self, rt: &R, rings: u64) {
+    /// Waits until a turn completed or an instance was woken, where that was notified `rings` times when it was last looked at.
+    pub fn wait<R: Wait>(&self, rt: &R, rings: u64) {
         let bell = &self.schedule.turn_completed;
         for _ in 0..self.spin_backoff.looks() {
             if bell.notifications() != rings {
@@ -326,8 +396,7 @@ impl<D: SwapDev + Drop, T: Ledger, C: Ledger, O: Ledger, E: Ledger, B: CellAgree
     for TurnSupply<D, T, C, O, E, B> {
     fn next<R: Wait>(&mut self, rt: &R, has_reclaimer: bool) -> Next {
         for _ in rt.forever() {
-            if let Some(Series { id, count }) = self.next_queued() {
-                self.schedule.turn_lock.dispatch();
+            if let Some(Series { id, count }) = self.dispatch_next() {
                 return Next::Turns(id, count);
             }
             let rings = self.schedule.turn_completed.notifications();
@@ -343,7 +412,7 @@ impl<D: SwapDev + Drop, T: Ledger, C: Ledger, O: Ledger, E: Ledger, B: CellAgree
                 }
                 Choice::Turn(_) | Choice::Wait => {}
             }
-            if self.queued.is_empty() {
+            if self.is_empty() {
                 self.wait(rt, rings);
             }
         }

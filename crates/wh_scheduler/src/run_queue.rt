@@ -1,11 +1,11 @@
 //! Which instances have turns: who can go on and has none out.
 
-ghost use Rattle.std.specs.Prelude.{◌≡◌, ◌≢◌, ◌<◌, ◌≤◌, ◌⊎◌, ◌++◌, ◌∷◌, [], false, true, Some, None, IfOk, IfNone, IfSome, length, map, vec_len};
+ghost use Rattle.std.specs.Prelude.{◌≡◌, ◌≢◌, ◌<◌, ◌≤◌, ◌⊎◌, ◌++◌, ◌∷◌, ◌+◌, ◌-◌, ◌^◌, ◌%◌, [], false, true, Some, None, IfOk, IfNone, IfSome, IsTrue, OnErr, OnOk, ◌↔◌, length, map, max, min, vec_len};
 ghost use Rattle.wh_space_model.specs.declared.plain.InstId.{InstId};
 ghost use Rattle.wh_host.specs.Paging.{IsAwaiting, IsGoing, Tells};
-ghost use Rattle.wh_scheduler.specs.RunQueues.{ChoosesTurn, CompletesTurn, HasNoEntry, HasTurnOut, IsQueueEntryOf, OutOrDoneBetween, RestBetween, RestsAll, WantsFrame, idle_entry, ends_service};
+ghost use Rattle.wh_scheduler.specs.RunQueues.{ChoosesTurn, CompletesTurn, HasQueueEntry, HasNoEntry, HasTurnOut, IsQueueEntryOf, JoinsQueue, KeepsReady, LeavesQueue, OutOrDoneBetween, RestBetween, RestsAll, WantsFrame, idle_entry, ends_service};
 ghost use Rattle.wh_cell.specs.declared.moving.Moved.TheVariants.{Ready};
-ghost use Rattle.wh_scheduler.specs.declared.run_queue.Choice.TheVariants.{Wait, Frame, Rest};
+ghost use Rattle.wh_scheduler.specs.declared.run_queue.Choice.TheVariants.{Turn, Wait, Frame, Rest};
 ghost use Rattle.wh_scheduler.specs.declared.run_queue.Prospect.TheVariants.{Now, Out, Later, Never};
 
 use std::alloc::{AllocError, Global};
@@ -61,6 +61,9 @@ pub enum Prospect {
 // How often the page that is to leave may be written meanwhile before a step is made ready at once, under both locks.
 const MOST_VOIDS: u32 = 8;
 
+// How many turns behind an arrival series stay short: for a second or some, where turns have a thousand charges.
+const TURNS_UNTIL_CALM: u64 = 1 << 20;
+
 /// An instance whose step is made ready.
 #[derive(Clone, Copy, Debug, PartialEq, Eq)]
 pub struct Waiter {
@@ -86,6 +89,10 @@ pub struct RunQueue {
     pub queued: Vec<Series>,
     /// Whether the host has to be looked at: one that has no turn may go on, or none may any more.
     pub needs_rescan: bool,
+    /// How many instances have joined or were woken, modulo 2^64.
+    pub arrivals: u64,
+    /// How many turns are to be dispatched before the last arrival is long past.
+    pub calm_from: u64,
     // How many instances have their turn out, those that are queued among them.
     dispatched: usize,
     // Whose step is made ready, page by page.
@@ -112,6 +119,8 @@ impl Drop for RunQueue {
             turns: _,
             queued: _,
             needs_rescan: _,
+            arrivals: _,
+            calm_from: _,
             dispatched: _,
             served: _,
             voids: _,
@@ -182,6 +191,8 @@ impl RunQueue {
             turns: 0,
             queued,
             needs_rescan: true,
+            arrivals: 0,
+            calm_from: 0,
             dispatched: 0,
             served: None,
             voids: 0,
@@ -202,6 +213,10 @@ impl RunQueue {
             × OutOrDoneBetween host.now self.old.entries.items 0 (length self.old.entries.items) }
         ensures frame { result ≡ Frame → WantsFrame host.now self.old.entries.items self.old.ready }
         ensures rest { result ≡ Rest → RestsAll host.now self.old.entries.items }
+        ensures rescan { (id : InstId) → result ≡ Turn id
+            → self.new.needs_rescan ≡ self.old.needs_rescan }
+        ensures arrivals { (self.new.arrivals ≡ self.old.arrivals)
+            × (self.new.calm_from ≡ self.old.calm_from) × (self.new.turns ≡ self.old.turns) }
     {
         let many = self.entries.len();
         let next = self.next.min(many);
@@ -231,6 +246,9 @@ impl RunQueue {
             → OutOrDoneBetween host.now self.old.entries.items from to }
         ensures ready { self.new.ready ≡ self.old.ready }
         ensures len { vec_len self.new.entries ≡ vec_len self.old.entries }
+        ensures rescan { self.new.needs_rescan ≡ self.old.needs_rescan }
+        ensures arrivals { (self.new.arrivals ≡ self.old.arrivals)
+            × (self.new.calm_from ≡ self.old.calm_from) × (self.new.turns ≡ self.old.turns) }
     {
         let mut is_dispatched = false;
         let mut waits = false;
@@ -282,6 +300,7 @@ impl RunQueue {
         ensures entries { self.new.entries ≡ self.old.entries }
         ensures queued { IfOk result (λ _.
             self.new.queued.items ≡ self.old.queued.items ++ series ∷ []) }
+        ensures rescan { self.new.needs_rescan ≡ self.old.needs_rescan }
     {
         self.queued.push(series)?;
         if self.ready == Some(series.id) {
@@ -294,6 +313,7 @@ impl RunQueue {
     pub fn take_queued(&mut self, list: &mut Vec<Series>)
         ensures queued { (self.new.queued ≡ list.old) × (list.new ≡ self.old.queued) }
         ensures entries { self.new.entries ≡ self.old.entries }
+        ensures rescan { self.new.needs_rescan ≡ self.old.needs_rescan }
     {
         mem::swap(&mut self.queued, list);
     }
@@ -312,9 +332,10 @@ impl RunQueue {
         }
     }
 
-    /// Completes the turn of `id`: it has none then.
+    /// Completes the turn of `id`: it has none then, and the host has to be looked at.
     pub fn complete(&mut self, id: InstId)
-        ensures { CompletesTurn id self.old.entries.items self.new.entries.items }
+        ensures completes { CompletesTurn id self.old.entries.items self.new.entries.items }
+        ensures rescan { self.new.needs_rescan ≡ true }
     {
         if let Some(at) = self.entry_of(id) {
             self.entries[at] = QueueEntry {
@@ -332,15 +353,18 @@ impl RunQueue {
 
     /// Returns whose step is to be made ready: the one for which a page was moved last, while it still waits for a
     /// frame; else the next one after it that waits and has no turn. Returns `None` while a step is ready that waits
-    /// for its turn, and once the queue is closed.
+    /// for its turn, and once the queue is closed. A step that was made ready is given up if its call waits no more.
     pub fn next_waiter(&mut self, host: &Host) -> Option<Waiter>
-        ensures some { IfSome result (λ waiter. (self.old.ready ≡ None)
+        ensures some { IfSome result (λ waiter. (self.new.ready ≡ None)
             × Tells host.now true (λ w. IsAwaiting w waiter.id)) }
-        ensures same { (self.new.entries ≡ self.old.entries) × (self.new.ready ≡ self.old.ready) }
+        ensures ready { KeepsReady host.now self.old.ready self.new.ready }
+        ensures same { (self.new.entries ≡ self.old.entries)
+            × (self.new.needs_rescan ≡ self.old.needs_rescan) }
     {
-        if self.is_closed || self.ready.is_some() {
+        if self.is_closed || self.waits_for_turn(host) {
             return None;
         }
+        self.ready = None;
         if !self.still_waits(host) {
             self.begin_with_next(host);
         }
@@ -350,6 +374,17 @@ impl RunQueue {
             id,
             at_once: self.voids >= MOST_VOIDS,
         })
+    }
+
+    // Whether a step is ready whose call still waits: for its turn now.
+    fn waits_for_turn(&self, host: &Host) -> bool
+        ensures none { result ≡ false → (id : InstId) → self.now.ready ≡ Some id
+            → Tells host.now false (λ w. IsAwaiting w id) }
+    {
+        match self.ready {
+            Some(id) => host.awaits_frame(id),
+            None => false,
+        }
     }
 
     // Whether the one that is served still waits for a frame.
@@ -367,7 +402,8 @@ impl RunQueue {
     fn begin_with_next(&mut self, host: &Host)
         ensures served { (id : InstId) → self.new.served ≡ Some id
             → Tells host.now true (λ w. IsAwaiting w id) }
-        ensures same { (self.new.entries ≡ self.old.entries) × (self.new.ready ≡ self.old.ready) }
+        ensures same { (self.new.entries ≡ self.old.entries) × (self.new.ready ≡ self.old.ready)
+            × (self.new.needs_rescan ≡ self.old.needs_rescan) }
     {
         self.served = None;
         self.voids = 0;
@@ -383,12 +419,120 @@ impl RunQueue {
         }
     }
 
+    // One has come: the host has to be looked at, and series are short for a while.
+    fn note_arrival(&mut self)
+        ensures rescan { self.new.needs_rescan ≡ true }
+        ensures short { self.new.calm_from ≡ min (self.old.turns + 2 ^ 20) (2 ^ 64 - 1) }
+        ensures arrivals { self.new.arrivals ≡ (self.old.arrivals + 1) % 2 ^ 64 }
+        ensures turns { self.new.turns ≡ self.old.turns }
+        ensures entries { (self.new.entries ≡ self.old.entries) × (self.new.ready ≡ self.old.ready)
+            × (self.new.queued ≡ self.old.queued) }
+    {
+        self.needs_rescan = true;
+        self.arrivals = self.arrivals.wrapping_add(1);
+        self.calm_from = self.turns.saturating_add(TURNS_UNTIL_CALM);
+    }
+
+    /// Adds an instance, whose calls are run from now on, behind all others. If it is there, it is woken.
+    ///
+    /// # Errors
+    /// `AllocError` if an allocation fails: no entry has changed.
+    pub fn join(&mut self, id: InstId) -> Result<(), AllocError>
+        ensures ok { OnOk result (JoinsQueue id self.old.entries.items self.new.entries.items) }
+        ensures err { OnErr result (self.new.entries.items ≡ self.old.entries.items) }
+        ensures rescan { OnOk result (self.new.needs_rescan ≡ true) }
+        ensures short { OnOk result (self.new.calm_from ≡ min (self.old.turns + 2 ^ 20) (2 ^ 64 - 1)) }
+        ensures arrivals { OnOk result (self.new.arrivals ≡ (self.old.arrivals + 1) % 2 ^ 64) }
+        ensures same { (self.new.turns ≡ self.old.turns) × (self.new.ready ≡ self.old.ready)
+            × (self.new.queued.items ≡ self.old.queued.items) }
+    {
+        if self.entry_of(id).is_none() {
+            self.queued.reserve(1)?;
+            self.entries.push(QueueEntry {
+                id,
+                is_dispatched: false,
+            })?;
+        }
+        self.note_arrival();
+        Ok(())
+    }
+
+    /// Notes that an instance may go on that couldn't before, as it was asked for something. Changes nothing if it isn't
+    /// there. Returns whether its step was made ready: whoever makes steps ready has to look whether it still waits.
+    pub fn wake(&mut self, id: InstId) -> bool
+        ensures some { HasQueueEntry id self.old.entries.items → (self.new.needs_rescan ≡ true)
+            × (self.new.calm_from ≡ min (self.old.turns + 2 ^ 20) (2 ^ 64 - 1))
+            × (self.new.arrivals ≡ (self.old.arrivals + 1) % 2 ^ 64) }
+        ensures none { HasNoEntry id self.old.entries.items 0 (length self.old.entries.items)
+            → self.new ≡ self.old }
+        ensures same { (self.new.entries ≡ self.old.entries) × (self.new.turns ≡ self.old.turns)
+            × (self.new.ready ≡ self.old.ready) × (self.new.queued ≡ self.old.queued) }
+        ensures ready { IsTrue result ↔ (self.old.ready ≡ Some id) }
+    {
+        if self.entry_of(id).is_some() {
+            self.note_arrival();
+        }
+        self.ready == Some(id)
+    }
+
+    /// Removes an instance, whose calls are run no more: it has no entry then, and a step that was made ready for it is given
+    /// up, so that another one's can be. A turn of it that is out comes back, and `complete` finds no entry. Returns whether a
+    /// step was given up.
+    pub fn leave(&mut self, id: InstId) -> bool
+        ensures leaves { LeavesQueue id self.old.entries.items self.new.entries.items }
+        ensures gives_up { self.old.ready ≡ Some id → self.new.ready ≡ None }
+        ensures ready { self.old.ready ≢ Some id → self.new.ready ≡ self.old.ready }
+        ensures given_up { IsTrue result ↔ (self.old.ready ≡ Some id) }
+        ensures same { (self.new.turns ≡ self.old.turns) × (self.new.queued ≡ self.old.queued)
+            × (self.new.arrivals ≡ self.old.arrivals) × (self.new.calm_from ≡ self.old.calm_from) }
+        ensures rescan { self.new.needs_rescan ≡ true }
+    {
+        if let Some(at) = self.entry_of(id) {
+            let _ = self.entries.remove(at);
+        }
+        self.needs_rescan = true;
+        let was_ready = self.ready == Some(id);
+        if was_ready {
+            self.ready = None;
+        }
+        was_ready
+    }
+
+    /// Returns how many turns a series has at most that is dispatched now: any number where the last arrival is long past; else
+    /// all that are out together have about `short`.
+    pub fn most_turns(&self, short: u32) -> u32
+        ensures calm { self.now.calm_from ≤ self.now.turns → result ≡ 2 ^ 32 - 1 }
+        ensures short { self.now.turns < self.now.calm_from → result ≤ max short 1 }
+        ensures some { 0 < result }
+    {
+        if self.calm_from <= self.turns {
+            return u32::MAX;
+        }
+        let out = u32::try_from(self.dispatched).unwrap_or(u32::MAX);
+        (short / out.max(1)).max(1)
+    }
+
+    /// Returns the instance whose page is the one of this number: they take turns, in order. Returns `None` if there is none.
+    pub fn offers_at(&self, number: u64) -> Option<InstId>
+        ensures some { IfSome result (λ id. IsQueueEntryOf id self.now.entries.items
+            (number % length self.now.entries.items)) }
+        ensures none { IfNone result (self.now.entries.items ≡ []) }
+    {
+        let many = self.entries.len() as u64;
+        if many == 0 {
+            return None;
+        }
+        Some(self.entries[(number % many) as usize].id)
+    }
+
     /// Notes the outcome of a move for the instance served. Returns whether it may go on now, or not at all.
     pub fn note(&mut self, id: InstId, moved: Moved) -> bool
         ensures ends { result ≡ ends_service moved }
         ensures ready { moved ≡ Ready → self.new.ready ≡ Some id }
         ensures left { moved ≢ Ready → self.new.ready ≡ self.old.ready }
         ensures entries { self.new.entries ≡ self.old.entries }
+        ensures rescan { (self.old.needs_rescan ≡ true) ⊎ (result ≡ true)
+            → self.new.needs_rescan ≡ true }
     {
         self.is_moving = false;
         match moved {

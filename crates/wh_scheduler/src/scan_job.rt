@@ -22,7 +22,9 @@ const MOST_LOOKS: u64 = 64;
 pub struct Look {
     // Whose it is.
     id: InstId,
-    // Which.
+    // In which round of all instances it is offered.
+    round: u64,
+    // Which: 0 while it wasn't looked at.
     page: u32,
     // Its bytes; none where it had no frame of its own, and shared none without an entry.
     sample: Option<Sample>,
@@ -35,10 +37,8 @@ pub struct Look {
 pub struct ScanJob<D: SwapDev, T: Ledger, C: Ledger, O: Ledger, E: Ledger, B: CellAgreements, H> {
     /// The cell.
     pub cell: HostCell<D, T, C, O, E, B>,
-    /// How many turns were dispatched.
+    /// How many turns were dispatched, and whose pages are offered, in turn.
     pub schedule: Arc<Schedule, Global>,
-    /// Whose pages are offered, in turn.
-    pub ids: Arc<Vec<InstId>, Global>,
     /// How pages are hashed.
     pub hasher: H,
     /// The pages that were looked at last. Where it is shared there is room for as many as are looked at.
@@ -53,7 +53,6 @@ impl<D: SwapDev + Drop, T: Ledger, C: Ledger, O: Ledger, E: Ledger, B: CellAgree
         let ScanJob {
             cell: _,
             schedule: _,
-            ids: _,
             hasher: _,
             looks: _,
             alloc: _,
@@ -95,29 +94,37 @@ impl<
         locked
     }
 
-    // Looks at the pages that are offered after the first `count`, as they are now, and at as many as there is room
-    // for.
-    fn look<R: Wait>(&self, rt: &R, count: u64, due: u64, looks: &mut Vec<Look>) {
+    // Chooses the instances whose pages are offered after the first `count`: as many as are due, and there is room for.
+    fn choose<R: Wait>(&self, rt: &R, count: u64, due: u64, looks: &mut Vec<Look>) {
         looks.clear();
-        let many = self.ids.len() as u64;
-        if many == 0 {
-            return;
-        }
-        let locked = self.lock(rt);
+        let run_queue = self.schedule.run_queue.lock(rt);
+        let many = run_queue.entries.len() as u64;
         for step in 0..due.min(MOST_LOOKS) {
             let at = count.wrapping_add(step);
-            let id = self.ids[(at % many) as usize];
-            let page = page_in_round(at / many, locked.host().size_at(id.place));
-            let sample = locked.host().sample(id, page);
+            let Some(id) = run_queue.offers_at(at) else {
+                return;
+            };
             let look = Look {
                 id,
-                page,
-                sample,
+                round: at / many.max(1),
+                page: 0,
+                sample: None,
                 hash: 0,
             };
             if looks.push(look).is_err() {
                 return;
             }
+        }
+    }
+
+    // Looks at the pages of the instances that were chosen, as they are now.
+    fn look<R: Wait>(&self, rt: &R, looks: &mut [Look]) {
+        let locked = self.lock(rt);
+        for at in 0..looks.len() {
+            let Look { id, round, .. } = looks[at];
+            let page = page_in_round(round, locked.host().size_at(id.place));
+            looks[at].page = page;
+            looks[at].sample = locked.host().sample(id, page);
         }
     }
 
@@ -164,10 +171,11 @@ impl<
             return HelpOutcome::Waits;
         }
         let mut looks = self.looks.lock(rt);
-        self.look(rt, helper.count(), due, &mut looks);
+        self.choose(rt, helper.count(), due, &mut looks);
         if looks.is_empty() {
             return HelpOutcome::Ended;
         }
+        self.look(rt, &mut looks);
         self.hash(&mut looks);
         self.offer(rt, &looks, helper)
     }
@@ -179,12 +187,10 @@ impl<
     fn share(&self) -> Result<Self, AllocError> {
         let cell = self.cell.share()?;
         let schedule = Arc::try_clone(&self.schedule)?;
-        let ids = Arc::try_clone(&self.ids)?;
         let looks = Vec::with_capacity(self.alloc, MOST_LOOKS as usize)?;
         Ok(ScanJob {
             cell,
             schedule,
-            ids,
             hasher: self.hasher,
             looks: Mutex::new(looks),
             alloc: self.alloc,

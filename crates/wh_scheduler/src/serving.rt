@@ -6,11 +6,9 @@ ghost use Rattle.wh_threads.specs.Counting.{turns_of};
 ghost use Rattle.wh_threads.specs.Handover.{SameMessages};
 ghost use Rattle.wh_workers.specs.Serving.{AreRun, AreTurns};
 
-use crate::frame_waits::FrameWaits;
 use crate::jobs::{ReclaimJob, Schedule, TurnSupply};
 use crate::run_queue::RunQueue;
 use crate::scan_job::ScanJob;
-use crate::spin_backoff::SpinBackoff;
 use crate::turn_job::TurnJob;
 use std::alloc::{AllocError, Global};
 use std::sync::atomic::AtomicU64;
@@ -66,10 +64,6 @@ fn staff_of<
     let Ok(schedule) = Arc::new(alloc, Schedule::new(alloc, run_queue, run_config.workers)?) else {
         return Err(AllocError);
     };
-    let copies = Vec::from_slice(alloc, ids)?;
-    let Ok(all) = Arc::new(alloc, copies) else {
-        return Err(AllocError);
-    };
     let Ok(threads) = Arc::new(alloc, rt) else {
         return Err(AllocError);
     };
@@ -83,7 +77,6 @@ fn staff_of<
     let scans = ScanJob {
         cell: cell.share()?,
         schedule: Arc::try_clone(&schedule)?,
-        ids: all,
         hasher: run_config.hasher,
         looks: Mutex::new(Vec::new(alloc)),
         alloc,
@@ -92,14 +85,7 @@ fn staff_of<
         cell: cell.share()?,
         schedule: Arc::try_clone(&schedule)?,
     };
-    let supply = TurnSupply {
-        cell: cell.share()?,
-        schedule,
-        queued: Vec::with_capacity(alloc, ids.len())?,
-        dispatched: 0,
-        spin_backoff: SpinBackoff::new(),
-        frame_waits: FrameWaits::new(),
-    };
+    let supply = TurnSupply::new(alloc, cell.share()?, schedule, ids.len(), u32::MAX)?;
     let jobs = Jobs {
         turns,
         scans,

@@ -21,6 +21,10 @@ loop-at-preserved c =
         λ no none. absurd (let bad : true ≡ false = sym w.is_dispatched-is ∙ none in cc bad),
         λ yes. was.4 (sym w.waits-is ∙ yes),
         λ yes. (at, entry, there, c.prospect_of.ensures.dispatched w.in-Out.is),
+        was.6,
+        was.7,
+        was.8,
+        was.9,
       )
       | in-Later w ↦ (
         was.0,
@@ -29,6 +33,10 @@ loop-at-preserved c =
         λ no none. absurd (let bad : true ≡ false = sym w.waits-is ∙ no in cc bad),
         λ yes. (let later = c.prospect_of.ensures.later w.in-Later.is in (at, entry, there, later.0, later.1, subst (λ r. r ≢ Some entry.id) was.1 later.2)),
         λ yes. was.5 (sym w.is_dispatched-is ∙ yes),
+        was.6,
+        was.7,
+        was.8,
+        was.9,
       )
       | in-Never w ↦ (
         was.0,
@@ -37,5 +45,9 @@ loop-at-preserved c =
         λ no none. rest_more c.args.host.now entries.items c.args.from at entry (was.3 (sym w.waits-is ∙ no) (sym w.is_dispatched-is ∙ none)) there (c.prospect_of.ensures.never w.in-Never.is),
         λ yes. was.4 (sym w.waits-is ∙ yes),
         λ yes. was.5 (sym w.is_dispatched-is ∙ yes),
+        was.6,
+        was.7,
+        was.8,
+        was.9,
       )
     ]

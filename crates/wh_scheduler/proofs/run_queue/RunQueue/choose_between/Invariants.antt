@@ -10,3 +10,7 @@ invariant-loop-at l =
     × (l.waits ≡ false → l.is_dispatched ≡ false → RestBetween l.host l.fn.self.entries.items l.from l.at)
     × (l.waits ≡ true → WantsFrame l.host l.fn.self.entries.items l.fn.self.ready)
     × (l.is_dispatched ≡ true → HasTurnOut l.fn.self.entries.items)
+    × (l.self.needs_rescan ≡ l.fn.self.needs_rescan)
+    × (l.self.arrivals ≡ l.fn.self.arrivals)
+    × (l.self.calm_from ≡ l.fn.self.calm_from)
+    × (l.self.turns ≡ l.fn.self.turns)
