@@ -11,6 +11,7 @@ LOOP = re.compile(r"^( *)for _ in [\w.]+\.forever\(\) \{(.*)$", re.M)
 ENDS = {
     "wh_cell/src/cell.rt": (1, "the last other handle of the cell is dropped"),
     "wh_engine/src/running.rt": (1, "no call can go on, or a thread is refused"),
+    "wh_live/src/live_supply.rt": (1, "the host is to stop, or a turn is due"),
     "wh_scheduler/src/jobs.rt": (2, "a turn is due, or no instance can go on; each instance had its look"),
     "wh_scheduler/src/turn_lock.rt": (1, "all who asked for the turn lock before have released it"),
     "wh_threads/src/help.rt": (1, "the helper is told to stop, has counted what is wanted, or comes to its end"),
