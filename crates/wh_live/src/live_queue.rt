@@ -125,7 +125,7 @@ impl LiveQueue {
         self.schedule.turn_completed.notify_all();
     }
 
-    /// Returns whether it is to stop.
+    /// Returns whether it is to stop, or has ended.
     pub fn is_over(&self) -> bool {
         self.stage.is_over.load(Ordering::SeqCst)
     }

@@ -13,7 +13,8 @@ use wh_scheduler::ScanJob;
 use wh_swap::SwapDev;
 use wh_threads::{Help, HelpOutcome, Helper};
 
-/// Makes the passes that are asked for, and offers a page for each 64 dispatched turns. Where no instance is there it waits for one.
+/// Makes the passes that are asked for, and offers a page for each 64 dispatched turns. Where no instance is there it waits
+/// for one.
 pub struct LiveScanJob<
     D: SwapDev,
     T: Ledger,

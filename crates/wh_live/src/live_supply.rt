@@ -8,8 +8,8 @@ use wh_scheduler::{Choice, Series, TurnSupply};
 use wh_swap::SwapDev;
 use wh_workers::{Next, Supply};
 
-/// Dispatches turns of whoever can go on and has none, until the host is to stop. Where none can it sleeps: until a turn completes, an
-/// instance joins or is woken, or the host is to stop.
+/// Dispatches turns of whoever can go on and has none, until the host is to stop. Where none can it sleeps: until a turn
+/// completes, an instance joins or is woken, or the host is to stop.
 pub struct LiveSupply<D: SwapDev, T: Ledger, C: Ledger, O: Ledger, E: Ledger, B: CellAgreements> {
     turns: TurnSupply<D, T, C, O, E, B>,
     queue: LiveQueue,

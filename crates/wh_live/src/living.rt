@@ -1,4 +1,5 @@
-//! A run of calls that has no end of its own: turns on a cell by workers, with a scanner and a reclaimer, until the host is to stop.
+//! A run of calls that has no end of its own: turns on a cell by workers, with a scanner and a reclaimer, until the host
+//! is to stop.
 
 ghost use Rattle.std.specs.Prelude.{◌≡◌, ◌+◌, ◌<◌, ◌≤◌, None, IfNone, IfOk, OnErr, OnOk};
 ghost use Rattle.crossbeam_channel.specs.Claims.{view};
@@ -95,18 +96,19 @@ fn parts_of<
     Ok(LiveParts { jobs, supply })
 }
 
-/// Runs the calls of the instances of `queue` until that is to stop (`LiveQueue::end`), those that join meanwhile too. The calling
-/// thread dispatches the turns, and runs none: `run_config.workers` threads do, while a scanner offers pages and makes the passes that
-/// are asked for, and a reclaimer makes steps ready that wait for frames. All of these are started before the first turn, and
-/// stay. Whoever has nothing to do sleeps.
+/// Runs the calls of the instances of `queue` until that is to stop (`LiveQueue::end`), those that join meanwhile too. The
+/// calling thread dispatches the turns, and runs none: `run_config.workers` threads do, while a scanner offers pages and
+/// makes the passes that are asked for, and a reclaimer makes steps ready that wait for frames. All of these are started
+/// before the first turn, and stay. Whoever has nothing to do sleeps.
 ///
-/// Returns what was dispatched and run, however it ended. If no message is left over, each dispatched turn was received once, and
-/// the workers' counts have grown by as many. Calls that could go on when it was to stop are as far as they came. No count gets
-/// smaller.
+/// Returns what was dispatched and run, however it ended. If no message is left over, each dispatched turn was received
+/// once, and the workers' counts have grown by as many. Calls that could go on when it was to stop are as far as they came.
+/// The queue is over then (`LiveQueue::is_over`). No count gets smaller.
 ///
 /// # Errors
-/// `Memory` if an allocation fails: no thread was started then. `Served::end` says so if there was no room for the crew, and
-/// `NoThread` if a thread couldn't be started: no turn was dispatched then, and all threads that were started have ended.
+/// `Memory` if an allocation fails: no thread was started then. `Served::end` says so if there was no room for the crew,
+/// and `NoThread` if a thread couldn't be started: no turn was dispatched then, and all threads that were started have
+/// ended.
 pub fn run_live<
     D: SwapDev + Drop + Send + 'static,
     T: Ledger + Send + 'static,
@@ -140,6 +142,7 @@ pub fn run_live<
     ensures owner { shares.new.owner ≡ shares.old.owner }
 {
     let Ok(parts) = parts_of(rt, alloc, cell, queue, passes, run_config) else {
+        queue.end();
         return Err(ServeError::Memory);
     };
     let LiveParts { jobs, mut supply } = parts;
@@ -147,5 +150,7 @@ pub fn run_live<
         workers: run_config.workers,
         quantum: run_config.quantum,
     };
-    serve_on(rt, alloc, jobs, &mut supply, shares, crew)
+    let served = serve_on(rt, alloc, jobs, &mut supply, shares, crew);
+    queue.end();
+    served
 }
