@@ -23,8 +23,8 @@ use wh_swap::SwapDev;
 use wh_threads::Shares;
 use wh_workers::{Jobs, ServeError, Served, WorkerSetup, serve_on};
 
-// How many charges all series that are out have together while instances arrive: for about a millisecond.
-const SHORT_CHARGES: u32 = 1 << 19;
+// How many charges all series that are out have together while instances arrive: for a millisecond or less.
+const SHORT_CHARGES: u32 = 1 << 18;
 
 // What the threads of a run do, and who dispatches the turns.
 struct LiveParts<
