@@ -64,7 +64,7 @@ pub fn begin<
     let host = Host::new(alloc, 8, 64, Tax { num: 0, den: 1 })?;
     let (cell, owner, shares) = HostCell::new(alloc, host, cell_parts)?;
     let handle = cell.share()?;
-    let (desk, share) = HostDesk::new(alloc, handle, owner, trace, replies);
+    let (desk, share) = HostDesk::new(alloc, handle, owner, trace, replies)?;
     Ok(Begun {
         desk,
         share,

@@ -1,3 +1,5 @@
 mod Nothing
 mod Others
+mod Owners
+mod Owning
 mod Traced

@@ -1,11 +1,8 @@
 -- What a host replies where there is no such instance, and no such module.
-use Rattle.std.proofs.Common.{◌≡◌, ◌<◌, Some, None, Ok, Err, refl, subst, sym, arith}
+use Rattle.std.proofs.Common.{◌<◌, None, refl, subst, sym, arith}
 use Rattle.wh_space_model.specs.declared.plain.InstId.{InstId}
-use Rattle.wh_host_model.specs.Host.{World, Tenant as Instance, loaded_of, IsLive, NoInstance, has_no_instance, invoke_no_instance, no_one_to_refuel, no_one_to_cancel, no_one_to_retry, no_one_to_release, call_no_instance, isnt_admitted, admit_refused, MeetsFault, IsFirstMet}
-use Rattle.wh_host_model.specs.{Params as Given, AdmitFault, no_module, shares, min_max, frames, swap, instances, memory, segments, admit_rank}
-use Rattle.wh_params.specs.View.{view_params}
-use Rattle.wh_params.specs.declared.Params.{Params}
-use Rattle.wh_host.specs.declared.parts.ModuleId.{ModuleId}
+use Rattle.wh_host_model.specs.Host.{World, NoInstance, has_no_instance, invoke_no_instance, no_one_to_refuel, no_one_to_cancel, no_one_to_retry, no_one_to_release, call_no_instance, isnt_admitted, admit_refused}
+use Rattle.wh_host_model.specs.{AdmitFault, no_module, shares, min_max, frames, swap, instances, memory, segments, admit_rank}
 use Rattle.wh_host.specs.Hosting.{HostState, IsHost}
 use Rattle.wh_desk.specs.declared.trace.Question.{Question}
 use Rattle.wh_desk.specs.declared.trace.Question.TheVariants.{Load, Admit, Invoke, Refuel, Cancel, Retry, Release, BeginEpoch, Status, Report, Transcript}

@@ -1,10 +1,10 @@
 -- A request about one instance leaves all others.
-use Rattle.std.proofs.Common.{◌≡◌, ◌≢◌, ◌⊎◌, ⊎_elim, inl, inr, ℕ, ℤ, zero, suc, ◌<◌, List, [], ◌∷◌, ◌++◌, length, Option, Some, None, Result, get_or, slice_set, refl, sym, ap, subst, ◌∙◌, arith}
+use Rattle.std.proofs.Common.{◌≡◌, ◌≢◌, ⊎_elim, ℕ, ℤ, zero, suc, List, [], ◌∷◌, ◌++◌, length, Option, Some, None, get_or, refl, sym, ap, subst, ◌∙◌, arith}
 use Rattle.std.proofs.lemmas.List.{get_or-set_other}
 use Rattle.wh_space_model.specs.declared.plain.InstId.{InstId}
 use Rattle.wh_space_model.specs.{Space, view}
 use Rattle.wh_host_model.specs.{Params}
-use Rattle.wh_host_model.specs.Host.{Tenant as Instance, World, tenant, with_tenant, IsLive, IsInvoke, InvokeAnswer, is_invoked, has_no_instance, isnt_invoked, no_memory_to_invoke, CallAnswer, IsRefuel, is_refueled, no_one_to_refuel, no_call_to_refuel, IsCancel, is_cancelled, no_one_to_cancel, no_call_to_cancel, IsRetry, is_retried, no_one_to_retry, no_fault_to_retry, IsRelease, is_released, no_one_to_release, IsLoad, LoadAnswer, is_loaded, isnt_loaded, no_memory_to_load, IsAdmit, AdmitAnswer, is_admitted, isnt_admitted, no_memory_to_admit, ComesAbout, Cancels, PlacesAreTenants}
+use Rattle.wh_host_model.specs.Host.{Tenant as Instance, World, tenant, with_tenant, IsLive, IsInvoke, InvokeAnswer, is_invoked, has_no_instance, isnt_invoked, no_memory_to_invoke, CallAnswer, IsRefuel, is_refueled, no_one_to_refuel, no_call_to_refuel, IsCancel, is_cancelled, no_one_to_cancel, no_call_to_cancel, IsRetry, is_retried, no_one_to_retry, no_fault_to_retry, IsRelease, is_released, no_one_to_release, IsLoad, LoadAnswer, is_loaded, isnt_loaded, no_memory_to_load, IsAdmit, AdmitAnswer, is_admitted, isnt_admitted, no_memory_to_admit, ComesAbout, Cancels}
 use Rattle.wh_host_model.specs.Host.OwnerCalls.{ends}
 use Rattle.wh_params.specs.View.{view_params}
 use Rattle.wh_host.specs.Hosting.{HostState, IsHost}
@@ -18,7 +18,7 @@ use Rattle.wh_desk.specs.declared.trace.Question.TheVariants.{Load, Admit, Invok
 use Rattle.wh_desk.specs.declared.trace.TraceEntry.{TraceEntry}
 use Rattle.wh_desk.specs.Others.{KeepsOthers, KeepsOthersOf}
 use Rattle.wh_desk.specs.Permits.{IsTenants, MayAsk, OwnershipState, Permits}
-use Rattle.wh_desk.specs.Replying.{HostReplies, IsRight, by_host, by_refusal, for_room}
+use Rattle.wh_desk.specs.Replying.{HostReplies, IsRight, by_host, by_refusal}
 
 -- ---- one instance
 
@@ -172,7 +172,6 @@ by_who : {D : Type 0} (owned : OwnershipState) (who : Principal) (e : TraceEntry
 by_who owned Operator e is right = tt
 by_who owned (Tenant t) e is (by_host may answers device) = asked owned t e.question e.reply e.at.host e.left.host (subst (λ who. Permits owned who e.question) is may) answers
 by_who owned (Tenant t) e is (by_refusal may_not reply same) = nothing_done owned t e.at.host e.left.host (ap (λ (z : LeftState _). z.host) same)
-by_who owned (Tenant t) e is (for_room may reply same) = nothing_done owned t e.at.host e.left.host (ap (λ (z : LeftState _). z.host) same)
 
 -- Nor does any reply to a tenant.
 pub others_stay : {D : Type 0} (owned : OwnershipState) (e : TraceEntry D) → IsRight owned e → KeepsOthersOf owned e.who e.at.host e.left.host

@@ -1,5 +1,5 @@
 -- A trace goes on by a reply.
-use Rattle.std.proofs.Common.{◌≡◌, ◌+◌, ℕ, List, [], ◌∷◌, length, suc, refl, sym, ap, subst, ◌∙◌, arith}
+use Rattle.std.proofs.Common.{◌≡◌, ◌+◌, ℕ, List, length, suc, sym, ap, subst, ◌∙◌, arith}
 use Rattle.wh_space_model.specs.declared.plain.SwapError.{SwapError}
 use Rattle.wh_space_model.specs.declared.Tax.{Tax}
 use Rattle.wh_host.specs.Hosting.{HostState, IsNewHost}
@@ -10,14 +10,15 @@ use Rattle.wh_cell.specs.Owning.{ComesOn}
 use Rattle.wh_desk.specs.declared.principal.Principal.{Principal}
 use Rattle.wh_desk.specs.declared.request.DeskReply.{DeskReply}
 use Rattle.wh_desk.specs.declared.request.DeskRequest.{DeskRequest}
-use Rattle.wh_desk.specs.declared.trace.Question.{Question}
 use Rattle.wh_desk.specs.declared.trace.Trace.{Trace}
 use Rattle.wh_desk.specs.declared.trace.TraceEntry.{TraceEntry}
-use Rattle.wh_desk.specs.Permits.{OwnershipState, nothing_owned, owned_after}
+use Rattle.wh_desk.specs.Bounded.{OwnsAll}
+use Rattle.wh_desk.specs.Permits.{OwnershipState, owned_after}
 use Rattle.wh_desk.specs.Questions.{question_of}
 use Rattle.wh_desk.specs.Replying.{IsRight}
 use Rattle.wh_desk.specs.Tracing.{Follows, IsLedThere, IsTrace, Replies, entry, left_by, owned_in, trace_from, with_entry}
 use Rattle.wh_desk.proofs.Others.{others_stay}
+use Rattle.wh_desk.proofs.Owning.{worked}
 
 module _ {D : Type 0} where
   -- what is known after the owner was told
@@ -84,3 +85,8 @@ module _ {D : Type 0} (keeps honest : D → Type 0) (faults : D → List SwapErr
       → (frames slots : ℕ) × (tax : Tax) × IsNewHost first.host frames slots tax → IsTrace keeps honest faults t
   begins_so t first is new =
       subst (IsTrace keeps honest faults) (sym is) (record { frames = new.0; slots = new.1; tax = new.2; new = new.3; all = tt })
+
+  -- each instance is somebody's in the host that is found
+  pub found_owned : (owned : OwnershipState) (owner at : LeftState D) (l : LockedState D) → at ≡ now_of l → ComesOn keeps honest faults owner (now_of l)
+      → OwnsAll owned owner.host → OwnsAll owned at.host
+  found_owned owned owner at l is came owns = worked keeps honest faults owned owner at (subst (ComesOn keeps honest faults owner) (sym is) came) owns

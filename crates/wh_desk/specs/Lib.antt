@@ -1,4 +1,5 @@
 pub mod AsNone
+pub mod Bounded
 pub mod Others
 pub mod Permits
 pub mod Questions

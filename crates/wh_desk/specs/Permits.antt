@@ -1,5 +1,5 @@
 -- Whose each module and each instance is, and who may ask for what.
-use Rattle.std.specs.Prelude.{◌≡◌, ◌⊎◌, ℕ, ◌++◌, ◌==◌, ◌||◌, Bool, not, List, [], ◌∷◌, filter, Contains, ⊤, Ok, Err, None}
+use Rattle.std.specs.Prelude.{◌⊎◌, ℕ, ◌++◌, ◌==◌, Bool, not, List, [], ◌∷◌, filter, Contains, ⊤, Ok, Err, None}
 use Rattle.wh_space_model.specs.declared.plain.InstId.{InstId}
 use Rattle.wh_host.specs.declared.parts.ModuleId.{ModuleId}
 use Rattle.wh_host.specs.declared.error.HostError.TheVariants.{NoInstance}
@@ -27,9 +27,9 @@ ownership_of o = record { modules = o.modules.items; instances = o.instances.ite
 abbrev pub nothing_owned : OwnershipState
 nothing_owned = record { modules = []; instances = [] }
 
--- it is of another instance
+-- it is of another instance: no two have one number
 abbrev pub is_other : InstId → OwnedInstance → Bool
-is_other id x = not (x.id.number == id.number) || not (x.id.place == id.place)
+is_other id x = not (x.id.number == id.number)
 
 -- A module is whoever's asked for it to be loaded, an instance whoever's asked for it to be admitted, until it is released.
 abbrev pub owned_after : Principal → Question → DeskReply → OwnershipState → OwnershipState

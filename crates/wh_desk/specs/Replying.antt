@@ -1,5 +1,5 @@
 -- What a host replies to a question, and what a desk does.
-use Rattle.std.specs.Prelude.{◌≡◌, ℕ, Option, Result, Ok, Err, IfErr, IfOk, OnOk}
+use Rattle.std.specs.Prelude.{◌≡◌, ℕ, Option, Result, IfErr, IfOk, OnOk}
 use Rattle.std.specs.Global.{Vec}
 use Rattle.wh_params.specs.View.{view_params}
 use Rattle.wh_space_model.specs.declared.plain.InstId.{InstId}
@@ -8,13 +8,11 @@ use Rattle.wh_space_model.specs.Stores.{Epochs, ended}
 use Rattle.wh_host_model.specs.Host.Worlds.{promised}
 use Rattle.wh_host_model.specs.Host.Happens.{IsCancel, IsRefuel, IsRetry}
 use Rattle.wh_admit.specs.declared.error.AdmitError.{AdmitError}
-use Rattle.wh_admit.specs.declared.error.AdmitError.TheVariants as admission
 use Rattle.wh_instance.specs.declared.stages.CallStatus.{CallStatus}
 use Rattle.wh_transcript.specs.Transcripts.{TranscriptState}
 use Rattle.wh_host.specs.declared.error.HostError.{HostError}
 use Rattle.wh_host.specs.declared.error.HostError.TheVariants as hosting
 use Rattle.wh_host.specs.declared.error.ModuleError.{ModuleError}
-use Rattle.wh_host.specs.declared.error.ModuleError.TheVariants as loading
 use Rattle.wh_host.specs.declared.parts.ModuleId.{ModuleId}
 use Rattle.wh_host.specs.Admitting.{AnswersAdmit}
 use Rattle.wh_host.specs.CallRequests.{AnswersCall, AnswersInvoke}
@@ -63,16 +61,8 @@ HostReplies h Report reply h2 =
 HostReplies h (Transcript id) reply h2 =
     (r : Result TranscriptState HostError) × (reply ≡ says.Transcript r) × ShowsInstance h id r × (h2 ≡ h)
 
--- Room to keep whose it would be was refused.
-abbrev pub LacksRoom : Question → DeskReply → Type 0
-LacksRoom (Load bytes) reply = reply ≡ says.Loaded (Err loading.Memory)
-LacksRoom (Admit of params) reply = reply ≡ says.Admitted (Err admission.Memory)
-LacksRoom other reply = ⊥
-
--- The reply is the host's, and its device isn't called; or the desk's own, and nothing changes: to who may not ask for it, and
--- where there is no room to keep whose it would be.
+-- The reply is the host's, and its device isn't called; or who asks may not, and nothing changes.
 pub data IsRight {D : Type 0} (owned : OwnershipState) (e : TraceEntry D) : Type 0 where
   by_host : Permits owned e.who e.question → HostReplies e.at.host e.question e.reply e.left.host
       → e.left.device ≡ e.at.device → IsRight owned e
   by_refusal : ¬ (Permits owned e.who e.question) → e.reply ≡ refusal e.question → e.left ≡ e.at → IsRight owned e
-  for_room : Permits owned e.who e.question → LacksRoom e.question e.reply → e.left ≡ e.at → IsRight owned e

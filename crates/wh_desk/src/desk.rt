@@ -1,6 +1,6 @@
 //! The desk: answers whoever may ask of a host that lies under a lock.
 
-ghost use Rattle.std.specs.Prelude.{◌≡◌, ◌+◌, ◌<◌, ℕ, length};
+ghost use Rattle.std.specs.Prelude.{◌≡◌, ◌+◌, ◌<◌, ℕ, IfOk, length};
 ghost use Rattle.wh_space_model.specs.declared.Tax.{Tax};
 ghost use Rattle.wh_host.specs.Hosting.{IsNewHost};
 ghost use Rattle.wh_desk.specs.Questions.{question_of};
@@ -12,7 +12,7 @@ use crate::record::{Enters, TraceRecord};
 use crate::request::{DeskReply, DeskRequest};
 use crate::respond::respond;
 use crate::trace::Trace;
-use std::alloc::Global;
+use std::alloc::{AllocError, Global};
 use std::marker::Model;
 use std::snapshot::Snapshot;
 use std::sync::Wait;
@@ -75,6 +75,7 @@ impl<
 > Model for HostDesk<D, T, C, O, E, B, N> {
     ghost use Rattle.std.specs.Prelude.{◌≡◌, length};
     ghost use Rattle.wh_desk.specs.declared.trace.Trace.{Trace};
+    ghost use Rattle.wh_desk.specs.Bounded.{HasRoomToOwn, OwnsAll};
     ghost use Rattle.wh_desk.specs.Permits.{ownership_of};
     ghost use Rattle.wh_desk.specs.Tracing.{IsTrace, left_by, owned_in};
 
@@ -89,7 +90,8 @@ impl<
     ghost invariant = { λ d. IsTrace D.keeps D.honest D.faults d.record
         × (d.owner ≡ left_by d.record.first d.record.entries)
         × (ownership_of d.ownership ≡ owned_in d.record.entries)
-        × (d.replies.total ≡ length d.record.entries) };
+        × (d.replies.total ≡ length d.record.entries)
+        × OwnsAll (ownership_of d.ownership) d.owner.host × HasRoomToOwn d.ownership };
 }
 
 impl<
@@ -102,31 +104,35 @@ impl<
     N: Ledger + AgreementId,
 > HostDesk<D, T, C, O, E, B, N> {
     /// Opens a desk for a host that is new, of which `cell` is a handle and `owner` the right; and returns the share of its ledger
-    /// with all parts. `alloc` is where requests take memory from.
+    /// with all parts. `alloc` is where requests take memory from; the desk takes all that it needs itself now.
+    ///
+    /// # Errors
+    /// Where room was refused. The right is gone then.
     pub fn new(
         alloc: Global,
         cell: HostCell<D, T, C, O, E, B>,
         owner: Owner<D, B>,
         trace: BlankAgreement<Trace<D>>,
         replies: Blank,
-    ) -> (HostDesk<D, T, C, O, E, B, N>, Share<N>)
+    ) -> Result<(HostDesk<D, T, C, O, E, B, N>, Share<N>), AllocError>
         requires new { (frames slots : ℕ) × (tax : Tax) × IsNewHost owner.host frames slots tax }
         requires trace { trace ≡ N.AgreementId.table }
         requires replies { (replies.name ≡ N.Ledger.name) × (replies.parts ≡ N.Ledger.parts) }
-        ensures trace { result.0 ≡ trace_from owner }
-        ensures share { (result.1.parts ≡ N.Ledger.parts) × (result.1.amount ≡ 0) }
+        ensures trace { IfOk result (λ r. r.0 ≡ trace_from owner) }
+        ensures share { IfOk result (λ r. (r.1.parts ≡ N.Ledger.parts) × (r.1.amount ≡ 0)) }
     {
+        let ownership = Ownership::new(alloc)?;
         let record = TraceRecord::open(trace, &owner);
         let (replies, share) = replies.open::<N>();
         let desk = HostDesk {
             alloc,
             cell,
             owner,
-            ownership: Ownership::new(alloc),
+            ownership,
             record,
             replies,
         };
-        (desk, share)
+        Ok((desk, share))
     }
 }
 

@@ -1,14 +1,15 @@
 // Whose each module and each instance is.
 
-ghost use Rattle.std.specs.Prelude.{◌≡◌};
+ghost use Rattle.std.specs.Prelude.{◌≡◌, IfOk};
 ghost use Rattle.std.specs.Bool.{MatchBool};
+ghost use Rattle.wh_desk.specs.Bounded.{HasRoomToOwn};
 ghost use Rattle.wh_desk.specs.Permits.{IsTenants, MayAdmit, MayAsk, Permits, nothing_owned, ownership_of, refusal};
 ghost use Rattle.wh_desk.specs.Questions.{question_of};
 
 use crate::principal::Principal;
 use crate::request::{DeskReply, DeskRequest};
-use std::alloc::Global;
-use wh_host::{AdmitError, HostError, ModuleId};
+use std::alloc::{AllocError, Global};
+use wh_host::{AdmitError, HostError, MOST_MODULES, ModuleId};
 use wh_space_model::InstId;
 
 /// A module that was loaded, and whose it is: whoever's asked for it.
@@ -29,7 +30,10 @@ pub struct OwnedInstance {
     pub owner: Principal,
 }
 
-/// Knows whose each module and each instance is, at most 1024 and 4096 of them.
+// How many instances a host has at most.
+const MOST_INSTANCES: usize = 4096;
+
+/// Knows whose each module and each instance is.
 #[derive(Drop)]
 pub struct Ownership {
     pub modules: Vec<OwnedModule>,
@@ -37,14 +41,18 @@ pub struct Ownership {
 }
 
 impl Ownership {
-    /// Returns a table in which nobody has anything.
-    pub fn new(alloc: Global) -> Ownership
-        ensures { ownership_of result ≡ nothing_owned }
+    /// Returns a table in which nobody has anything. Takes all memory that it will ever need.
+    ///
+    /// # Errors
+    /// Where room was refused.
+    pub fn new(alloc: Global) -> Result<Ownership, AllocError>
+        ensures nothing { IfOk result (λ o. ownership_of o ≡ nothing_owned) }
+        ensures room { IfOk result HasRoomToOwn }
     {
-        Ownership {
-            modules: Vec::new(alloc),
-            instances: Vec::new(alloc),
-        }
+        Ok(Ownership {
+            modules: Vec::with_capacity(alloc, MOST_MODULES)?,
+            instances: Vec::with_capacity(alloc, MOST_INSTANCES)?,
+        })
     }
 
     // Whether an instance is this tenant's.

@@ -2,6 +2,7 @@
 
 ghost use Rattle.std.specs.Prelude.{◌≡◌};
 ghost use Rattle.wh_cell.specs.Locking.{now_of};
+ghost use Rattle.wh_desk.specs.Bounded.{HasRoomToOwn, OwnsAll};
 ghost use Rattle.wh_desk.specs.Permits.{Permits, owned_after, ownership_of};
 ghost use Rattle.wh_desk.specs.Questions.{question_of};
 ghost use Rattle.wh_desk.specs.Replying.{IsRight};
@@ -45,15 +46,15 @@ fn load<D: SwapDev, T: Ledger, C: Ledger, O: Ledger, E: Ledger, B: CellAgreement
     request: Load<'_>,
 ) -> Result<ModuleId, ModuleError>
     requires known { owner.old ≡ now_of locked.old }
+    requires owns { OwnsAll (ownership_of ownership.old) owner.old.host }
+    requires room { HasRoomToOwn ownership.old }
     requires permitted { Permits (ownership_of ownership.old) who (asked.Load request.bytes.now) }
     ensures right { IsRight (ownership_of ownership.old)
         (entry who (asked.Load request.entry.bytes.now) (Loaded result) owner.old owner.new) }
     ensures owned { ownership_of ownership.new ≡ owned_after who (asked.Load request.entry.bytes.now)
         (Loaded result) (ownership_of ownership.old) }
+    ensures room { HasRoomToOwn ownership.new }
 {
-    if ownership.modules.reserve(1).is_err() {
-        return Err(ModuleError::Memory);
-    }
     let id = ask(locked, owner, request)?;
     ownership
         .modules
@@ -70,16 +71,16 @@ fn admit<D: SwapDev, T: Ledger, C: Ledger, O: Ledger, E: Ledger, B: CellAgreemen
     request: Admit,
 ) -> Result<InstId, AdmitError>
     requires known { owner.old ≡ now_of locked.old }
+    requires owns { OwnsAll (ownership_of ownership.old) owner.old.host }
+    requires room { HasRoomToOwn ownership.old }
     requires permitted { Permits (ownership_of ownership.old) who
         (asked.Admit request.of request.params) }
     ensures right { IsRight (ownership_of ownership.old)
         (entry who (asked.Admit request.of request.params) (Admitted result) owner.old owner.new) }
     ensures owned { ownership_of ownership.new ≡ owned_after who
         (asked.Admit request.of request.params) (Admitted result) (ownership_of ownership.old) }
+    ensures room { HasRoomToOwn ownership.new }
 {
-    if ownership.instances.reserve(1).is_err() {
-        return Err(AdmitError::Memory);
-    }
     let id = ask(locked, owner, request)?;
     ownership
         .instances
@@ -96,17 +97,18 @@ fn release<D: SwapDev, T: Ledger, C: Ledger, O: Ledger, E: Ledger, B: CellAgreem
     request: Release,
 ) -> Result<Vec<u8>, HostError>
     requires known { owner.old ≡ now_of locked.old }
+    requires owns { OwnsAll (ownership_of ownership.old) owner.old.host }
+    requires room { HasRoomToOwn ownership.old }
     requires permitted { Permits (ownership_of ownership.old) who (asked.Release request.id) }
     ensures right { IsRight (ownership_of ownership.old)
         (entry who (asked.Release request.id) (Released result) owner.old owner.new) }
     ensures owned { ownership_of ownership.new ≡ owned_after who (asked.Release request.id)
         (Released result) (ownership_of ownership.old) }
+    ensures room { HasRoomToOwn ownership.new }
 {
     let id = request.id;
     let output = ask(locked, owner, request)?;
-    ownership
-        .instances
-        .retain(|x| x.id.number != id.number || x.id.place != id.place);
+    ownership.instances.retain(|x| x.id.number != id.number);
     Ok(output)
 }
 
@@ -120,10 +122,13 @@ pub fn respond<D: SwapDev, T: Ledger, C: Ledger, O: Ledger, E: Ledger, B: CellAg
     request: DeskRequest<'_>,
 ) -> DeskReply
     requires known { owner.old ≡ now_of locked.old }
+    requires owns { OwnsAll (ownership_of ownership.old) owner.old.host }
+    requires room { HasRoomToOwn ownership.old }
     ensures right { IsRight (ownership_of ownership.old)
         (entry who (question_of request.entry) result owner.old owner.new) }
     ensures owned { ownership_of ownership.new ≡ owned_after who (question_of request.entry) result
         (ownership_of ownership.old) }
+    ensures room { HasRoomToOwn ownership.new }
 {
     if !ownership.permits(who, &request) {
         return refuse(&request);

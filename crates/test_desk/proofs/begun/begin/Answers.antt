@@ -15,5 +15,5 @@ new-requires-2-clause-uncharged g c = new_uncharged c.in_ok-host.host 8 64 _ c.i
 pub new-requires-2-clause-led : goal.new-requires-2-clause-led
 new-requires-2-clause-led g c honest = new_led c.in_ok-host.host 8 64 _ c.in_ok-host.ensures.ok
 
-pub new-desk-requires-clause-new : goal.new-desk-requires-clause-new
-new-desk-requires-clause-new g c = is_new c.in_ok-host.host _ c.args.cell_parts.device _ c.in_ok-host.ensures.ok c.in_ok-cell.ensures.owner
+pub new-requires-3-clause-new : goal.new-requires-3-clause-new
+new-requires-3-clause-new g c = is_new c.in_ok-host.host _ c.args.cell_parts.device _ c.in_ok-host.ensures.ok c.in_ok-cell.ensures.owner
