@@ -14,15 +14,15 @@ of_this : (h : HostState) (question : Question) (id : InstId) → IsAbout questi
 of_this h (Load bytes) id about none = absurd about
 of_this h (Admit of params) id about none = absurd about
 of_this h (Invoke asked name given fuel) id about none =
-    (_, refl, λ w is. (invoke_no_instance, w, refl, has_no_instance (subst (NoInstance w) (sym about) (none w is)), is))
+    (_, refl, (λ w is. (invoke_no_instance, w, refl, has_no_instance (subst (NoInstance w) (sym about) (none w is)), is)), refl)
 of_this h (Refuel asked fuel) id about none =
-    (_, refl, (λ w is. (call_no_instance, w, refl, no_one_to_refuel (subst (NoInstance w) (sym about) (none w is)), is)), refl)
+    (_, refl, (λ w is. (call_no_instance, w, refl, no_one_to_refuel (subst (NoInstance w) (sym about) (none w is)), is)), refl, refl)
 of_this h (Cancel asked) id about none =
-    (_, refl, (λ w is. (call_no_instance, w, refl, no_one_to_cancel (subst (NoInstance w) (sym about) (none w is)), is)), tt)
+    (_, refl, (λ w is. (call_no_instance, w, refl, no_one_to_cancel (subst (NoInstance w) (sym about) (none w is)), is)), tt, refl)
 of_this h (Retry asked) id about none =
-    (_, refl, (λ w is. (call_no_instance, w, refl, no_one_to_retry (subst (NoInstance w) (sym about) (none w is)), is)), refl)
+    (_, refl, (λ w is. (call_no_instance, w, refl, no_one_to_retry (subst (NoInstance w) (sym about) (none w is)), is)), refl, refl)
 of_this h (Release asked) id about none =
-    (_, refl, (λ w is. (None, w, refl, no_one_to_release (subst (NoInstance w) (sym about) (none w is)), is)), tt)
+    (_, refl, (λ w is. (None, w, refl, no_one_to_release (subst (NoInstance w) (sym about) (none w is)), is)), tt, refl)
 of_this h BeginEpoch id about none = absurd about
 of_this h (Status asked at) id about none =
     (_, refl, (λ w is t live. absurd (subst (NoInstance w) (sym about) (none w is) t live)), refl)
@@ -44,4 +44,4 @@ one_at_least segments less = absurd (omega (arith, less))
 
 pub modules_as_none : ModulesAsNone
 modules_as_none h of params none =
-    (_, refl, (λ w is. (admit_refused no_module, w, refl, isnt_admitted (none w is, λ other less meets. absurd (one_at_least other less)), is)), tt)
+    (_, refl, (λ w is. (admit_refused no_module, w, refl, isnt_admitted (none w is, λ other less meets. absurd (one_at_least other less)), is)), tt, refl)

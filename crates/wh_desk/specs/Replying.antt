@@ -1,5 +1,5 @@
 -- What a host replies to a question, and what a desk does.
-use Rattle.std.specs.Prelude.{◌≡◌, ℕ, Option, Result, IfErr, IfOk, OnOk}
+use Rattle.std.specs.Prelude.{◌≡◌, ℕ, Option, Result, IfErr, IfOk, OnErr, OnOk}
 use Rattle.std.specs.Global.{Vec}
 use Rattle.wh_params.specs.View.{view_params}
 use Rattle.wh_space_model.specs.declared.plain.InstId.{InstId}
@@ -35,23 +35,26 @@ use Rattle.wh_desk.specs.Permits.{OwnershipState, Permits, refusal}
 abbrev pub HostReplies : HostState → Question → DeskReply → HostState → Type 0
 HostReplies h (Load bytes) reply h2 =
     (r : Result ModuleId ModuleError) × (reply ≡ says.Loaded r) × AnswersLoad h bytes r h2
+    × OnErr r (h2 ≡ h)
 HostReplies h (Admit of params) reply h2 =
     (r : Result InstId AdmitError) × (reply ≡ says.Admitted r) × AnswersAdmit h of.number (view_params params) r h2
     × IfOk r (λ id. (size : ℕ) × Enters h.space id.place (promised id.number (view_params params)) size h2.space)
+    × OnErr r (h2 ≡ h)
 HostReplies h (Invoke id name given fuel) reply h2 =
     (r : Result ℕ HostError) × (reply ≡ says.Invoked r) × AnswersInvoke h id name given fuel r h2
+    × OnErr r (h2 ≡ h)
 HostReplies h (Refuel id fuel) reply h2 =
     (r : Result Unit HostError) × (reply ≡ says.Done r) × AnswersCall h (λ w a w2. IsRefuel w id fuel a w2) r h2
-    × (h2.space ≡ h.space)
+    × (h2.space ≡ h.space) × OnErr r (h2 ≡ h)
 HostReplies h (Cancel id) reply h2 =
     (r : Result Unit HostError) × (reply ≡ says.Done r) × AnswersCall h (λ w a w2. IsCancel w id a w2) r h2
-    × OnOk r (h2.space ≡ ended h.space id.place)
+    × OnOk r (h2.space ≡ ended h.space id.place) × OnErr r (h2 ≡ h)
 HostReplies h (Retry id) reply h2 =
     (r : Result Unit HostError) × (reply ≡ says.Done r) × AnswersCall h (λ w a w2. IsRetry w id a w2) r h2
-    × (h2.space ≡ h.space)
+    × (h2.space ≡ h.space) × OnErr r (h2 ≡ h)
 HostReplies h (Release id) reply h2 =
     (r : Result (Vec ℕ) HostError) × (reply ≡ says.Released r) × AnswersRelease h id r h2
-    × OnOk r (Exits h.space id.place h2.space)
+    × OnOk r (Exits h.space id.place h2.space) × OnErr r (h2 ≡ h)
 HostReplies h BeginEpoch reply h2 = (reply ≡ says.Begun) × MovesOnly h h2 × Epochs h.space h2.space
 HostReplies h (Status id at) reply h2 =
     (told : Option CallStatus) × (reply ≡ says.Status told) × TellsOf h id at told × (h2 ≡ h)

@@ -1,6 +1,6 @@
 // One request, under the lock.
 
-ghost use Rattle.std.specs.Prelude.{◌≡◌};
+ghost use Rattle.std.specs.Prelude.{◌≡◌, OnErr};
 ghost use Rattle.wh_cell.specs.Locking.{now_of};
 ghost use Rattle.wh_desk.specs.Bounded.{HasRoomToOwn, OwnsAll};
 ghost use Rattle.wh_desk.specs.Permits.{Permits, owned_after, ownership_of};
@@ -31,6 +31,7 @@ fn ask<D: SwapDev, T: Ledger, C: Ledger, O: Ledger, E: Ledger, B: CellAgreements
 ) -> Result<Q::Answer, Q::Error>
     requires known { owner.old ≡ now_of locked.old }
     ensures asks { Q.asks request owner.old.host result owner.new.host }
+    ensures err { OnErr result (owner.new.host ≡ owner.old.host) }
     ensures device { owner.new.device ≡ owner.old.device }
     ensures knows { owner.new ≡ now_of locked.new }
 {
