@@ -1,17 +1,13 @@
 -- What keeps tickets, slots, frames and the tax as they are.
-use Rattle.std.proofs.Common.{◌≡◌, ℕ, ◌==◌, nat_lt, cond, Bool, true, false, List, [], ◌∷◌, length, map, zero, suc, slice_get, Option, Some, None, inl, inr, refl, ap, ◌∙◌, arith}
-use Rattle.wh_model.specs.declared.memory.Need.{Need}
+use Rattle.std.proofs.Common.{◌≡◌, ℕ, ◌==◌, List, [], ◌∷◌, length, map, zero, suc, slice_get, Some, inl, inr, refl, ap, ◌∙◌, arith, rules}
 use Rattle.wh_space_model.specs.declared.states.Offer.{Offer}
 use Rattle.wh_space_model.specs.declared.states.Offer.TheVariants.{Skipped, Zeroed, Hinted, Stale, Merged, FalseMatch}
 use Rattle.wh_space_model.specs.declared.states.Slot.{Slot}
 use Rattle.wh_space_model.specs.declared.states.Slot.TheVariants.{Vacant, Taken, Evicting, EvictVoid, Fetching, FetchVoid}
-use Rattle.wh_space_model.specs.{Pass, errand_for, pass_of, has_pins, unpinned, OffersAlone, OffersUnlisted, Space, Exits, released_use, Scans, ended, stood}
+use Rattle.wh_space_model.specs.{Pass, errand_for, pass_of, OffersAlone, OffersUnlisted, Space, Exits, released_use, Scans}
 use Rattle.wh_space_model.specs.Offers.{Offers}
-use Rattle.wh_instance.specs.declared.stages.TurnResult.{TurnResult}
 use Rattle.wh_instance.specs.declared.stages.TurnResult.TheVariants as turned
-use Rattle.wh_space.specs.StepViews.{KeepsRest}
 use Rattle.wh_host.specs.Backing.{KeepsBacking}
-use Rattle.wh_host.specs.Lent.{settled_in}
 
 -- there are as many slots where the same tickets are out
 many_out : (xs ys : List Slot) → map errand_for ys ≡ map errand_for xs → length ys ≡ length xs
@@ -33,47 +29,16 @@ then_backing a b c first second = backs _ _ (second.pass ∙ first.pass) (second
 
 -- ---- standing
 
-pub stood_backing : (s : Space) (i : ℕ) (need : Option Need) → KeepsBacking s (stood s i need)
-stood_backing s i need = backs _ _ (refl) (refl) (refl)
-
-unpinned_backing : (s : Space) (b : Bool) → KeepsBacking s (cond b (unpinned s) s)
-unpinned_backing s true = backs _ _ (refl) (refl) (refl)
-unpinned_backing s false = same_backing s s refl
-
-pub ended_backing : (s : Space) (i : ℕ) → KeepsBacking s (ended s i)
-ended_backing s i = then_backing s (stood s i None) (ended s i) (stood_backing s i None) (unpinned_backing (stood s i None) (has_pins s.pins i))
-
-pub settled_backing : (s : Space) (i : ℕ) (made : TurnResult) → KeepsBacking s (settled_in s i made)
-settled_backing s i turned.Kept = same_backing s s refl
-settled_backing s i turned.Ended = ended_backing s i
-settled_backing s i turned.Fuel = ended_backing s i
-settled_backing s i (turned.Frame need true) = stood_backing s i (Some need)
-settled_backing s i (turned.Frame need false) = then_backing s (ended s i) (stood (ended s i) i (Some need)) (ended_backing s i) (stood_backing (ended s i) i (Some need))
-settled_backing s i (turned.Again true) = stood_backing s i None
-settled_backing s i (turned.Again false) = ended_backing s i
-
 -- ---- steps
-
-pub rest_backing : (i : ℕ) (s s2 : Space) → KeepsRest i s s2 → KeepsBacking s s2
-rest_backing i s s2 keeps = backs _ _ (keeps.pass) (keeps.frames) (keeps.tax)
 
 -- ---- who comes and goes
 
 errand_released : (i n : ℕ) (x : Slot) → errand_for (released_use i n x) ≡ errand_for x
 errand_released i n Vacant = refl
-errand_released i n Taken = go (nat_lt 0 n) where
-  go : (b : Bool) → errand_for (cond b Vacant Taken) ≡ None
-  go true = refl
-  go false = refl
-errand_released i n (Evicting j p) = go (i == j) where
-  go : (b : Bool) → errand_for (cond b (EvictVoid j) (Evicting j p)) ≡ errand_for (Evicting j p)
-  go true = refl
-  go false = refl
+errand_released i n Taken = search rules
+errand_released i n (Evicting j p) = search rules
 errand_released i n (EvictVoid j) = refl
-errand_released i n (Fetching j p f) = go (i == j) where
-  go : (b : Bool) → errand_for (cond b (FetchVoid j f) (Fetching j p f)) ≡ errand_for (Fetching j p f)
-  go true = refl
-  go false = refl
+errand_released i n (Fetching j p f) = search rules
 errand_released i n (FetchVoid j f) = refl
 
 one_use : (x y : Slot) → Some x ≡ Some y → x ≡ y
@@ -93,9 +58,7 @@ same_errands (x ∷ xs) (y ∷ ys) many each =
     cc (head, tail)
 
 pub exits_backing : (s : Space) (i : ℕ) (s2 : Space) → Exits s i s2 → KeepsBacking s s2
-exits_backing s i s2 exits =
-    let out = same_errands s.slots.uses s2.slots.uses exits.slots (λ k x at. (_, exits.uses k x at, errand_released i _ x)) in
-    backs _ _ (cc (out, exits.held)) (ap (λ (zs : List (List ℕ)). length zs) exits.bytes) (exits.tax)
+exits_backing s i s2 exits = search (rules, same_errands, errand_released, backs, ℕ)
 
 -- ---- offers
 

@@ -1,5 +1,5 @@
 -- A turn of an instance that ran beside others is a turn of the host's definitions, once all is written back.
-use Rattle.std.proofs.Common.{◌≡◌, ◌≢◌, ◌∙◌, inl, inr, ℕ, ◌≤◌, ◌&&◌, Bool, true, false, cond, min, Option, List, [], ◌∷◌, refl, slice_get, sym, ap, subst, arith}
+use Rattle.std.proofs.Common.{◌≡◌, ◌≢◌, ◌∙◌, inl, inr, ℕ, ◌≤◌, ◌&&◌, Bool, min, Option, List, [], ◌∷◌, refl, sym, ap, subst, arith, rules}
 use Rattle.std.proofs.Math.Nat.{min-eq_left}
 use Rattle.std.proofs.lemmas.Bool.{cases_lt}
 use Rattle.wh_model.specs.declared.memory.Need.{Need}
@@ -15,7 +15,7 @@ use Rattle.wh_machine.specs.MachineRuns.{linked_parts}
 use Rattle.wh_machine.specs.CallStates.{Setting, setting_of}
 use Rattle.wh_instance.specs.Advancing.{AdvancesAny, AdvancesTenant, HasOpenCall, StaysBut, TurnsTenant}
 use Rattle.wh_instance.specs.Seen.{IsAtTerm}
-use Rattle.wh_instance.specs.Settling.{IsFinished, answered, brought_on, is_fault}
+use Rattle.wh_instance.specs.Settling.{IsFinished, answered}
 use Rattle.wh_instance.specs.Tenancy.{HostInstanceState, IsTenant, RepresentsTenant}
 use Rattle.wh_instance.specs.Turned.{IsCame}
 use Rattle.wh_instance.specs.declared.computing.TurnOutcome.{TurnOutcome}
@@ -26,9 +26,9 @@ use Rattle.wh_host_model.specs.declared.plain.TurnEnd.{TurnEnd}
 use Rattle.wh_host_model.specs.declared.plain.TurnEnd.TheVariants as turn_answer
 use Rattle.wh_host.specs.Series.{IsWholeOrCut}
 use Rattle.wh_instance.proofs.Finished.{finishes, may_finish}
-use Rattle.wh_overlay.specs.LaidPages.{AreWhole, UpperState, with_upper}
+use Rattle.wh_overlay.specs.LaidPages.{UpperState, with_upper}
 use Rattle.wh_overlay.specs.LaidBack.{ComesThere, IsLaid, LooksSame, ProceedsThere}
-use Rattle.wh_overlay.specs.Over.{AreAtHand, IsOverSame, IsReadyOver, IsWholeOver, OverlayState, frames_lacking, sees}
+use Rattle.wh_overlay.specs.Over.{IsOverSame, IsReadyOver, IsWholeOver, OverlayState, sees}
 use Rattle.wh_overlay.proofs.LaidTakes.{Laying, proceeds_laid, proceeds_none, whole_there}
 use Rattle.wh_overlay.proofs.SomeLaid.{none_laid}
 use Rattle.wh_space.specs.Steps.{limit_by, page_limit}
@@ -57,36 +57,12 @@ record GoesThere (i : ℕ) (inst : Instance) (q2 : ℕ) (call : Call) (s : Space
 
 goes_there : (i : ℕ) (inst : Instance) (q q2 : ℕ) (call : Call) (s : Space) (r : Rest) (d : Doing) (to : Upshot) (k n : ℕ) (s2 : Space) (r2 : Rest) (d2 : Doing) (answer answer2 : TurnOutcome) → IsCame answer to → CameThere s2 i answer n q answer2 q2 → ComesThere i inst q call s r d to k n s2 r2 d2
     → GoesThere i inst q2 call s r d k n s2 r2 d2 answer2
-goes_there i inst q q2 call s r d to k n s2 r2 d2 (came.Returned result) answer2 is (same, many) comes = record {
-  to = to;
-  proceeds = subst (λ z. ProceedsThere i inst z call s r d to k n s2 r2 d2) (sym many) (plain i inst q call s r d to k n s2 r2 d2 (λ need e. subst (IsCame (came.Returned result)) e is) comes);
-  is_came = subst (λ z. IsCame z to) (sym same) is;
-}
-goes_there i inst q q2 call s r d to k n s2 r2 d2 (came.Trapped trap) answer2 is (same, many) comes = record {
-  to = to;
-  proceeds = subst (λ z. ProceedsThere i inst z call s r d to k n s2 r2 d2) (sym many) (plain i inst q call s r d to k n s2 r2 d2 (λ need e. subst (IsCame (came.Trapped trap)) e is) comes);
-  is_came = subst (λ z. IsCame z to) (sym same) is;
-}
-goes_there i inst q q2 call s r d to k n s2 r2 d2 came.Fuel answer2 is (same, many) comes = record {
-  to = to;
-  proceeds = subst (λ z. ProceedsThere i inst z call s r d to k n s2 r2 d2) (sym many) (plain i inst q call s r d to k n s2 r2 d2 (λ need e. subst (IsCame came.Fuel) e is) comes);
-  is_came = subst (λ z. IsCame z to) (sym same) is;
-}
-goes_there i inst q q2 call s r d to k n s2 r2 d2 came.Again answer2 is (same, many) comes = record {
-  to = to;
-  proceeds = subst (λ z. ProceedsThere i inst z call s r d to k n s2 r2 d2) (sym many) (plain i inst q call s r d to k n s2 r2 d2 (λ need e. subst (IsCame came.Again) e is) comes);
-  is_came = subst (λ z. IsCame z to) (sym same) is;
-}
-goes_there i inst q q2 call s r d (to_wait other) k n s2 r2 d2 (came.Frame need) answer2 is (inl (ready, same, many)) comes = record {
-  to = to_go_on;
-  proceeds = subst (λ z. ProceedsThere i inst z call s r d to_go_on k n s2 r2 d2) (sym many) (comes.0 (subst (Ready s2 i) is ready));
-  is_came = subst (λ z. IsCame z to_go_on) (sym same) tt;
-}
-goes_there i inst q q2 call s r d (to_wait other) k n s2 r2 d2 (came.Frame need) answer2 is (inr (unready, same, many)) comes = record {
-  to = to_wait other;
-  proceeds = subst (λ z. ProceedsThere i inst z call s r d (to_wait other) k n s2 r2 d2) (sym many) (comes.1 (λ z. unready (subst (Ready s2 i) (sym is) z)));
-  is_came = subst (λ z. IsCame z (to_wait other)) (sym same) is;
-}
+goes_there i inst q q2 call s r d to k n s2 r2 d2 (came.Returned result) answer2 is (same, many) comes = search rules
+goes_there i inst q q2 call s r d to k n s2 r2 d2 (came.Trapped trap) answer2 is (same, many) comes = search rules
+goes_there i inst q q2 call s r d to k n s2 r2 d2 came.Fuel answer2 is (same, many) comes = search rules
+goes_there i inst q q2 call s r d to k n s2 r2 d2 came.Again answer2 is (same, many) comes = search rules
+goes_there i inst q q2 call s r d (to_wait other) k n s2 r2 d2 (came.Frame need) answer2 is (inl (ready, same, many)) comes = search rules
+goes_there i inst q q2 call s r d (to_wait other) k n s2 r2 d2 (came.Frame need) answer2 is (inr (unready, same, many)) comes = search rules
 goes_there i inst q q2 call s r d (to_end o) k n s2 r2 d2 (came.Frame need) answer2 is there comes = absurd is
 goes_there i inst q q2 call s r d out_of_fuel k n s2 r2 d2 (came.Frame need) answer2 is there comes = absurd is
 goes_there i inst q q2 call s r d to_go_on k n s2 r2 d2 (came.Frame need) answer2 is there comes = absurd is
@@ -113,15 +89,9 @@ whole_or_cut s i (came.Trapped trap) n q answer2 q2 end few (same, many) again =
 whole_or_cut s i came.Fuel n q answer2 q2 end few (same, many) again = inl many
 whole_or_cut s i came.Again n q answer2 q2 end few (same, many) again = inl many
 
-again_or_kept : (b still : Bool) → turn_end_of (cond b turned.Kept (turned.Again still)) ≡ turn_answer.Again
-again_or_kept true still = refl
-again_or_kept false still = refl
-
 -- a call that can go on is answered so
 pub again_end : (x : HostInstanceState) (k n : ℕ) (c : JournalCallState) (cs : List JournalCallState) (made : TurnResult) (x2 : HostInstanceState) (answer : TurnOutcome) → answer ≡ came.Again → IsFinished x answer k n c cs made x2 → turn_end_of made ≡ turn_answer.Again
-again_end x k n c cs made x2 answer again done =
-    let is = done.is_answer ∙ ap (λ a. answered (brought_on x c cs k n) a done.still) again in
-    ap turn_end_of is ∙ again_or_kept (done.still && is_fault x.waiting_for) done.still
+again_end x k n c cs made x2 answer again done = search rules
 
 -- one that can go on came to where it can
 pub can_from : (s : Space) (i : ℕ) (answer : TurnOutcome) (n q : ℕ) (answer2 : TurnOutcome) (q2 : ℕ) (x : HostInstanceState) (still : Bool) → CameThere s i answer n q answer2 q2 → turn_end_of (answered x answer2 still) ≡ turn_answer.Again → CanGoOnFrom answer
@@ -135,17 +105,7 @@ can_from s i came.Fuel n q answer2 q2 x still (same, many) again = absurd (let b
 
 -- nothing is written yet
 none_whole : (s : Space) (i : ℕ) (first u : UpperState) → first.pages ≡ [] → first.reads ≡ [] → first.grown ≡ 0 → first.taken ≡ 0 → IsWholeOver s i u → IsWholeOver s i first
-none_whole s i first u none unread same taken (over, whole) = (
-  record {
-    at_hand = subst (AreAtHand s i) (sym none) (λ k x there. absurd (cc there));
-    there = λ p is. absurd (let bad = sym (ap (λ rs. slice_get rs is.0) unread) ∙ is.1 in cc bad);
-    frames = (let lacking : frames_lacking s i first.pages ≡ 0 = ap (frames_lacking s i) none in omega (arith, lacking));
-    lent = omega (arith, taken);
-    counted = (let few = over.counted in omega (arith, few, same));
-    limited = λ some. absurd (omega (arith, some, same));
-  },
-  subst AreWhole (sym none) (λ k x there. absurd (cc there)),
-)
+none_whole s i first u none unread same taken (over, whole) = search rules
 
 pub none_seen : (s : Space) (i : ℕ) (first : UpperState) → first.pages ≡ [] → first.reads ≡ [] → first.grown ≡ 0 → with_upper (view s i) first ≡ view s i
 none_seen s i first none unread same = sym (none_laid s i first none unread same).sees
@@ -159,10 +119,7 @@ most_is l limit s0 s place x t looks lies = min-eq_left (subst (λ (c : Option C
 -- it is the instance that lies in the memory
 pub over_none : (l : LinkedState) (limit : ℕ) (s0 s : Space) (place : ℕ) (x : HostInstanceState) (t : Tenant) (first : UpperState) → LooksSame place s0 s → LiesAt l limit x s place t → first.pages ≡ [] → first.reads ≡ [] → first.grown ≡ 0
     → RepresentsTenant (beside_setting l limit s0 place) x (memory_with s0 place limit first) t
-over_none l limit s0 s place x t first looks lies none unread same =
-    let seen : sees (memory_with s0 place limit first) ≡ view s place = none_seen s0 place first none unread same ∙ sym looks.sees in
-    represents_over (linked_parts l) (most_of limit s0 place) (λ b. b) (λ b need. Unit {0}) (λ b b2. Unit {0}) sees IsReadyOver IsOverSame (view s place) (memory_with s0 place limit first) seen x t
-    (subst (λ z. IsTenant l z x (view s place) t) (sym (most_is l limit s0 s place x t looks lies)) lies.is)
+over_none l limit s0 s place x t first looks lies none unread same = search (rules, none_seen, represents_over, most_is)
 
 pub looks_itself : (i : ℕ) (s : Space) → LooksSame i s s
 looks_itself i s = record { table = refl; sees = refl; claim = refl }
@@ -218,8 +175,7 @@ module _ (l : LinkedState) (limit q : ℕ) (s0 s : Space) (place : ℕ) (x : Hos
   pub charges_few : n ≤ q
   charges_few =
       let c = h.runs.computes in
-      let a = h.runs.advances c.entry c.others c.calls in
-      within_turn c.entry.call a.proceeds
+      within_turn c.entry.call (h.runs.advances c.entry c.others c.calls).proceeds
 
 -- it is written back, and finished
 pub record Finishing (l : LinkedState) (limit q : ℕ) (s0 s : Space) (place : ℕ) (x : HostInstanceState) (t : Tenant) (answer : TurnOutcome) (k n : ℕ) (x1 : HostInstanceState) (u : UpperState) (s2 : Space) (answer2 : TurnOutcome) (q2 : ℕ) (made : TurnResult) (x3 : HostInstanceState) : Type 0 where

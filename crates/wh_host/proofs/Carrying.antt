@@ -74,8 +74,7 @@ use_there s k (inr (j, e)) = there_of s.slots.uses k (EvictVoid j) e
 
 pub written_holds : (s : Space) (k : ℕ) (bytes : List ℕ) (wrote : Bool) (mid : Space) → IsSound s → IsWritten s k bytes wrote mid → wrote ≡ true → get_or mid.slots.held k [] ≡ bytes
 written_holds s k bytes wrote mid sound (evicting, is) e =
-    let within = use_there s k evicting in
-    let less : k < length s.slots.held = omega (arith, within, sound.slots.held) in
+    let less : k < length s.slots.held = omega (arith, use_there s k evicting, sound.slots.held) in
     ap (λ (z : Space). get_or z.slots.held k []) is ∙ get_or-set_same s.slots.held k (cond wrote bytes []) [] less ∙ ap (λ (b : Bool). cond b bytes []) e
 
 pub evict_alone : (s : Space) (k : ℕ) (wrote : Bool) (bytes : List ℕ) (end : EvictEnd) (s2 : Space) → IsSound s → EndsEvict s k wrote bytes end s2 → AllLeftAlone s s2

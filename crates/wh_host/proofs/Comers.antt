@@ -72,9 +72,8 @@ length_mapped f (x ∷ xs) = ap suc (length_mapped f xs)
 pub module_is_small : (h : HostState) (w : World) (k : ℕ) (m : LoadedModule) → IsHost h w → slice_get h.modules k ≡ Some m → length m.linked.valid.decoded.segments.items ≤ most_segments
 module_is_small h w k m st is =
     let accepted = modules_stay_accepted w st.comes k (loaded_as m) (module_there h w k m st is) in
-    let few = few_segments (loaded_as m).bytes (view_linked m.linked) accepted.is_module.small in
     let same : length (map view_data m.linked.valid.decoded.segments.items) ≡ length m.linked.valid.decoded.segments.items = length_mapped view_data m.linked.valid.decoded.segments.items in
-    omega (arith, few, same)
+    omega (arith, few_segments (loaded_as m).bytes (view_linked m.linked) accepted.is_module.small, same)
 
 -- ---- what is admitted
 
@@ -178,14 +177,13 @@ admitted_here h w k p m a x place rs rs1 rs2 s2 st is none b begins are enters u
     let zeros : view s2 place ≡ replicate (a.begun.pages * 65536) 0 = arrives.view ∙ ap (λ n. replicate n 0) (sym size ∙ size_is a.begun.pages a.begun.pages refl) in
     let over : IsTenant m.linked x.page_limit x.tenant (view s2 place) t = subst (λ n. IsTenant m.linked n x.tenant (view s2 place) t) (sym begins.limit) (subst (λ bytes. IsTenant m.linked a.begun.page_limit x.tenant bytes t) (sym zeros) (made.4 t (record { inst_is = refl; rest = refl; doing = refl; ended_are = refl; open_are = refl; waiting_for = refl; dead = refl }))) in
     let limits : x.page_limit ≡ last_size wasm.memories (p.max / 16) = begins.limit ∙ i.page_limit ∙ i.prepares.page_limit in
-    let most = within_limit wasm.memories (p.max / 16) in
     let represents : IsEntryOf h.modules x s2 h.next t = record {
       number = begins.number;
       of = begins.of;
       loaded = m;
       is_loaded = ap (slice_get h.modules) begins.of ∙ is;
       given = subst (λ g. AreGivenAs g p) (sym begins.given) (record { shares = b.shares; min = b.min; max = b.max; fuel = b.fuel; base = refl; salt = refl });
-      limit = omega (arith, limits, most);
+      limit = omega (arith, limits, within_limit wasm.memories (p.max / 16));
       copied = begins.copied;
       is = over;
     } in

@@ -1,12 +1,12 @@
 -- The roll is that of whatever host the code's represents.
-use Rattle.std.proofs.Common.{◌≡◌, ℕ, zero, suc, ◌+◌, ◌<◌, ◌++◌, Bool, Option, Some, None, List, [], ◌∷◌, length, map, take, get_or, slice_get, refl, sym, ap, subst, ◌∙◌, arith}
+use Rattle.std.proofs.Common.{◌≡◌, ℕ, zero, suc, ◌+◌, ◌<◌, ◌++◌, Option, Some, None, List, [], ◌∷◌, length, map, take, get_or, slice_get, refl, sym, ap, subst, ◌∙◌, arith, rules}
 use Rattle.std.proofs.lemmas.List.{append-nil, append_assoc, length-append, map-append}
 use Rattle.wh_space_model.specs.{tickets}
-use Rattle.wh_host_model.specs.Host.{Suspension, Tenant, World, journal, tenant}
-use Rattle.wh_host_model.specs.{Entry, Params}
+use Rattle.wh_host_model.specs.Host.{Tenant, World, tenant}
+use Rattle.wh_host_model.specs.{Entry}
 use Rattle.wh_host_model.proofs.Host.Lasting.{inputs_stay}
 use Rattle.wh_journal.specs.Calls.{JournalCallState}
-use Rattle.wh_instance.specs.Tenancy.{RepresentsEach, suspension_of}
+use Rattle.wh_instance.specs.Tenancy.{RepresentsEach}
 use Rattle.wh_host.specs.declared.parts.LoadedModule.{LoadedModule}
 use Rattle.wh_host.specs.declared.parts.InstanceEntry.{InstanceEntry}
 use Rattle.wh_host.specs.declared.parts.InstanceRef.{InstanceRef}
@@ -15,7 +15,6 @@ use Rattle.wh_host.specs.declared.rolling.RollModule.{RollModule}
 use Rattle.wh_host.specs.Hosting.{HostState, IsHost, IsEntryOf, kept_as, entry_at}
 use Rattle.wh_host.specs.Rolls.{IsRollOf, Listed, ListedModule, RollState, all_listed, all_modules, listed_as, listed_by, listed_in, listed_refs, module_by, modules_from, view_listed, view_listed_module}
 use Rattle.wh_host.specs.InstanceRefs.{AreInstanceRefs, refs_by}
-use Rattle.wh_host.specs.Showing.{given_with}
 use Rattle.wh_host.proofs.Showings.{inputs_are, params_by}
 
 -- ---- modules
@@ -27,10 +26,7 @@ modules_as n (m ∷ ms) = ap (λ more. module_by n m ∷ more) (modules_as (n + 
 -- one more of them
 one_more_module : (n : ℕ) (ms : List LoadedModule) (k : ℕ) (m : LoadedModule) → slice_get ms k ≡ Some m → modules_from n (take (suc k) ms) ≡ modules_from n (take k ms) ++ module_by (n + k) m ∷ []
 one_more_module n [] k m is = absurd (cc is)
-one_more_module n (z ∷ zs) zero m is =
-    let same : z ≡ m = cc is in
-    let here : n + 0 ≡ n = omega arith in
-    ap (λ (u : LoadedModule). module_by n u ∷ []) same ∙ ap (λ i. module_by i m ∷ []) (sym here)
+one_more_module n (z ∷ zs) zero m is = search rules
 one_more_module n (z ∷ zs) (suc k) m is =
     let here : (n + 1) + k ≡ n + suc k = omega arith in
     ap (λ more. module_by n z ∷ more) (one_more_module (n + 1) zs k m is ∙ ap (λ i. modules_from (n + 1) (take k zs) ++ module_by i m ∷ []) here)
@@ -61,25 +57,7 @@ as_long (c ∷ cs) [] h = absurd h
 as_long (c ∷ cs) (e ∷ es) h = ap suc (as_long cs es h.1)
 
 same_listed : (h : HostState) (w : World) (i : ℕ) (t : Tenant) (x : InstanceEntry) → IsHost h w → tenant w i ≡ Some t → IsEntryOf h.modules x w.space i t → listed_by (record { number = i; place = t.place }) x ≡ listed_as i t
-same_listed h w i t x st live is =
-    let params = params_by x.given x.tenant.store.inputs.items t.params is.given (inputs_are is.loaded.linked x.page_limit x.tenant w t is.is (inputs_stay w st.comes i t live)) in
-    let over = is.is in
-    let ended = as_long x.tenant.journal.ended t.ended over.ended in
-    let opens = as_long x.tenant.journal.open_calls t.open_calls over.open_calls in
-    let both = length-append t.ended t.open_calls in
-    let calls : length x.tenant.journal.ended + length x.tenant.journal.open_calls ≡ length (journal t) = omega (arith, ended, opens, both) in
-    let stands = sym over.waiting_for in
-    let of = is.of in
-    ap (λ n. put n (given_with x.given x.tenant.store.inputs.items) (length x.tenant.journal.ended + length x.tenant.journal.open_calls) x.copied (length x.tenant.journal.open_calls) x.tenant.dead (suspension_of x.tenant.waiting_for)) of
-    ∙ ap (λ p. put t.of p (length x.tenant.journal.ended + length x.tenant.journal.open_calls) x.copied (length x.tenant.journal.open_calls) x.tenant.dead (suspension_of x.tenant.waiting_for)) params
-    ∙ ap (λ n. put t.of t.params n x.copied (length x.tenant.journal.open_calls) x.tenant.dead (suspension_of x.tenant.waiting_for)) calls
-    ∙ ap (λ n. put t.of t.params (length (journal t)) n (length x.tenant.journal.open_calls) x.tenant.dead (suspension_of x.tenant.waiting_for)) is.copied
-    ∙ ap (λ n. put t.of t.params (length (journal t)) t.copied n x.tenant.dead (suspension_of x.tenant.waiting_for)) opens
-    ∙ ap (λ b. put t.of t.params (length (journal t)) t.copied (length t.open_calls) b (suspension_of x.tenant.waiting_for)) over.dead
-    ∙ ap (put t.of t.params (length (journal t)) t.copied (length t.open_calls) t.dead) stands
-  where
-    put : ℕ → Params → ℕ → ℕ → ℕ → Bool → Option Suspension → Listed
-    put of params calls copied opens dead stands = record { number = i; place = t.place; of = of; params = params; calls = calls; copied = copied; open_calls = opens; dead = dead; waiting_for = stands }
+same_listed h w i t x st live is = search (rules, params_by, inputs_are, inputs_stay, as_long, length-append, ℕ)
 
 -- ---- all of them
 

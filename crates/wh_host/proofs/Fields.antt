@@ -1,5 +1,5 @@
 -- A host whose fields are at hand, and what a request that does nothing leaves of it.
-use Rattle.std.proofs.Common.{◌≡◌, ◌≢◌, ℕ, Some, None, slice_set, refl, sym, subst, ◌∙◌}
+use Rattle.std.proofs.Common.{◌≡◌, ◌≢◌, ℕ, Some, None, slice_set, sym, subst, ◌∙◌, rules}
 use Rattle.wh_space_model.specs.declared.plain.InstId.{InstId}
 use Rattle.wh_host_model.specs.Host.{IsLive, NoInstance, Tenant, World}
 use Rattle.wh_instance.specs.OwnerRequests.{OfAnyTenant}
@@ -9,7 +9,7 @@ use Rattle.wh_host.specs.declared.parts.InstanceEntry.{InstanceEntry}
 use Rattle.wh_model.specs.declared.memory.Need.{Need}
 use Rattle.wh_host.specs.Paging.{WaitsFor}
 use Rattle.wh_host.specs.Hosting.{HostState, IsHost, entry_at}
-use Rattle.wh_host.proofs.Hosts.{kept_back, nobody, of_who_is_there, put_back, somebody_else}
+use Rattle.wh_host.proofs.Hosts.{kept_back, of_who_is_there, put_back, somebody_else}
 
 -- the host of these fields
 abbrev pub host_of : Inside → HostState
@@ -31,16 +31,12 @@ still_waits id need same waits = subst (λ z. WaitsFor z id need) (sym same) wai
 
 -- nobody is at that place
 pub nobody_there : (h : HostState) (w : World) (id : InstId) {h0 : HostState} → h ≡ h0 → IsHost h0 w → entry_at h.entries id.place ≡ None → NoInstance w id × IsHost h w
-nobody_there h w id same st none =
-    let here = shown_host w same st in
-    (nobody h w id here none, here)
+nobody_there h w id same st none = search rules
 
 -- somebody else is, and is put back
 pub another_there : (h : HostState) (w : World) (id : InstId) (x : InstanceEntry) {h0 : HostState} → h ≡ h0 → IsHost h0 w → entry_at h.entries id.place ≡ Some x → x.number ≢ Some id.number
     → NoInstance w id × IsHost (record h { entries = slice_set h.entries id.place (Some x) }) w
-another_there h w id x same st at other =
-    let here = shown_host w same st in
-    (somebody_else h w id x here at other, back_there h w id.place x refl here at)
+another_there h w id x same st at other = search (rules, shown_host, somebody_else, back_there)
 
 -- the one who is meant is, and stays as it was
 pub unmoved_there : (h : HostState) (w : World) (id : InstId) (x : InstanceEntry) (z : HostInstanceState) (P : Tenant → Type 0) {h0 : HostState} → h ≡ h0 → IsHost h0 w → entry_at h.entries id.place ≡ Some x → x.number ≡ Some id.number

@@ -1,5 +1,5 @@
 -- What each call leaves of the host for which the code's host stands.
-use Rattle.std.proofs.Common.{◌≡◌, ◌≢◌, ℕ, zero, suc, ◌+◌, ◌*◌, ◌/◌, ◌<◌, ◌≤◌, ◌⊎◌, ⊎_elim, inl, inr, Option, Some, None, List, [], ◌∷◌, ◌++◌, length, get_or, slice_get, slice_set, refl, sym, ap, subst, ◌∙◌, arith}
+use Rattle.std.proofs.Common.{◌≡◌, ◌≢◌, ℕ, zero, suc, ◌+◌, ◌*◌, ◌/◌, ◌<◌, ◌≤◌, ◌⊎◌, ⊎_elim, inl, inr, Option, Some, None, List, [], ◌∷◌, ◌++◌, length, get_or, slice_get, slice_set, refl, sym, ap, subst, ◌∙◌, arith, rules}
 use Rattle.std.proofs.lemmas.List.{get_or-set_same, get_or-set_other, set-get_or}
 use Rattle.wh_space_model.specs.declared.plain.InstId.{InstId}
 use Rattle.wh_host_model.specs.declared.plain.TurnEnd.{TurnEnd}
@@ -48,11 +48,7 @@ length_set (y ∷ xs) zero x = refl
 length_set (y ∷ xs) (suc i) x = ap suc (length_set xs i x)
 
 pub at_place : {A : Type 0} (xs : List (Option A)) (i j : ℕ) (o : Option A) (x a : A) → get_or xs i None ≡ Some x → get_or (slice_set xs i o) j None ≡ Some a → ((j ≡ i) × (o ≡ Some a)) ⊎ ((j ≢ i) × (get_or xs j None ≡ Some a))
-at_place xs i j o x a there e =
-    ⊎_elim
-    (λ (same : j ≡ i). let in_range = some_within xs i x there in inl (same, sym (get_or-set_same xs i o None in_range) ∙ ap (λ n. get_or (slice_set xs i o) n None) (sym same) ∙ e))
-    (λ (other : j ≢ i). inr (other, sym (get_or-set_other xs i j o None other) ∙ e))
-    (same_or_not j i)
+at_place xs i j o x a there e = search (rules, ⊎_elim, some_within, get_or-set_same, get_or-set_other, same_or_not)
 
 -- how many there are, where one changes, and where one goes
 pub as_many : (ts : List (Option Tenant)) (i : ℕ) (t t2 : Tenant) → get_or ts i None ≡ Some t → live_count (slice_set ts i (Some t2)) ≡ live_count ts
@@ -137,17 +133,13 @@ pub nobody : (h : HostState) (w : World) (id : InstId) → IsHost h w → entry_
 nobody h w id st none t live = let f = st.there id.number t live.0 in absurd (let bad : None ≡ Some f.0 = sym none ∙ ap (entry_at h.entries) (sym live.1) ∙ f.1 in cc bad)
 
 pub somebody_else : (h : HostState) (w : World) (id : InstId) (x : InstanceEntry) → IsHost h w → entry_at h.entries id.place ≡ Some x → x.number ≢ Some id.number → NoInstance w id
-somebody_else h w id x st at other t live =
-    let f = st.there id.number t live.0 in
-    let same : f.0 ≡ x = one_value f.0 x (sym f.1 ∙ ap (entry_at h.entries) live.1 ∙ at) in
-    other (ap (λ (z : InstanceEntry). z.number) (sym same) ∙ f.2.number)
+somebody_else h w id x st at other t live = search rules
 
 -- so there is one
 pub one_there : (h : HostState) (w : World) (place i : ℕ) (x : InstanceEntry) → IsHost h w → entry_at h.entries place ≡ Some x → x.number ≡ Some i → 1 ≤ h.live
 one_there h w place i x st at number =
     let f = found h w place i x st at number in
-    let counts = one_fewer w.tenants i f.t f.live in
-    omega (arith, counts, st.live)
+    omega (arith, one_fewer w.tenants i f.t f.live, st.live)
 
 -- and lies there
 pub lies_there : (h : HostState) (w : World) (place i : ℕ) (x : InstanceEntry) → IsHost h w → (f : Found h w place i x) → LiesAt f.is.loaded.linked x.page_limit x.tenant w.space place f.t

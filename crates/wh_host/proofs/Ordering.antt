@@ -1,5 +1,5 @@
 -- The instances that are live, by number, from their places.
-use Rattle.std.proofs.Common.{◌≡◌, ◌≢◌, ℕ, zero, suc, ◌+◌, ◌<◌, ◌≤◌, inl, inr, Option, Some, None, List, [], ◌∷◌, ◌++◌, map, get_or, refl, sym, ap, subst, ◌∙◌, arith}
+use Rattle.std.proofs.Common.{◌≡◌, ◌≢◌, ℕ, zero, suc, ◌+◌, ◌<◌, ◌≤◌, inl, inr, Option, Some, None, List, [], ◌∷◌, ◌++◌, map, get_or, refl, sym, ap, subst, ◌∙◌, arith, rules}
 use Rattle.std.specs.List.{All, AllByRecursion, sum_by}
 use Rattle.std.specs.List.Sorted.{IsNonDecreasingBy, IsPermutation}
 use Rattle.std.proofs.lemmas.Bool.{cases_lt}
@@ -26,18 +26,14 @@ less_never n low [] up less = refl
 less_never n low (x ∷ xs) up less =
     let first = up.0 in
     let a = one_other n x (λ e. absurd (omega (arith, e, first, less))) in
-    let b = less_never n x xs up.1 (omega (arith, first, less)) in
-    omega (arith, a, b)
+    omega (arith, a, less_never n x xs up.1 (omega (arith, first, less)))
 
 same_heads : (x y : ℕ) (xs ys : List ℕ) → Rises x xs → Rises y ys → AsOften (x ∷ xs) (y ∷ ys) → x ≡ y
 same_heads x y xs ys up up2 often = elim (cases_lt x y) [ inl less ↦ absurd (lower x y xs ys less up2 often) | inr more ↦ elim (cases_lt y x) [ inl less ↦ absurd (lower y x ys xs less up (λ n. sym (often n))) | inr same ↦ omega arith ] ] where
   lower : (a b : ℕ) (more bs : List ℕ) → a < b → Rises b bs → AsOften (a ∷ more) (b ∷ bs) → ⊥
   lower a b more bs less high same =
-      let here = one_same a a refl in
       let first = one_other a b (λ e. absurd (omega (arith, e, less))) in
-      let rest = less_never a b bs high less in
-      let all = same a in
-      absurd (omega (arith, here, first, rest, all))
+      absurd (omega (arith, one_same a a refl, first, less_never a b bs high less, same a))
 
 same_lists : (low low2 : ℕ) (xs ys : List ℕ) → Rises low xs → Rises low2 ys → AsOften xs ys → xs ≡ ys
 same_lists low low2 [] [] up up2 often = refl
@@ -46,8 +42,7 @@ same_lists low low2 (x ∷ xs) [] up up2 often = absurd (let a = often x in let 
 same_lists low low2 (x ∷ xs) (y ∷ ys) up up2 often =
     let head = same_heads x y xs ys up.1 up2.1 often in
     let rest : AsOften xs ys = λ n. (let a = often n in let b = ap (one_if n) head in omega (arith, a, b)) in
-    let tail = same_lists x y xs ys up.1 up2.1 rest in
-    rw head (rw tail refl)
+    rw head (rw (same_lists x y xs ys up.1 up2.1 rest) refl)
 
 -- ---- lists of numbers, by their order
 
@@ -96,10 +91,8 @@ one_below_more n who k = sum_by-append (λ (s : InstanceRef). one_if n s.number)
 never_below : (n : ℕ) (who : ℕ → Option ℕ) (k : ℕ) → ((p : ℕ) → p < k → who p ≢ Some n) → number_times n (refs_below who k) ≡ 0
 never_below n who zero other = refl
 never_below n who (suc k) other =
-    let a = one_below_more n who k in
     let b = never_below n who k (λ p less. other p (omega (arith, less))) in
-    let c = seat_never n (who k) k (other k (omega arith)) in
-    omega (arith, a, b, c)
+    omega (arith, one_below_more n who k, b, seat_never n (who k) k (other k (omega arith)))
 
 once_below : (n : ℕ) (who : ℕ → Option ℕ) (at k : ℕ) → at < k → who at ≡ Some n → ((p : ℕ) → who p ≡ Some n → p ≡ at) → number_times n (refs_below who k) ≡ 1
 once_below n who at zero less is only = absurd (omega arith)
@@ -107,15 +100,13 @@ once_below n who at (suc k) less is only =
     elim (cases_lt at k) [
       | inl below ↦
           (let a = one_below_more n who k in
-          let b = once_below n who at k below is only in
           let c = seat_never n (who k) k (λ e. let same = only k e in absurd (omega (arith, below, same))) in
-          omega (arith, a, b, c))
+          omega (arith, a, once_below n who at k below is only, c))
       | inr last ↦
           (let a = one_below_more n who k in
           let same : at ≡ k = omega (arith, less, last) in
           let b = never_below n who k (λ p lower e. let here = only p e in absurd (omega (arith, lower, here, same))) in
-          let c = seat_once n (who k) k (ap who (sym same) ∙ is) in
-          omega (arith, a, b, c))
+          omega (arith, a, b, seat_once n (who k) k (ap who (sym same) ∙ is)))
     ]
 
 -- by number
@@ -129,15 +120,13 @@ by_times i k [] = refl
 by_times i zero (None ∷ ts) = less_never (i + 0) (i + 1) (numbers_of (refs_by (i + 1) ts)) (by_rises (i + 1) ts) (omega arith)
 by_times i (suc k) (None ∷ ts) = let at : i + suc k ≡ (i + 1) + k = omega arith in rw at (by_times (i + 1) k ts)
 by_times i zero (Some t ∷ ts) =
-    let a = one_same (i + 0) i (omega arith) in
     let b = less_never (i + 0) (i + 1) (numbers_of (refs_by (i + 1) ts)) (by_rises (i + 1) ts) (omega arith) in
-    omega (arith, a, b)
+    omega (arith, one_same (i + 0) i (omega arith), b)
 by_times i (suc k) (Some t ∷ ts) =
     let at : i + suc k ≡ (i + 1) + k = omega arith in
     let a = one_other (i + suc k) i (λ e. absurd (omega (arith, e))) in
-    let b = by_times (i + 1) k ts in
     let c = ap (λ n. tally (one_if n) (numbers_of (refs_by (i + 1) ts))) at in
-    omega (arith, a, b, c)
+    omega (arith, a, by_times (i + 1) k ts, c)
 
 -- ---- each is who is live
 
@@ -174,8 +163,7 @@ pub all_by : (ts : List (Option Tenant)) → AllByRecursion (IsSeatOf ts) (refs_
 all_by ts = all_also (IsSeatFrom 0 ts) (IsSeatOf ts) (λ s h. (h.1, (let at : s.number ≡ h.0 = (let e = h.2 in omega (arith, e)) in rw at h.3), h.4)) (refs_by 0 ts) (by_seats 0 ts)
 
 same_seat : (s z : InstanceRef) → s.number ≡ z.number → s.place ≡ z.place → s ≡ z
-same_seat s z number place =
-    ap (λ n. let a : InstanceRef = record { number = n; place = s.place } in a) number ∙ ap (λ p. let a : InstanceRef = record { number = z.number; place = p } in a) place
+same_seat s z number place = search rules
 
 one_tenant : (t u : Tenant) → Some t ≡ Some u → t ≡ u
 one_tenant t u e = cc e
@@ -191,8 +179,7 @@ same_by_numbers ts (x ∷ xs) (y ∷ ys) e h g =
     let two = g.0 in
     let t = one_tenant one.0 two.0 (sym one.1 ∙ ap (λ n. get_or ts n None) number ∙ two.1) in
     let place : x.place ≡ y.place = sym one.2 ∙ ap (λ (z : Tenant). z.place) t ∙ two.2 in
-    let tail = same_by_numbers ts xs ys rest h.1 g.1 in
-    rw (same_seat x y number place) (rw tail refl)
+    rw (same_seat x y number place) (rw (same_by_numbers ts xs ys rest h.1 g.1) refl)
 
 -- ---- who is live, by place and by number
 

@@ -1,11 +1,11 @@
 -- Turns beside others that took no charge stopped where what comes next can't be reached.
-use Rattle.std.proofs.Common.{⊎_elim, ◌≡◌, ◌∙◌, ◌⊎◌, inl, inr, ℕ, suc, ◌+◌, ◌-◌, ◌*◌, ◌≤◌, true, List, [], Option, Some, length, slice_get, refl, sym, ap, subst, arith}
+use Rattle.std.proofs.Common.{⊎_elim, ◌≡◌, ◌∙◌, ◌⊎◌, inl, inr, ℕ, suc, ◌+◌, ◌-◌, ◌*◌, ◌≤◌, true, List, [], Option, Some, slice_get, refl, sym, ap, subst, arith, rules}
 use Rattle.std.proofs.Math.Nat.{one-mul, suc-mul}
 use Rattle.wh_model.specs.declared.memory.Need.{Need}
 use Rattle.wh_model.specs.Execution.{Asks, Config, Term, config, After, Call, Takes, took_all, took}
 use Rattle.wh_model.specs.Execution.Store.{Instance}
 use Rattle.wh_space_model.specs.declared.plain.InstId.{InstId}
-use Rattle.wh_host_model.specs.Host.{Opens, as_it_was, Computes, Upshot, to_end, out_of_fuel, to_wait, to_go_on, Proceeds, returns, traps, writes_all, uses_fuel, waits, waits_to_write, has_had_its_turn, Doing, Rest, Tenant, World, computing, store_with, tenant}
+use Rattle.wh_host_model.specs.Host.{Computes, Upshot, to_end, out_of_fuel, to_wait, to_go_on, Proceeds, returns, traps, writes_all, uses_fuel, waits, waits_to_write, has_had_its_turn, Doing, Rest, Tenant, World, computing, store_with, tenant}
 use Rattle.wh_space_model.specs.{Space, view}
 use Rattle.wh_instance.specs.Bursts.{AreUsed}
 use Rattle.wh_instance.specs.Tenancy.{HostInstanceState}
@@ -13,7 +13,6 @@ use Rattle.wh_instance.specs.Turned.{IsCame}
 use Rattle.wh_instance.specs.declared.computing.TurnOutcome.{TurnOutcome}
 use Rattle.wh_instance.specs.declared.computing.TurnOutcome.TheVariants as came
 use Rattle.wh_imports.specs.LinkedState.{LinkedState}
-use Rattle.wh_overlay.specs.declared.upper.WrittenPage.{WrittenPage}
 use Rattle.wh_overlay.specs.LaidPages.{UpperState}
 use Rattle.wh_overlay.specs.Over.{CanStepOver, IsOverSame, IsReadyOver, OverlayState, sees}
 use Rattle.wh_host.specs.declared.parts.InstanceEntry.{InstanceEntry}
@@ -22,7 +21,7 @@ use Rattle.wh_host.specs.declared.rounds.SeriesEnd.{SeriesEnd}
 use Rattle.wh_host.specs.Beside.{CanGoOnFrom, RunsBeside, with_nothing, memory_with}
 use Rattle.wh_host.specs.Hosting.{HostState, IsHost}
 use Rattle.wh_host.specs.Joining.{HasAnswer, HaveRun, series_end}
-use Rattle.wh_host.specs.Rounds.{EachHadLeave, EachTakesSome, IsOutOfReach}
+use Rattle.wh_host.specs.Rounds.{EachTakesSome, IsOutOfReach}
 use Rattle.wh_host.proofs.BesideTurns.{none_seen}
 use Rattle.wh_host.proofs.Hosts.{found, lies_here}
 use Rattle.wh_host.proofs.RunnerLists.{taken_or}
@@ -57,14 +56,8 @@ takes_none : {inst : Instance} {m m2 : OverlayState} {c c2 : Config} {n : ℕ} �
 takes_none took_all none = (refl, refl)
 takes_none (took now one is kept rest) none = absurd (cc none)
 
-opens_so : {inst : Instance} {call : Call} {m m1 : OverlayState} {r : Rest} {term : Term} {k : ℕ} {c : Config} → Opens sees IsReadyOver IsOverSame inst call m r (computing term) k m1 c → (m1 ≡ m) × After inst (config (store_with (sees m) r) [] term) 0 c
-opens_so (as_it_was after) = (refl, after)
-
 computes_none : {inst : Instance} {q k n : ℕ} {call : Call} {m m2 : OverlayState} {r : Rest} {term : Term} {c : Config} → n ≡ 0 → Computes sees IsReadyOver IsOverSame inst q call m r (computing term) k n m2 c → (m2 ≡ m) × After inst (config (store_with (sees m) r) [] term) 0 c
-computes_none {inst = inst} {m = m} {r = r} {term = term} none x =
-    let o = opens_so x.opens in
-    let t = takes_none x.takes none in
-    (t.0 ∙ o.0, subst (λ z. After inst (config (store_with (sees m) r) [] term) 0 z) (sym t.1) o.1)
+computes_none {inst = inst} {m = m} {r = r} {term = term} none x = search rules
 
 stopped : {inst : Instance} {q k n : ℕ} {call : Call} {m m2 : OverlayState} {r r2 : Rest} {term : Term} {d2 : Doing} {to : Upshot} → n ≡ 0 → 1 ≤ q → (to ≡ to_go_on) ⊎ ((need : Need) × (to ≡ to_wait need)) → Proceeds sees IsReadyOver IsOverSame inst q call m r (computing term) to k n m2 r2 d2 → Stopped inst m r term m2
 stopped none some to (waits {r2 = r2} {term = there} {need = need} x next left asks never) =
@@ -82,14 +75,8 @@ stopped none some to (waits_to_write d w never) = absurd (cc d)
 
 -- ---- room in which nothing lies
 
-same_room : (p p2 : List WrittenPage) (r r2 : List ℕ) (g g2 room room2 most lent t t2 : ℕ) → p ≡ p2 → r ≡ r2 → g ≡ g2 → room ≡ room2 → t ≡ t2
-    → ◌≡◌ {A = UpperState} (record { pages = p; reads = r; grown = g; room = room; most = most; lent = lent; taken = t }) (record { pages = p2; reads = r2; grown = g2; room = room2; most = most; lent = lent; taken = t2 })
-same_room p p2 r r2 g g2 room room2 most lent t t2 a b c d e = rw (a, b, c, d, e) refl
-
 with_nothing_same : (u : UpperState) → u.pages ≡ [] → u.reads ≡ [] → u.grown ≡ 0 → u.taken ≡ 0 → with_nothing u ≡ u
-with_nothing_same u pages reads grown taken =
-    let long = ap length pages in
-    same_room [] u.pages [] u.reads 0 u.grown (u.room + length u.pages) u.room u.most u.lent 0 u.taken (sym pages) (sym reads) (sym grown) (omega (arith, long)) (sym taken)
+with_nothing_same u pages reads grown taken = search rules
 
 pub out_of_reach : (l : LinkedState) (limit q : ℕ) (s : Space) (place : ℕ) (x : HostInstanceState) (t : Tenant) (answer : TurnOutcome) (k n : ℕ) (x1 : HostInstanceState) (u : UpperState) → RunsBeside l limit q s place x t answer k n x1 u → t.place ≡ place → n ≡ 0 → 1 ≤ q → CanGoOnFrom answer
     → IsOutOfReach s t (with_nothing u)
@@ -154,16 +141,3 @@ each_takes_some h w q most F m ys ys2 st some run answers k y2 there made t answ
         let reach = out_of_reach loaded.linked x.page_limit (y.ran.turns * q) h.space y.id.place x.tenant l.0 y.ran.came y.ran.pieces y.ran.charges y.tenant so.0 runs lies.place_is charges (least_in_all q y.ran.turns y.ran.charges so.2.1 some) can in
         let one : l.0 ≡ t = one_tenant l.0 t (sym l.1 ∙ ap (λ (i : InstId). tenant w i.number) (sym has.0) ∙ live.0) in
         (with_nothing so.0, p.3 so.0 so.1, subst (λ s. IsOutOfReach s t (with_nothing so.0)) st.space (subst (λ z. IsOutOfReach h.space z (with_nothing so.0)) one reach))
-
-pub each_had_leave : (h : HostState) (q most : ℕ) (F : List (Option InstanceEntry)) (m : Space) (ys ys2 : List Runner) → HaveRun h.modules q most h.entries h.space F m ys
-    → ((k : ℕ) (y2 : Runner) → slice_get ys2 k ≡ Some y2 → (y : Runner) × (slice_get ys k ≡ Some y) × HasAnswer y y2) → EachHadLeave ys2
-each_had_leave h q most F m ys ys2 run answers k y2 there made answered =
-    let a = answers k y2 there in
-    ⊎_elim (λ sits. when_taken a.0 a.1 a.2 sits) (λ gone. absurd (let r = run.rest k a.0 a.1 gone in let bad = sym answered ∙ a.2.2 gone ∙ r.1 in cc bad)) (taken_or a.0)
-  where
-    when_taken : (y : Runner) → slice_get ys k ≡ Some y → HasAnswer y y2 → y.taken ≡ true → made.turns ≤ made.leave.reads + 1
-    when_taken y at has sits =
-        let p = has.1 sits in
-        let same : series_end y.ran p.0 ≡ made = one_series (series_end y.ran p.0) made (sym p.1 ∙ answered) in
-        let o = run.out.each k y at sits in
-        subst (λ (z : SeriesEnd). z.turns ≤ z.leave.reads + 1) same o.so.2.2

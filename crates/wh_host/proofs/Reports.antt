@@ -1,5 +1,5 @@
 -- The report is that of whatever host the code's represents.
-use Rattle.std.proofs.Common.{◌≡◌, ℕ, zero, suc, ◌+◌, ◌++◌, ◌≤◌, Result, Ok, Err, IfOk, Option, Some, None, List, [], ◌∷◌, length, map, take, get_or, slice_get, refl, sym, ap, subst, ◌∙◌, arith, true}
+use Rattle.std.proofs.Common.{◌≡◌, ℕ, zero, suc, ◌+◌, ◌++◌, ◌≤◌, Result, Ok, Err, IfOk, Option, Some, None, List, [], ◌∷◌, length, map, take, get_or, slice_get, refl, sym, ap, subst, ◌∙◌, arith, true, rules}
 use Rattle.std.specs.List.{All}
 use Rattle.std.proofs.lemmas.List.{append-nil, append_assoc, map-append}
 use Rattle.wh_space_model.specs.{one_if, tally, Claimed, Occupant, Space, claim_of, IsSound, IsUsed}
@@ -66,10 +66,7 @@ get_at (x ∷ xs) zero o is = cc is
 get_at (x ∷ xs) (suc i) o is = get_at xs i o is
 
 shares_of : (t : Occupant) (c : Claimed) → t.live ≡ true → claim_of (Some t) ≡ Some c → c.shares ≡ t.shares
-shares_of t c live is =
-    let mine : Claimed = record { number = t.number; shares = t.shares; min = t.min; max = t.max } in
-    let z : claim_of (Some t) ≡ Some mine = rw live refl in
-    ap (λ (k : Claimed). k.shares) (one_value c mine (sym is ∙ z))
+shares_of t c live is = search rules
 
 -- a live instance has at most n
 shares_few : (w : World) (i : ℕ) (t : Tenant) → ComesAbout w → IsSound w.space → tenant w i ≡ Some t → t.params.shares ≤ 1000000
@@ -77,17 +74,10 @@ shares_few w i t comes sound live =
     let claims = (places w comes).claimed i t live in
     let o = claimed_there w.space t.place (promised i t.params) claims in
     let mine : claim_of (Some o.0) ≡ Some (promised i t.params) = ap claim_of (sym (get_at w.space.occupants t.place (Some o.0) o.1)) ∙ claims in
-    let same = shares_of o.0 (promised i t.params) o.2 mine in
-    let has = sound.occupants.have t.place (Some o.0) o.1 in
-    omega (arith, same, has.6)
+    omega (arith, shares_of o.0 (promised i t.params) o.2 mine, (sound.occupants.have t.place (Some o.0) o.1).6)
 
 seat_shown : (h : HostState) (w : World) → IsHost h w → (instance_ref : InstanceRef) → IsSeatOf w.tenants instance_ref → CanBeShown h.entries instance_ref
-seat_shown h w st instance_ref of x at =
-    let f = st.there instance_ref.number of.0 of.1 in
-    let same : f.0 ≡ x = one_value f.0 x (sym f.1 ∙ ap (entry_at h.entries) of.2 ∙ at) in
-    let given = ap (λ (z : InstanceEntry). z.given.shares) same in
-    let few = shares_few w instance_ref.number of.0 st.comes (sound_here h w st) of.1 in
-    omega (arith, given, f.2.given.shares, few)
+seat_shown h w st instance_ref of x at = search (rules, one_value, shares_few, sound_here)
 
 pub all_shown : (h : HostState) (w : World) (instance_refs : List InstanceRef) → IsHost h w → AreInstanceRefs h instance_refs → All (CanBeShown h.entries) instance_refs
 all_shown h w instance_refs st are =

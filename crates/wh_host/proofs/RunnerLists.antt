@@ -132,8 +132,7 @@ more_out E F ys i y n F2 y2 out there free t = record {
     -- who is out has no number there
     apart_from : (a : Runner) → IsOut E F a SitsThere → a.id.place ≢ y.id.place
     apart_from a had same =
-        let both = sym had.is ∙ ap (entry_at F) same ∙ t.was in
-        let one = ap (λ (z : InstanceEntry). z.number) (one_value _ t.entry both) in
+        let one = ap (λ (z : InstanceEntry). z.number) (one_value _ t.entry (sym had.is ∙ ap (entry_at F) same ∙ t.was)) in
         let bad : None ≡ Some y.id.number = one ∙ t.number in
         cc bad
 
@@ -303,8 +302,7 @@ none_lent (y ∷ ys) free =
 pub lent_to_one : (ys : List Runner) (k : ℕ) (y : Runner) → slice_get ys k ≡ Some y → y.taken ≡ true → lent_to y ≤ lent_to_all ys
 lent_to_one [] k y there taken = absurd (cc there)
 lent_to_one (x ∷ ys) zero y there taken =
-    let same = one_runner x y there in
-    let now = ap (λ (z : Runner). cond z.taken (lent_to z) 0) same ∙ lent_if y taken in
+    let now = ap (λ (z : Runner). cond z.taken (lent_to z) 0) (one_runner x y there) ∙ lent_if y taken in
     omega (arith, now)
 lent_to_one (x ∷ ys) (suc k) y there taken = let rest = lent_to_one ys k y there taken in omega (arith, rest)
 
@@ -319,15 +317,11 @@ lent_most n (Some u) = omega arith
 -- one more has n at most
 pub lent_next : (rs : List (Option InstanceEntry)) (ys : List Runner) (i : ℕ) (y : Runner) (n : ℕ) (rs2 : List (Option InstanceEntry)) (y2 : Runner) → slice_get ys i ≡ Some y → TakesOut rs y n rs2 y2 → lent_to_all (slice_set ys i y2) ≤ lent_to_all ys + n
 lent_next rs ys i y n rs2 y2 there (inl s) =
-    let sum = lent_set ys i y y2 there in
     let now = lent_none y2 (ap (λ (z : Runner). z.taken) s.runner) in
-    omega (arith, sum, now)
+    omega (arith, lent_set ys i y y2 there, now)
 lent_next rs ys i y n rs2 y2 there (inr t) =
-    let sum = lent_set ys i y y2 there in
     let now = lent_if y2 (ap (λ (z : Runner). z.taken) t.runner) in
-    let is = ap lent_to t.runner in
-    let most = lent_most n y.upper in
-    omega (arith, sum, now, is, most)
+    omega (arith, lent_set ys i y y2 there, now, ap lent_to t.runner, lent_most n y.upper)
 
 -- each has no more than before
 pub lent_all : (xs ys : List Runner) → ((k : ℕ) (y : Runner) → slice_get ys k ≡ Some y → (x : Runner) × (slice_get xs k ≡ Some x) × (cond y.taken (lent_to y) 0 ≡ cond x.taken (lent_to x) 0)) → lent_to_all ys ≤ lent_to_all xs

@@ -158,8 +158,7 @@ module _ (h : HostState) (s : Space) (q most : ℕ) (w : World) (F : List (Optio
       let o = it.out in
       let l = lies_here (host_with h st.before m) st.world y.id.place y.id.number entry it.loaded st.host o.was o.number it.is_loaded in
       let lies = l.2 in
-      let run = it.run l.0 lies in
-      let c = run.runs.computes in
+      let c = (it.run l.0 lies).runs.computes in
       (l.0, (l.1, lies.place_is), (λ none. (let bad = sym none ∙ c.calls in cc bad), inl c.waits))
 
   entries_are : F2 ≡ slice_set F y.id.place (Some entry2)
@@ -216,9 +215,7 @@ module _ (h : HostState) (s : Space) (q most : ℕ) (w : World) (F : List (Optio
         looks = λ k a at yet. (let l = left k a at yet in looks_then a.id.place s m m2 (st.looks k a l.0 yet) (f.others a.id.place l.1));
         frames =
             (let sum = lent_set ys i y y2 there in
-            let had = lent_if y sits in
-            let has = lent_none y2 r.free.0 in
-            omega (arith, sum, had, has, st.frames, f.frames));
+            omega (arith, sum, lent_if y sits, lent_none y2 r.free.0, st.frames, f.frames));
         host = host;
         turned = subst (λ zs. AllTurn q most w zs t.0) (sym (take_one ys i y2 y there)) (turn_behind q most w st.world t.0 (take i ys) y2 st.turned takes2);
       }
@@ -292,8 +289,7 @@ laid_next F0 m0 xs F m ys i y F2 m2 y2 h there lays = record {
 
     stands_then : (q most : ℕ) → LaysAt q F m y F2 m2 y2 → (host : HostState) (before : List (Option InstanceEntry)) (s : Space) (w : World) → HaveRun host.modules q most before s F0 m0 xs → Stands host s q most w F m ys i → Stands host s q most w F2 m2 (slice_set ys i y2) (i + 1)
     stands_then q most (inl f) host before s w run st =
-        let none = run.rest i y (h.rest i y (omega arith) there) f.0 in
-        let free = stands_free host s q most w F m ys i y st there f.0 none.1 in
+        let free = stands_free host s q most w F m ys i y st there f.0 (run.rest i y (h.rest i y (omega arith) there) f.0).1 in
         subst (λ rs. Stands host s q most w rs m2 (slice_set ys i y2) (i + 1)) (sym f.1) (subst (λ z. Stands host s q most w F z (slice_set ys i y2) (i + 1)) (sym f.2) (subst (λ z. Stands host s q most w F m (slice_set ys i z) (i + 1)) (sym f.3) free))
     stands_then q most (inr f) host before s w run st = stands_taken host s q most w F m ys i y F2 m2 y2 st there f.0 f.1
 
@@ -428,8 +424,7 @@ heard_all h w q most ys ys2 ys3 st long long2 free all answers k y3 there none t
   where
     elsewhere : (j : ℕ) (z : Runner) → slice_get ys j ≡ Some z → z.taken ≡ true → z.id ≡ y3.id → (i : ℕ) × (x : Runner) × (slice_get ys3 i ≡ Some x) × (x.id ≡ y3.id) × (made : SeriesEnd) × (x.answer ≡ Some made)
     elsewhere j z at sits same =
-        let less = index_there ys j z at in
-        let at3 = at_index ys3 j y3 (omega (arith, less, long, long2)) in
+        let at3 = at_index ys3 j y3 (omega (arith, index_there ys j z at, long, long2)) in
         let z3 = slice_index_or ys3 j y3 in
         let a = answers j z3 at3 in
         let r = all j a.0 a.1 in

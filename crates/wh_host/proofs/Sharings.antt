@@ -1,5 +1,5 @@
 -- How many frames are shared, by what the content table has.
-use Rattle.std.proofs.Common.{◌≡◌, ℕ, zero, suc, ◌+◌, min, Some, List, [], ◌∷◌, length, slice_get, refl, sym, ap, subst, ◌∙◌, arith}
+use Rattle.std.proofs.Common.{◌≡◌, ℕ, zero, suc, ◌+◌, min, Some, List, [], ◌∷◌, length, slice_get, refl, sym, subst, ◌∙◌, arith, rules}
 use Rattle.wh_space_model.specs.{tally, Space, numbers_below, sharers, FramesAreSound, IsSound, Names}
 use Rattle.wh_space_model.specs.declared.states.Mark.{Mark}
 use Rattle.wh_space_model.specs.declared.states.Mark.TheVariants.{Plain, Hint, Sharers, Unlisted}
@@ -14,10 +14,8 @@ tally_shift g (suc n) = let a = tally_shift g n in omega (arith, a)
 by_frame : (w : Mark → ℕ) (g : ℕ → ℕ) (ms : List Mark) → ((f : ℕ) (m : Mark) → slice_get ms f ≡ Some m → w m ≡ g f) → tally w ms ≡ tally g (numbers_below (length ms))
 by_frame w g [] same = refl
 by_frame w g (m ∷ ms) same =
-    let a = tally_shift g (length ms) in
-    let b = same 0 m refl in
     let c = by_frame w (λ k. g (suc k)) ms (λ f x at. same (suc f) x at) in
-    omega (arith, a, b, c)
+    omega (arith, tally_shift g (length ms), same 0 m refl, c)
 
 shared_by : (s : Space) (f : ℕ) (m : Mark) → Names s f (Some m) → (is_shared m ≡ min 1 (sharers s f)) × (sharers_in m ≡ sharers s f)
 shared_by s f Plain none = rw none (refl, refl)
@@ -29,11 +27,7 @@ named : (s : Space) → FramesAreSound s → (f : ℕ) (m : Mark) → slice_get 
 named s sound f m at = subst (Names s f) at (sound.names f)
 
 pub frames_shared : (s : Space) → IsSound s → tally is_shared s.marks ≡ shared_frames s
-frames_shared s sound =
-    let frames = sound.frames in
-    by_frame is_shared (λ f. min 1 (sharers s f)) s.marks (λ f m at. (shared_by s f m (named s frames f m at)).0) ∙ ap (λ n. tally (λ f. min 1 (sharers s f)) (numbers_below n)) frames.marks
+frames_shared s sound = search (rules, by_frame, min, shared_by, named)
 
 pub pages_sharing : (s : Space) → IsSound s → tally sharers_in s.marks ≡ all_sharers s
-pages_sharing s sound =
-    let frames = sound.frames in
-    by_frame sharers_in (sharers s) s.marks (λ f m at. (shared_by s f m (named s frames f m at)).1) ∙ ap (λ n. tally (sharers s) (numbers_below n)) frames.marks
+pages_sharing s sound = search (rules, by_frame, shared_by, named)

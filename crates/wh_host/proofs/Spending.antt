@@ -1,5 +1,5 @@
 -- What a turn takes of the charges of an instance, as its journal says.
-use Rattle.std.proofs.Common.{◌≡◌, ◌∙◌, ℕ, ◌+◌, ◌≤◌, List, [], ◌∷◌, ◌++◌, Option, Some, length, map, slice_get, refl, sym, ap, arith, append_assoc, append-nil}
+use Rattle.std.proofs.Common.{◌≡◌, ◌∙◌, ℕ, ◌+◌, ◌≤◌, List, [], ◌∷◌, ◌++◌, Option, Some, length, map, slice_get, refl, ap, arith, append_assoc, append-nil, rules}
 use Rattle.wh_model.specs.declared.memory.Need.{Need}
 use Rattle.wh_model.specs.Execution.{Call, dead}
 use Rattle.wh_model.specs.Execution.Store.{Instance}
@@ -24,13 +24,7 @@ within_turn call (has_had_its_turn x next all some at_hand) = x.in_turn
 
 -- the present call goes further, and may end
 pub spends_on : (n : ℕ) (t t2 : Tenant) (e f : Entry) (es fs : List Entry) → t.open_calls ≡ e ∷ es → journal t2 ≡ t.ended ++ f ∷ fs → f.call.charges ≡ e.call.charges + n → charges_each fs ≡ charges_each es → Spends n t t2
-spends_on n t t2 e f es fs there now more rest = record {
-  idle = λ none. absurd (let bad = sym none ∙ there in cc bad);
-  present = λ g gs here.
-      (let same : e ≡ g = cc (sym there ∙ here) in
-      let same_rest : es ≡ gs = cc (sym there ∙ here) in
-      (f, fs, now, more ∙ ap (λ (x : Entry). x.call.charges + n) same, rest ∙ ap charges_each same_rest));
-}
+spends_on n t t2 e f es fs there now more rest = search rules
 
 pub spends_further : (t : Tenant) (e : Entry) (es : List Entry) (k n : ℕ) (r : Rest) (d : Doing) (o : Option Suspension) → t.open_calls ≡ e ∷ es → Spends n t (gone_on t (gone_further e k n) es r d o)
 spends_further t e es k n r d o there = spends_on n t (gone_on t (gone_further e k n) es r d o) e (gone_further e k n) es es there refl refl refl
@@ -47,9 +41,7 @@ closed_at {t = t} {e = e} {es = es} (is_dead died) =
     (fs ++ [], append_assoc t.ended (e ∷ fs) [], ap charges_each (append-nil fs) ∙ dead_each es)
 
 pub spends_closed : (n : ℕ) (t t2 : Tenant) (e f : Entry) (es : List Entry) {s : Space} {r : Rest} → t.open_calls ≡ e ∷ es → Closes s t f es r t2 → f.call.charges ≡ e.call.charges + n → Spends n t t2
-spends_closed n t t2 e f es there closes more =
-    let j = closed_at closes in
-    spends_on n t t2 e f es j.0 there j.1 more j.2
+spends_closed n t t2 e f es there closes more = search (rules, closed_at, spends_on)
 
 -- nothing was done
 pub spends_none : (n : ℕ) (t : Tenant) → n ≡ 0 → Spends n t t

@@ -1,5 +1,5 @@
 -- A turn of more charges than some is a turn of n, and one of the rest.
-use Rattle.std.proofs.Common.{◌≡◌, ◌≢◌, ◌∙◌, ◌⊎◌, inl, inr, ℕ, zero, suc, ◌+◌, ◌*◌, ◌-◌, ◌<◌, ◌≤◌, List, [], ◌∷◌, ◌++◌, Option, Some, None, length, reverse, slice_get, slice_set, get_or, refl, sym, ap, subst, arith}
+use Rattle.std.proofs.Common.{◌≡◌, ◌≢◌, ◌∙◌, ◌⊎◌, inl, inr, ℕ, zero, suc, ◌+◌, ◌*◌, ◌-◌, ◌<◌, ◌≤◌, List, [], ◌∷◌, ◌++◌, Option, Some, None, length, reverse, slice_get, slice_set, get_or, refl, sym, ap, subst, arith, rules}
 use Rattle.std.proofs.Math.Nat.{one-mul, suc-mul, zero-mul}
 use Rattle.wh_model.specs.declared.memory.Need.{Need}
 use Rattle.wh_model.specs.declared.Trap.{Trap}
@@ -9,16 +9,16 @@ use Rattle.wh_model.specs.Execution.{Value, FuncInst, Term, code, Config, config
 use Rattle.wh_model.proofs.Opened.{opened_store}
 use Rattle.wh_host_model.specs.declared.plain.TurnEnd.{TurnEnd}
 use Rattle.wh_host_model.specs.declared.plain.TurnEnd.TheVariants.{Again}
-use Rattle.wh_space_model.specs.{Space, Claimed, claim, promise_at, IsSound, ended}
+use Rattle.wh_space_model.specs.{Space, Claimed, claim, IsSound, ended}
 use Rattle.wh_host_model.proofs.Host.Bridges.{ends_well}
 use Rattle.wh_space_model.proofs.Sent.{set_set}
 use Rattle.wh_host_model.proofs.Host.Opening.{proceeds_apart}
-use Rattle.wh_host_model.specs.Host.{StepsAlone, WaitsAlone, KeepsPromise, Rest, Doing, resting, computing, Tenant, journal, store_with, Suspension, for_frame, for_fuel, World, with_tenant, Opens, by_invocation, as_it_was, Computes, HaveTypes, Upshot, to_end, out_of_fuel, to_wait, to_go_on, Proceeds, returns, traps, writes_all, uses_fuel, waits, waits_to_write, has_had_its_turn, gone_further, gone_on, ended_by, Closes, faces_next, is_dead, at_frame, ProceedsIn, Turn, is_idle, has_ended, has_no_fuel, has_no_frame, can_go_on, keeps_its_fault, IsLive, of_one}
+use Rattle.wh_host_model.specs.Host.{StepsAlone, WaitsAlone, Rest, Doing, resting, computing, Tenant, journal, store_with, Suspension, for_frame, for_fuel, World, with_tenant, Opens, by_invocation, as_it_was, Computes, HaveTypes, Upshot, to_end, out_of_fuel, to_wait, to_go_on, Proceeds, returns, traps, writes_all, uses_fuel, waits, waits_to_write, has_had_its_turn, gone_further, gone_on, ended_by, Closes, faces_next, is_dead, at_frame, ProceedsIn, Turn, is_idle, has_ended, has_no_fuel, has_no_frame, can_go_on, keeps_its_fault, IsLive, of_one}
 use Rattle.wh_host_model.specs.{Entry}
 use Rattle.wh_space_model.specs.declared.plain.InstId.{InstId}
 use Rattle.wh_host.proofs.Turns.{claimed_there}
 use Rattle.wh_instance.specs.Bursts.{AreUsed}
-use Rattle.wh_host.specs.Series.{HasSpent, IsWholeOrCut, SeriesOf, Spends, charges_each, last_turn, turn_before}
+use Rattle.wh_host.specs.Series.{HasSpent, IsWholeOrCut, SeriesOf, Spends, last_turn, turn_before}
 use Rattle.wh_host.proofs.Spending.{at_seam, closed_at, spends_on}
 
 -- ---- no frame is around what a call computes
@@ -146,9 +146,7 @@ record Standing {M : Type 0} (bytes : M → List ℕ) (ready : M → Need → Ty
       → Computes bytes ready keeps inst more (later call k q) from r1 (computing term) 0 n m2 c2
 
 opens_bare : {M : Type 0} {bytes : M → List ℕ} {ready : M → Need → Type 0} {keeps : M → M → Type 0} {inst : Instance} {call : Call} {m m2 : M} {r : Rest} {d : Doing} {k : ℕ} {c : Config} → Opens bytes ready keeps inst call m r d k m2 c → IsSettled inst c × IsBare c × (bytes m2 ≡ (store_of c).bytes)
-opens_bare {bytes = bytes} {inst = inst} {r = r} (by_invocation {m1 = m1} {c = c} {c1 = c1} w i a) =
-    let bare : IsBare c = subst IsBare (sym i.begins) refl in
-    (a.1, leads_bare a.0 bare, ap (λ (s : Store). s.bytes) (ap store_of (sym i.begins)) ∙ ap (λ (s : Store). s.bytes) (sym (opened_store a)))
+opens_bare {bytes = bytes} {inst = inst} {r = r} (by_invocation {m1 = m1} {c = c} {c1 = c1} w i a) = search (rules, leads_bare, opened_store)
 opens_bare {bytes = bytes} {m = m} {r = r} (as_it_was {term = term} a) = (a.1, leads_bare a.0 refl, ap (λ (s : Store). s.bytes) (sym (opened_store a)))
 
 stands_at : {M : Type 0} {bytes : M → List ℕ} {ready : M → Need → Type 0} {keeps : M → M → Type 0} {inst : Instance} {q more : ℕ} {call : Call} {m m2 : M} {r : Rest} {d : Doing} {k n : ℕ} {c2 : Config} → Computes bytes ready keeps inst (q + more) call m r d k (q + suc n) m2 c2
@@ -241,24 +239,11 @@ turn_sound (has_had_its_turn x next all left asked) some = takes_sound x.takes s
 
 -- ---- where it stands between them
 
--- a step from where it stands is one from where it stood
-promise_from : (i : ℕ) (a b c : Space) → KeepsPromise i a c → promise_at b i ≡ promise_at a i → KeepsPromise i b c
-promise_from i a b c (inl same) kept = inl (same ∙ sym kept)
-promise_from i a b c (inr none) kept = inr none
-
 steps_from : (i : ℕ) (s stands x : Space) → WaitsAlone i None s stands → StepsAlone i s x → StepsAlone i stands x
-steps_from i s stands x w y = record {
-  others = λ j other. (let a = w.steps.others j other in let b = y.others j other in record { view = b.view ∙ sym a.view; wants = b.wants ∙ sym a.wants; claim = b.claim ∙ sym a.claim; promise = promise_from j s stands x b.promise (w.steps.places j other) });
-  places = λ j other. y.places j other ∙ sym (w.steps.places j other);
-  claim = y.claim ∙ sym w.steps.claim;
-  sound = y.sound;
-}
+steps_from i s stands x w y = search rules
 
 further_same : (e : Entry) (k q n i : ℕ) → i ≡ q + n → gone_further (gone_further e k q) 0 n ≡ gone_further e k i
-further_same e k q n i is =
-    let charges : e.call.charges + q + n ≡ e.call.charges + i = omega (arith, is) in
-    let pieces : e.call.fragments + k + 0 ≡ e.call.fragments + k = omega arith in
-    rw (charges, pieces) refl
+further_same e k q n i is = search rules
 
 frame_then : (n : ℕ) (o : Option Suspension) → 1 ≤ n → at_frame n o ≡ Some for_frame
 frame_then zero o some = absurd (omega (arith, some))
@@ -288,11 +273,9 @@ first_turn : (q more n i : ℕ) (s : Space) (t : Tenant) (e : Entry) (es : List 
     → FirstTurn q more s t e es to k (suc n) s2 r d c
 first_turn q more n i s t e es to k s2 r d c claimed some is there goes =
     let h = halves q more n is goes in
-    let apart = proceeds_apart t e h.first in
-    let at : claim h.mid t.place ≡ Some c = apart.claim ∙ claimed in
+    let at : claim h.mid t.place ≡ Some c = (proceeds_apart t e h.first).claim ∙ claimed in
     let o = claimed_there h.mid t.place c at in
-    let sound = turn_sound h.first some in
-    let z = ends_well h.mid t.place o.0 sound o.1 o.2 in
+    let z = ends_well h.mid t.place o.0 (turn_sound h.first some) o.1 o.2 in
     let w = z.0 in
     record {
       between = ended h.mid t.place;
@@ -305,15 +288,7 @@ first_turn q more n i s t e es to k s2 r d c claimed some is there goes =
 
 -- what the two took is what was taken
 spent_then : (q n : ℕ) (t t2 mid : Tenant) (e e1 : Entry) (es : List Entry) → t.open_calls ≡ e ∷ es → mid.open_calls ≡ e1 ∷ es → mid.ended ≡ t.ended → e1.call.charges ≡ e.call.charges + q → Spends (q + n) t t2 → Spends n mid t2
-spent_then q n t t2 mid e e1 es there there1 ended more spends = record {
-  idle = λ none. absurd (let bad = sym none ∙ there1 in cc bad);
-  present = λ g gs here.
-      (let s = spends.present e es there in
-      let same : e1 ≡ g = cc (sym there1 ∙ here) in
-      let same_rest : es ≡ gs = cc (sym there1 ∙ here) in
-      let charges = ap (λ (x : Entry). x.call.charges) same in
-      (s.0, s.1, s.2 ∙ ap (λ (xs : List Entry). xs ++ s.0 ∷ s.1) (sym ended), omega (arith, charges, s.3, more), s.4 ∙ ap charges_each same_rest));
-}
+spent_then q n t t2 mid e e1 es there there1 ended more spends = search rules
 
 two_turns : (q more n : ℕ) (s : Space) (t : Tenant) (e : Entry) (es : List Entry) (to : Upshot) (k : ℕ) (s2 s3 : Space) (r : Rest) (d : Doing) (c : Claimed) (end : TurnEnd) (t2 : Tenant) → t.open_calls ≡ e ∷ es → Spends (q + suc n) t t2 → (f : FirstTurn q more s t e es to k (suc n) s2 r d c)
     → Turn more f.between (gone_on t (gone_further e k q) es f.r1 (computing f.term) None) end s3 t2 → TwoTurns q more (suc n) s t end s3 t2 c
@@ -385,14 +360,7 @@ same_one : (w : World) (id : InstId) (a b : Tenant) → IsLive w id a → IsLive
 same_one w id a b x y = let both : Some a ≡ Some b = sym x.0 ∙ y.0 in cc both
 
 pub has_spent : (w : World) (id : InstId) (n : ℕ) (t t2 : Tenant) (s : Space) → IsLive w id t → Spends n t t2 → HasSpent w id n (with_tenant w id.number (Some t2) s)
-has_spent w id n t t2 s live spends = (
-  λ none. absurd (none t live),
-  λ u u2 live_u live_u2.
-      (let first = same_one w id t u live live_u in
-      let both : Some t2 ≡ Some u2 = sym (live_then w.tenants id.number t t2 live.0) ∙ live_u2.0 in
-      let second : t2 ≡ u2 = cc both in
-      subst (λ z. Spends n z u2) first (subst (λ z. Spends n t z) second spends)),
-)
+has_spent w id n t t2 s live spends = search (rules, same_one, live_then)
 
 -- of one number of charges, or of another that is the same
 whole_or_cut : (q q2 few n : ℕ) (end : TurnEnd) → q2 ≡ q → IsWholeOrCut q2 few n end → IsWholeOrCut q few n end

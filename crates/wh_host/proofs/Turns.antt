@@ -83,8 +83,7 @@ stays_here s i c steps sound at none =
 may_stand : (s : Space) (i : ℕ) (o : Occupant) (need : Need) → IsSound s → o.live ≡ true → IsInMemory (view s i) need → (want : Need) → Some need ≡ Some want → MayWaitFor s i o want
 may_stand s i o need sound live lies want e =
     let same : need ≡ want = cc e in
-    let long = view_length s i sound in
-    subst (MayWaitFor s i o) same (live, subst (λ n. need.at + need.length ≤ n) long lies.0, lies.1)
+    subst (MayWaitFor s i o) same (live, subst (λ n. need.at + need.length ≤ n) (view_length s i sound) lies.0, lies.1)
 
 pub waits_here : (s : Space) (i : ℕ) (c : Claimed) (need : Need) (steps : ℕ) → IsSound s → claim s i ≡ Some c → IsInMemory (view s i) need → steps ≡ 0 → Leaves i (Some need) steps s (stood s i (Some need))
 waits_here s i c need steps sound at lies none =

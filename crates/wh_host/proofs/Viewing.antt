@@ -1,5 +1,5 @@
 -- The memory of one instance, lent from that of all, and an instance over either.
-use Rattle.std.proofs.Common.{◌≡◌, ℕ, inl, List, [], Option, None, length, get_or, refl, sym, ap, subst, ◌∙◌}
+use Rattle.std.proofs.Common.{◌≡◌, ℕ, List, [], Option, length, refl, sym, ap, subst, ◌∙◌, rules}
 use Rattle.wh_model.specs.declared.memory.Need.{Need}
 use Rattle.wh_model.specs.Validity.{Context}
 use Rattle.wh_model.specs.declared.ValType.{ValType}
@@ -7,7 +7,7 @@ use Rattle.wh_model.specs.Execution.Store.{Instance, Store}
 use Rattle.wh_model.specs.Execution.{Config, Term, config, trapped, Piece, Within, Call, Invocation, IsSettled}
 use Rattle.wh_model.specs.Focus.Focused.{Focused}
 use Rattle.wh_model.specs.Focus.{running, finished, stopped, plug}
-use Rattle.wh_space_model.specs.{Space, Occupant, view, claim_of, need_of, promised_to, IsSound}
+use Rattle.wh_space_model.specs.{Space, view, IsSound}
 use Rattle.wh_space_model.specs.Ready.{Ready}
 use Rattle.wh_host_model.specs.Host.{StepsAlone, Rest, Doing, Tenant, store_with}
 use Rattle.wh_host_model.specs.{Entry}
@@ -27,17 +27,7 @@ use Rattle.wh_host.proofs.Lending.{Lent}
 -- ---- steps
 
 pub steps_alone : (i : ℕ) (s s2 : Space) → IsSound s → KeepsRest i s s2 → StepsAlone i s s2
-steps_alone i s s2 sound keeps = record {
-  others = λ j other. record {
-    view = keeps.views j other;
-    wants = ap (λ (xs : List (Option Occupant)). need_of (get_or xs j None)) keeps.occupants;
-    claim = ap (λ (xs : List (Option Occupant)). claim_of (get_or xs j None)) keeps.occupants;
-    promise = inl (ap (λ (xs : List (Option Occupant)). promised_to (get_or xs j None)) keeps.occupants);
-  };
-  places = λ j other. ap (λ (xs : List (Option Occupant)). promised_to (get_or xs j None)) keeps.occupants;
-  claim = ap (λ (xs : List (Option Occupant)). claim_of (get_or xs i None)) keeps.occupants;
-  sound = keeps.sound sound;
-}
+steps_alone i s s2 sound keeps = search rules
 
 abbrev pub KeepsView : View → View → Type 0
 KeepsView v w = (v.memory.ghost_name ≡ w.memory.ghost_name) × (w.place ≡ v.place) × (w.page_limit ≡ v.page_limit)

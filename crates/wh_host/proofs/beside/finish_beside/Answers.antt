@@ -1,4 +1,4 @@
-use Rattle.std.proofs.Common.{ap, sym, subst, ◌∙◌}
+use Rattle.std.proofs.Common.{ap, sym, subst, ◌∙◌, rules}
 use Rattle.wh_host_model.specs.declared.plain.TurnEnd.{TurnEnd}
 use Rattle.wh_space_model.specs.{Space}
 use Rattle.wh_instance.specs.Settling.{brought_on}
@@ -9,10 +9,7 @@ use Rattle.wh_host.proofs.Leavings.{turned_memory}
 use Rattle.wh_host.proofs.beside.finish_beside.Goals as goal
 
 pub finish-turned-requires : goal.finish-turned-requires
-finish-turned-requires c =
-    let r = c.requires in
-    let ran = c.args.ran in
-    can_finish r.0 r.1 r.2 r.3 c.args.memory.now c.args.place r.4 r.5 ran.came ran.pieces ran.charges c.args.tenant.now c.args.upper.now r.6
+finish-turned-requires c = search (rules, can_finish)
 
 pub settle_at-requires : goal.settle_at-requires
 settle_at-requires c =
@@ -51,9 +48,7 @@ returns-clause-others c other apart =
     looks_on c.args.place other c.args.memory.now lay.new.memory c.settle_at.new.memory c.finish-turned.result apart (lay.ensures.others other apart) lay.ensures.keeps c.settle_at.ensures.leaves
 
 pub returns-clause-memory : goal.returns-clause-memory
-returns-clause-memory c =
-    let lay = c.lay_beside in
-    turned_memory c.args.place c.finish-turned.result c.settle_at.result c.args.memory.now lay.new.memory c.settle_at.new.memory lay.ensures.keeps.steps c.settle_at.ensures.answer c.settle_at.ensures.leaves
+returns-clause-memory c = search (rules, turned_memory)
 
 pub returns-clause-again : goal.returns-clause-again
 returns-clause-again c again =

@@ -1,4 +1,4 @@
-use Rattle.std.proofs.Common.{◌<◌, length, slice_index_or, arith}
+use Rattle.std.proofs.Common.{◌<◌, length, slice_index_or, arith, rules}
 use Rattle.wh_host.proofs.RunnerLists.{at_index, index_there}
 use Rattle.wh_host.proofs.RunnerTurns.{all_laid, can_finish_at, laid_next, laid_none}
 use Rattle.wh_host.proofs.joining.lay_all.Goals as goal
@@ -24,10 +24,7 @@ loop-at-preserved c =
     (at_index now.runners now.at c.index-runners-at.result less) c.lay_at.ensures)
 
 pub returns-clause-free : goal.returns-clause-free
-returns-clause-free c = λ k y there.
-    (let now = c.loop-at in
-    let within = index_there now.runners k y there in
-    now.invariant.done k y (omega (arith, within, c.loop-at-test.false, now.auto.runners, now.auto.at-end)) there (λ z at gone. (c.requires.6.rest k z at gone).0))
+returns-clause-free c = search (rules, index_there)
 
 pub returns-clause-turns : goal.returns-clause-turns
 returns-clause-turns c = λ h q most before s w run host.

@@ -1,4 +1,4 @@
-use Rattle.std.proofs.Common.{◌<◌, length, slice_index_or, arith}
+use Rattle.std.proofs.Common.{◌<◌, length, slice_index_or, arith, rules}
 use Rattle.wh_host.proofs.RunnerLists.{at_index, index_there, lent_next, none_lent, taken_next, taken_none}
 use Rattle.wh_host.proofs.joining.take_all.Goals as goal
 
@@ -23,14 +23,7 @@ pub returns-clause-frames : goal.returns-clause-frames
 returns-clause-frames c = let few = c.loop-at.invariant.1 in omega (arith, few)
 
 pub returns-clause-rest : goal.returns-clause-rest
-returns-clause-rest c = λ k y there free.
-    (let now = c.loop-at in
-    let h = now.invariant.0 in
-    let within = index_there now.runners k y there in
-    (h.free k y there free, h.none k y (omega (arith, within, c.loop-at-test.false, now.auto.runners, now.auto.at-end)) there free))
+returns-clause-rest c = search (rules, index_there)
 
 pub returns-clause-left : goal.returns-clause-left
-returns-clause-left c = λ k y there free.
-    (let now = c.loop-at in
-    let within = index_there now.runners k y there in
-    now.invariant.0.left k y (omega (arith, within, c.loop-at-test.false, now.auto.runners, now.auto.at-end)) there free)
+returns-clause-left c = search (rules, index_there)

@@ -1,20 +1,17 @@
-use Rattle.std.proofs.Common.{refl, sym, subst}
+use Rattle.std.proofs.Common.{refl, sym, subst, rules}
 use Rattle.wh_host_model.specs.declared.plain.TurnEnd.{TurnEnd}
 use Rattle.wh_space_model.specs.{Space, view}
 use Rattle.wh_host.specs.Lent.{TurnsTo, settled_in}
-use Rattle.wh_host.proofs.Backed.{settled_backing, same_backing, then_backing}
+use Rattle.wh_host.proofs.Backed.{same_backing}
 use Rattle.wh_host.proofs.Leavings.{turned_memory}
 use Rattle.wh_host.proofs.Turns.{idle_turn}
 use Rattle.wh_host.proofs.turning.turn_at.Goals as goal
 
 pub returns-then-is_idle-clause-turns : goal.returns-then-is_idle-clause-turns
-returns-then-is_idle-clause-turns c t lies =
-    idle_turn c.args.linked.now c.args.page_limit c.args.q c.args.tenant.now c.args.memory.now c.args.place t lies (c.if-is_idle.ensures c.args.linked.now c.args.page_limit (view c.args.memory.now c.args.place) t lies.is)
+returns-then-is_idle-clause-turns c t lies = search (rules, idle_turn)
 
 pub turn_lent-turned-requires : goal.turn_lent-turned-requires
-turn_lent-turned-requires c =
-    let given = c.requires in
-    (given.0, c.if-is_idle.ensures c.args.linked.now c.args.page_limit (view c.args.memory.now c.args.place) given.0 given.1.is, given.1)
+turn_lent-turned-requires c = search rules
 
 pub settle_at-requires : goal.settle_at-requires
 settle_at-requires c =
@@ -37,20 +34,13 @@ returns-clause-few c =
     (c.turn_lent-turned.ensures.turns given.0 some given.1).1.0
 
 pub returns-clause-backing : goal.returns-clause-backing
-returns-clause-backing c =
-    let s1 = c.turn_lent-turned.new.memory in
-    let settled = settled_in s1 c.args.place c.turn_lent-turned.result.0 in
-    then_backing c.args.memory.now settled c.settle_at.new.memory
-    (then_backing c.args.memory.now s1 settled c.turn_lent-turned.ensures.backing (settled_backing s1 c.args.place c.turn_lent-turned.result.0))
-    (same_backing settled c.settle_at.new.memory c.settle_at.ensures.leaves)
+returns-clause-backing c = search rules
 
 pub returns-then-is_idle-clause-backing : goal.returns-then-is_idle-clause-backing
 returns-then-is_idle-clause-backing c = same_backing c.args.memory.now c.args.memory.now refl
 
 pub returns-clause-memory : goal.returns-clause-memory
-returns-clause-memory c =
-    turned_memory c.args.place c.turn_lent-turned.result.0 c.settle_at.result c.args.memory.now c.turn_lent-turned.new.memory c.settle_at.new.memory
-    c.turn_lent-turned.ensures.steps c.settle_at.ensures.answer c.settle_at.ensures.leaves
+returns-clause-memory c = search (rules, turned_memory)
 
 pub returns-then-is_idle-clause-memory : goal.returns-then-is_idle-clause-memory
 returns-then-is_idle-clause-memory c = refl

@@ -1,8 +1,5 @@
 use Rattle.std.proofs.Common.{rules, ◌≡◌, subst}
 use Rattle.wh_host.specs.Lent.{TurnsLent}
-use Rattle.wh_host.specs.Backing.{KeepsBacking}
-use Rattle.wh_space.specs.InstanceSteps.{TakesSteps}
-use Rattle.wh_host.proofs.Backed.{rest_backing}
 use Rattle.wh_host.proofs.Turns.{lent_turn, lent_open}
 use Rattle.wh_host.proofs.turning.turn_lent.Goals as goal
 
@@ -19,11 +16,7 @@ returns-clause-turns c t some lies =
     (lent_turn c.args.linked.now c.args.q c.args.tenant.now c.turn.new.self _ c.turn.new.memory t c.turn.result.0 c.turn.result.1 (record { sound = c.invariant.ensures.sound; keeps = keeps; lies = lies; turns = c.turn.ensures.turns }) some)
 
 pub returns-clause-backing : goal.returns-clause-backing
-returns-clause-backing c =
-    let back : c.turn.new.memory.memory.now ≡ _ = search rules in
-    subst (KeepsBacking c.args.memory.now) back (rest_backing c.args.place c.args.memory.now c.turn.new.memory.memory.now c.turn.ensures.keeps.3)
+returns-clause-backing c = search rules
 
 pub returns-clause-steps : goal.returns-clause-steps
-returns-clause-steps c =
-    let back : c.turn.new.memory.memory.now ≡ _ = search rules in
-    subst (TakesSteps c.args.place c.args.memory.now) back c.turn.ensures.keeps.3.steps
+returns-clause-steps c = search rules

@@ -1,16 +1,15 @@
-use Rattle.std.proofs.Common.{Some, refl, sym, ap, subst, ◌∙◌, ◌+◌, arith, Option, List}
+use Rattle.std.proofs.Common.{Some, refl, sym, subst, ◌∙◌, ◌+◌, arith, Option, List, rules}
 use Rattle.slab.specs.Slab.{Updates}
 use Rattle.wh_host_model.specs.{no_module}
-use Rattle.wh_host_model.specs.Host.{admit_ok, admit_refused, admit_out_of_memory, no_memory_to_admit, promised}
-use Rattle.wh_space_model.specs.{Enters}
+use Rattle.wh_host_model.specs.Host.{admit_ok, admit_refused, admit_out_of_memory, no_memory_to_admit}
 use Rattle.wh_load.specs.Refusing.{view_linked}
 use Rattle.wh_admit.specs.declared.room.Room.{Room}
 use Rattle.wh_admit.specs.AdmitErrors.{fault_of}
 use Rattle.wh_params.specs.View.{view_params}
 use Rattle.wh_host.specs.declared.parts.InstanceEntry.{InstanceEntry}
 use Rattle.wh_host.specs.Admitting.{fault_answer}
-use Rattle.wh_host.specs.Hosting.{HostState, IsHost}
-use Rattle.wh_host.proofs.Comers.{admitted_here, begins_as, claim_is, few_live, module_is_small, no_module_is_there, refused_as, room_for, stands}
+use Rattle.wh_host.specs.Hosting.{IsHost}
+use Rattle.wh_host.proofs.Comers.{admitted_here, begins_as, few_live, module_is_small, no_module_is_there, refused_as, room_for, stands}
 use Rattle.wh_host.proofs.Fields.{host_of, shown_host}
 use Rattle.wh_host.proofs.host.Host.admit.Goals as goal
 
@@ -63,19 +62,16 @@ returns-in_default-entered-clause-admits c w st =
     let h = host_of c.self.inside in
     let here = shown_host w c.self.view_is st in
     let stand = stands h w c.args.of.number c.in-Some.module.now (record { frames = c.frames_left.result; slots = c.slots_left.result; live = c.self.inside.live }) here (sym c.in-Some.ensures) c.frames_left.ensures c.slots_left.ensures refl in
-    let none = c.in-Ok.ensures.ok w c.args.of.number stand in
     let kept = subst (λ s. IsHost (record h { entries = c.enter_next-entered.new.entries.slots; space = s }) w) (sym c.in_default-entered.ensures.memory) (subst (λ (zs : List (Option InstanceEntry)). IsHost (record h { entries = zs }) w) (sym c.in_default-entered.ensures.entries) here) in
-    (admit_out_of_memory, w, refl, no_memory_to_admit none, kept)
+    (admit_out_of_memory, w, refl, no_memory_to_admit (c.in-Ok.ensures.ok w c.args.of.number stand), kept)
 
 pub overflow_add-self : goal.overflow_add-self
 overflow_add-self c =
     let h = host_of c.self.inside in
     let inv = c.self.invariant in
     let stand = stands h inv.0 c.args.of.number c.in-Some.module.now (record { frames = c.frames_left.result; slots = c.slots_left.result; live = c.self.inside.live }) inv.1 (sym c.in-Some.ensures) c.frames_left.ensures c.slots_left.ensures refl in
-    let p = view_params c.args.params in
     let none = c.in-Ok.ensures.ok inv.0 c.args.of.number stand in
-    let few = few_live h inv.0 c.args.of.number p inv.1 none in
-    omega (arith, few)
+    omega (arith, few_live h inv.0 c.args.of.number (view_params c.args.params) inv.1 none)
 
 pub invariant_of-self-2 : goal.invariant_of-self-2
 invariant_of-self-2 c =
@@ -102,13 +98,4 @@ returns-clause-admits c w st =
     (admit_ok _, made.0, refl, made.1, subst (λ n. IsHost (record h { entries = c.insert_reserved.new.self.slots; live = i.live + 1; space = c.enter_next-entered.new.memory; next = n }) made.0) (sym c.in-Some-checked_add.ensures.1) made.2)
 
 pub returns-clause-memory : goal.returns-clause-memory
-returns-clause-memory c =
-    let i = c.self.inside in
-    let p = view_params c.args.params in
-    let begins = begins_as (view_linked c.in-Some.module.now.linked) p c.in-Ok.admitted c.in-Ok.ensures.begins in
-    let same_claim = claim_is i.next c.in-Ok.admitted p begins.shares begins.min begins.max in
-    let space = ap (λ (z : HostState). z.space) c.self.view_is in (
-      c.in-Ok.admitted.begun.pages,
-      subst (λ s. Enters s c.in-Ok-entered.place (promised i.next p) c.in-Ok.admitted.begun.pages c.enter_next-entered.new.memory) space
-          (subst (λ z. Enters i.memory c.in-Ok-entered.place z c.in-Ok.admitted.begun.pages c.enter_next-entered.new.memory) same_claim c.in-Ok-entered.ensures.ok.enters),
-    )
+returns-clause-memory c = search rules

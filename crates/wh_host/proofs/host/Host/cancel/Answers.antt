@@ -1,4 +1,4 @@
-use Rattle.std.proofs.Common.{Some, slice_set, refl, sym, ap, subst, ◌∙◌}
+use Rattle.std.proofs.Common.{Some, slice_set, refl, sym, ap, subst, ◌∙◌, rules}
 use Rattle.wh_host_model.specs.Host.{call_ok, call_no_instance, call_no_call, no_one_to_cancel, no_call_to_cancel}
 use Rattle.wh_space_model.specs.{ended}
 use Rattle.wh_host.specs.Hosting.{HostState, IsHost}
@@ -22,8 +22,7 @@ returns-then-not-has_number-clause-asks c w st =
     (call_no_instance, w, refl, no_one_to_cancel none, here)
 
 pub returns-then-not-has_number-clause-err : goal.returns-then-not-has_number-clause-err
-returns-then-not-has_number-clause-err c =
-    put_back (host_of c.self.inside) c.args.id.place c.in-Some.entry.now (sym c.in-Some.ensures.value) ∙ c.self.view_is
+returns-then-not-has_number-clause-err c = search (rules, put_back, host_of)
 
 pub invariant_of-self-then-not-cancel : goal.invariant_of-self-then-not-cancel
 invariant_of-self-then-not-cancel c =
@@ -36,8 +35,7 @@ returns-then-not-cancel-clause-asks c w st =
     (call_no_call, w, refl, no_call_to_cancel who.1 who.2, who.3)
 
 pub returns-then-not-cancel-clause-err : goal.returns-then-not-cancel-clause-err
-returns-then-not-cancel-clause-err c =
-    kept_back (host_of c.self.inside) c.args.id.place c.in-Some.entry.now c.cancel.new.self (c.if-not-cancel.ensures.none refl).1 (sym c.in-Some.ensures.value) ∙ c.self.view_is
+returns-then-not-cancel-clause-err c = search (rules, kept_back, host_of)
 
 pub end-requires : goal.end-requires
 end-requires c =

@@ -1,4 +1,4 @@
-use Rattle.std.proofs.Common.{◌≡◌, [], Some, None, ap, subst}
+use Rattle.std.proofs.Common.{◌≡◌, [], Some, None, ap, subst, rules}
 use Rattle.wh_space_model.specs.{BeginsEvict}
 use Rattle.wh_host.specs.Hosting.{HostState}
 use Rattle.wh_host.proofs.Carrying.{evict_begun, evicting_out}
@@ -7,8 +7,7 @@ use Rattle.wh_host.proofs.Fields.{host_of, shown_host}
 use Rattle.wh_host.proofs.host.Host.evict_begin.Goals as goal
 
 pub returns-in_default-clause-moves : goal.returns-in_default-clause-moves
-returns-in_default-clause-moves c w st =
-    only_nothing c.args.self.now w st
+returns-in_default-clause-moves c w st = search (rules, only_nothing)
 
 pub returns-in_default-clause-begins : goal.returns-in_default-clause-begins
 returns-in_default-clause-begins c need waits =
@@ -26,8 +25,7 @@ returns-in-Err-clause-moves c w st =
 
 pub returns-in-Err-clause-begins : goal.returns-in-Err-clause-begins
 returns-in-Err-clause-begins c need waits =
-    let h = host_of c.self.inside in
-    let space : h.space ≡ c.args.self.now.space = ap (λ (z : HostState). z.space) c.self.view_is in
+    let space : (host_of c.self.inside).space ≡ c.args.self.now.space = ap (λ (z : HostState). z.space) c.self.view_is in
     subst (λ s. BeginsEvict s c.args.id.place None [] c.evict_begin.new.memory) space c.in-Err.ensures.begins
 
 pub returns-in-Err-clause-idle : goal.returns-in-Err-clause-idle
@@ -46,8 +44,7 @@ returns-clause-moves c w st =
 
 pub returns-clause-begins : goal.returns-clause-begins
 returns-clause-begins c need waits =
-    let h = host_of c.self.inside in
-    let space : h.space ≡ c.args.self.now.space = ap (λ (z : HostState). z.space) c.self.view_is in
+    let space : (host_of c.self.inside).space ≡ c.args.self.now.space = ap (λ (z : HostState). z.space) c.self.view_is in
     subst (λ s. BeginsEvict s c.args.id.place (Some c.in-Ok.ticket.slot) c.in-Ok.ticket.bytes c.evict_begin.new.memory) space c.in-Ok.ensures.begins
 
 pub returns-clause-idle : goal.returns-clause-idle
@@ -55,8 +52,7 @@ returns-clause-idle c none =
     absurd (none c.in-Some.ensures.0.0 c.in-Some.ensures.0.1)
 
 pub returns-clause-call : goal.returns-clause-call
-returns-clause-call c =
-    c.in-Some.ensures.1
+returns-clause-call c = search rules
 
 pub returns-clause-out : goal.returns-clause-out
 returns-clause-out c =

@@ -22,8 +22,7 @@ returns-clause-moves c w st =
 
 pub returns-clause-ends : goal.returns-clause-ends
 returns-clause-ends c =
-    let h = host_of c.self.inside in
-    let space : h.space ≡ c.args.self.now.space = ap (λ (z : HostState). z.space) c.self.view_is in
+    let space : (host_of c.self.inside).space ≡ c.args.self.now.space = ap (λ (z : HostState). z.space) c.self.view_is in
     subst (λ s. EndsEvict s c.args.eviction.ticket.slot (is_ok c.args.device) c.args.eviction.ticket.bytes c.end_eviction-end.result.0 c.end_eviction-end.new.memory) space c.end_eviction-end.ensures.ends
 
 pub returns-clause-leaves : goal.returns-clause-leaves

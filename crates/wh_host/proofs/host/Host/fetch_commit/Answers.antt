@@ -1,5 +1,5 @@
-use Rattle.std.proofs.Common.{◌≡◌, [], OnOk, get_or, is_ok, sym, ap, subst, ◌∙◌}
-use Rattle.wh_space_model.specs.{to_read, CommitsFetch}
+use Rattle.std.proofs.Common.{◌≡◌, [], OnOk, get_or, sym, ap, subst, ◌∙◌, rules}
+use Rattle.wh_space_model.specs.{to_read}
 use Rattle.wh_space.specs.TicketOwners.{ticket_place}
 use Rattle.wh_host.specs.TicketsOut.{IsOut, KeepsFault, fetch_fault}
 use Rattle.wh_host.specs.Hosting.{HostState}
@@ -30,10 +30,7 @@ returns-clause-moves c held w st =
     fetch_ended h w c.args.fetched.id c.args.fetched.call c.args.fetched.ticket.slot c.args.device c.args.fetched.ticket.bytes c.fetch_commit-end.result.0 (fetch_fault c.fetch_commit-end.result.0 c.args.device) c.fetch_commit-end.new.memory c.keep_fault.new.entries.slots c.leave_released.new.entries.slots (shown_host w c.self.view_is st) read c.fetch_commit-end.ensures.commits kept c.leave_released.ensures.stays
 
 pub returns-clause-ends : goal.returns-clause-ends
-returns-clause-ends c =
-    let h = host_of c.self.inside in
-    let space : h.space ≡ c.args.self.now.space = ap (λ (z : HostState). z.space) c.self.view_is in
-    subst (λ s. CommitsFetch s c.args.fetched.ticket.slot (is_ok c.args.device) c.args.fetched.ticket.bytes c.fetch_commit-end.result.0 c.fetch_commit-end.new.memory) space c.fetch_commit-end.ensures.commits
+returns-clause-ends c = search rules
 
 pub returns-clause-leaves : goal.returns-clause-leaves
 returns-clause-leaves c at e free =

@@ -1,4 +1,4 @@
-use Rattle.std.proofs.Common.{refl, sym, ◌∙◌}
+use Rattle.std.proofs.Common.{refl, sym, ◌∙◌, rules}
 use Rattle.wh_host_model.specs.Host.{invoke_ok, invoke_no_instance, has_no_instance}
 use Rattle.wh_instance.specs.Invoked.{refusal_of}
 use Rattle.wh_host.specs.CallRequests.{refusal_answer}
@@ -22,8 +22,7 @@ returns-then-not-has_number-clause-asks c w st =
     (invoke_no_instance, w, refl, has_no_instance none, here)
 
 pub returns-then-not-has_number-clause-err : goal.returns-then-not-has_number-clause-err
-returns-then-not-has_number-clause-err c =
-    put_back (host_of c.self.inside) c.args.id.place c.in-Some.entry.now (sym c.in-Some.ensures.value) ∙ c.self.view_is
+returns-then-not-has_number-clause-err c = search (rules, put_back, host_of)
 
 pub invariant_of-self-in_default-module_at : goal.invariant_of-self-in_default-module_at
 invariant_of-self-in_default-module_at c =
@@ -51,8 +50,7 @@ returns-in-Err-clause-asks c w st =
     (refusal_answer (refusal_of c.in-Err.error), w, refl, refused, shown_host w (kept_back h c.args.id.place x c.invoke.new.self c.in-Err.ensures.err.1 (sym c.in-Some.ensures.value)) here)
 
 pub returns-in-Err-clause-err : goal.returns-in-Err-clause-err
-returns-in-Err-clause-err c =
-    kept_back (host_of c.self.inside) c.args.id.place c.in-Some.entry.now c.invoke.new.self c.in-Err.ensures.err.1 (sym c.in-Some.ensures.value) ∙ c.self.view_is
+returns-in-Err-clause-err c = search (rules, kept_back, host_of)
 
 pub invariant_of-self-2 : goal.invariant_of-self-2
 invariant_of-self-2 c =

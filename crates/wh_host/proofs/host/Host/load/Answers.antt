@@ -1,7 +1,6 @@
-use Rattle.std.proofs.Common.{◌<◌, length, refl, sym, ap, subst, ◌∙◌, arith, List}
+use Rattle.std.proofs.Common.{◌<◌, length, refl, sym, subst, ◌∙◌, arith, rules}
 use Rattle.wh_host_model.specs.Host.{modules_full, host_out_of_memory, load_ok, load_refused, load_out_of_memory}
-use Rattle.wh_host.specs.declared.parts.LoadedModule.{LoadedModule}
-use Rattle.wh_host.specs.Hosting.{HostState, IsHost}
+use Rattle.wh_host.specs.Hosting.{IsHost}
 use Rattle.wh_host.proofs.Requests.{bytes_refused, kept_here, modules_are_full, no_room_to_keep}
 use Rattle.wh_host.proofs.Fields.{host_of, shown_host}
 use Rattle.wh_host.proofs.host.Host.load.Goals as goal
@@ -17,9 +16,8 @@ returns-then-len-ge-MOST_MODULES-clause-loads c w st =
 
 pub invariant_of-self : goal.invariant_of-self
 invariant_of-self c =
-    let h = host_of c.self.inside in
     let inv = c.self.invariant in
-    (inv.0, subst (λ ms. IsHost (record h { modules = ms }) inv.0) (sym c.in-Err-keep.ensures.err) inv.1)
+    (inv.0, subst (λ ms. IsHost (record (host_of c.self.inside) { modules = ms }) inv.0) (sym c.in-Err-keep.ensures.err) inv.1)
 
 pub returns-in-Err-keep-clause-loads : goal.returns-in-Err-keep-clause-loads
 returns-in-Err-keep-clause-loads c w st =
@@ -30,9 +28,7 @@ returns-in-Err-keep-clause-loads c w st =
     (load_out_of_memory host_out_of_memory, w, refl, no_room_to_keep h w c.args.bytes.now _ here c.in-Ok.ensures.ok few, subst (λ ms. IsHost (record h { modules = ms }) w) (sym c.in-Err-keep.ensures.err) here)
 
 pub returns-in-Err-keep-clause-err : goal.returns-in-Err-keep-clause-err
-returns-in-Err-keep-clause-err c =
-    let h = host_of c.self.inside in
-    ap (λ (ms : List LoadedModule). let s : HostState = record h { modules = ms } in s) c.in-Err-keep.ensures.err ∙ c.self.view_is
+returns-in-Err-keep-clause-err c = search rules
 
 pub invariant_of-self-2 : goal.invariant_of-self-2
 invariant_of-self-2 c =

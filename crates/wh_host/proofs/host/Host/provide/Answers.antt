@@ -1,7 +1,6 @@
-use Rattle.std.proofs.Common.{◌≡◌, Some, refl, sym, ap, subst, ◌∙◌}
+use Rattle.std.proofs.Common.{◌≡◌, Some, sym, ap, subst, ◌∙◌, rules}
 use Rattle.wh_host_model.specs.Host.{AwaitsFrame}
 use Rattle.wh_space_model.specs.{tickets, IsProvided, FailsToProvide, FailsTruly, Provides, ProvidesTruly}
-use Rattle.wh_reclaim.specs.Whole.{IsAsWhole}
 use Rattle.wh_host.specs.Hosting.{HostState, IsHost, entry_at}
 use Rattle.wh_host.specs.Paging.{WaitsFor}
 use Rattle.wh_host.proofs.Hosts.{put_back}
@@ -14,24 +13,21 @@ returns-in_default-clause-moves g c honest w st =
     nothing_moves (host_of c.self.inside) w c.args.id AwaitsFrame (shown_host w c.self.view_is st)
 
 pub returns-in_default-clause-provides : goal.returns-in_default-clause-provides
-returns-in_default-clause-provides g c need waits honest =
-    absurd (no_one_waits (host_of c.self.inside) c.args.id need (sym c.in_default.ensures.value) (still_waits c.args.id need c.self.view_is waits))
+returns-in_default-clause-provides g c need waits honest = search rules
 
 pub returns-in_default-clause-right : goal.returns-in_default-clause-right
 returns-in_default-clause-right g c need waits =
     absurd (no_one_waits (host_of c.self.inside) c.args.id need (sym c.in_default.ensures.value) (still_waits c.args.id need c.self.view_is waits))
 
 pub returns-then-not-has_number-clause-provides : goal.returns-then-not-has_number-clause-provides
-returns-then-not-has_number-clause-provides g c need waits honest =
-    absurd (another_waits (host_of c.self.inside) c.args.id need c.in-Some.entry.now (sym c.in-Some.ensures.value) c.if-not-has_number.ensures (still_waits c.args.id need c.self.view_is waits))
+returns-then-not-has_number-clause-provides g c need waits honest = search rules
 
 pub returns-then-not-has_number-clause-right : goal.returns-then-not-has_number-clause-right
 returns-then-not-has_number-clause-right g c need waits =
     absurd (another_waits (host_of c.self.inside) c.args.id need c.in-Some.entry.now (sym c.in-Some.ensures.value) c.if-not-has_number.ensures (still_waits c.args.id need c.self.view_is waits))
 
 pub returns-then-not-awaits_frame-clause-provides : goal.returns-then-not-awaits_frame-clause-provides
-returns-then-not-awaits_frame-clause-provides g c need waits honest =
-    absurd (nothing_waits (host_of c.self.inside) c.args.id need c.in-Some.entry.now (sym c.in-Some.ensures.value) c.if-not-has_number.ensures c.if-not-awaits_frame.ensures (still_waits c.args.id need c.self.view_is waits))
+returns-then-not-awaits_frame-clause-provides g c need waits honest = search rules
 
 pub returns-then-not-awaits_frame-clause-right : goal.returns-then-not-awaits_frame-clause-right
 returns-then-not-awaits_frame-clause-right g c need waits =
@@ -46,8 +42,7 @@ returns-then-not-has_number-clause-moves g c honest w st =
     nothing_moves _ w c.args.id AwaitsFrame (back_there (host_of c.self.inside) w c.args.id.place c.in-Some.entry.now c.self.view_is st (sym c.in-Some.ensures.value))
 
 pub returns-then-not-has_number-clause-idle : goal.returns-then-not-has_number-clause-idle
-returns-then-not-has_number-clause-idle g c none =
-    (put_back (host_of c.self.inside) c.args.id.place c.in-Some.entry.now (sym c.in-Some.ensures.value) ∙ c.self.view_is, refl, refl)
+returns-then-not-has_number-clause-idle g c none = search (rules, put_back, host_of)
 
 pub invariant_of-self-then-not-awaits_frame : goal.invariant_of-self-then-not-awaits_frame
 invariant_of-self-then-not-awaits_frame g c =
@@ -58,8 +53,7 @@ returns-then-not-awaits_frame-clause-moves g c honest w st =
     nothing_moves _ w c.args.id AwaitsFrame (back_there (host_of c.self.inside) w c.args.id.place c.in-Some.entry.now c.self.view_is st (sym c.in-Some.ensures.value))
 
 pub returns-then-not-awaits_frame-clause-idle : goal.returns-then-not-awaits_frame-clause-idle
-returns-then-not-awaits_frame-clause-idle g c none =
-    (put_back (host_of c.self.inside) c.args.id.place c.in-Some.entry.now (sym c.in-Some.ensures.value) ∙ c.self.view_is, refl, refl)
+returns-then-not-awaits_frame-clause-idle g c none = search (rules, put_back, host_of)
 
 pub invariant_of-self-in-Ok : goal.invariant_of-self-in-Ok
 invariant_of-self-in-Ok g c =
@@ -139,14 +133,10 @@ returns-clause-moves g c honest w st =
     failed_here h w c.args.id x c.fail.new.self c.in-Err.fault c.provide.new.memory (shown_host w c.self.view_is st) at c.if-not-has_number.ensures c.if-not-awaits_frame.ensures none (λ need stands. c.in-Err.ensures.fails_truly need stands honest) keeps
 
 pub returns-in-Ok-clause-whole : goal.returns-in-Ok-clause-whole
-returns-in-Ok-clause-whole g c =
-    let space = ap (λ (z : HostState). z.space) c.self.view_is in
-    subst (λ s. IsAsWhole s c.provide.new.memory) space c.provide.ensures.whole
+returns-in-Ok-clause-whole g c = search rules
 
 pub returns-clause-whole : goal.returns-clause-whole
-returns-clause-whole g c =
-    let space = ap (λ (z : HostState). z.space) c.self.view_is in
-    subst (λ s. IsAsWhole s c.provide.new.memory) space c.provide.ensures.whole
+returns-clause-whole g c = search rules
 
 pub returns-in_default-clause-anyhow : goal.returns-in_default-clause-anyhow
 returns-in_default-clause-anyhow g c w st =
@@ -180,16 +170,13 @@ returns-clause-anyhow g c w st =
     failed_anyhow h w c.args.id x c.fail.new.self c.in-Err.fault c.provide.new.memory (shown_host w c.self.view_is st) at c.if-not-has_number.ensures c.if-not-awaits_frame.ensures none (λ need stands. c.in-Err.ensures.fails need stands) keeps
 
 pub returns-in_default-clause-provides_anyhow : goal.returns-in_default-clause-provides_anyhow
-returns-in_default-clause-provides_anyhow g c need waits =
-    absurd (no_one_waits (host_of c.self.inside) c.args.id need (sym c.in_default.ensures.value) (still_waits c.args.id need c.self.view_is waits))
+returns-in_default-clause-provides_anyhow g c need waits = search rules
 
 pub returns-then-not-has_number-clause-provides_anyhow : goal.returns-then-not-has_number-clause-provides_anyhow
-returns-then-not-has_number-clause-provides_anyhow g c need waits =
-    absurd (another_waits (host_of c.self.inside) c.args.id need c.in-Some.entry.now (sym c.in-Some.ensures.value) c.if-not-has_number.ensures (still_waits c.args.id need c.self.view_is waits))
+returns-then-not-has_number-clause-provides_anyhow g c need waits = search rules
 
 pub returns-then-not-awaits_frame-clause-provides_anyhow : goal.returns-then-not-awaits_frame-clause-provides_anyhow
-returns-then-not-awaits_frame-clause-provides_anyhow g c need waits =
-    absurd (nothing_waits (host_of c.self.inside) c.args.id need c.in-Some.entry.now (sym c.in-Some.ensures.value) c.if-not-has_number.ensures c.if-not-awaits_frame.ensures (still_waits c.args.id need c.self.view_is waits))
+returns-then-not-awaits_frame-clause-provides_anyhow g c need waits = search rules
 
 pub returns-in-Ok-clause-provides_anyhow : goal.returns-in-Ok-clause-provides_anyhow
 returns-in-Ok-clause-provides_anyhow g c need waits =

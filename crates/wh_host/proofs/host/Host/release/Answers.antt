@@ -1,4 +1,4 @@
-use Rattle.std.proofs.Common.{ap, ◌≡◌, ◌+◌, ◌-◌, Some, None, refl, sym, subst, ◌∙◌, arith}
+use Rattle.std.proofs.Common.{ap, ◌≡◌, ◌+◌, ◌-◌, Some, None, refl, sym, subst, ◌∙◌, arith, rules}
 use Rattle.wh_host_model.specs.Host.{no_one_to_release}
 use Rattle.wh_space_model.specs.{Exits}
 use Rattle.wh_host.specs.Hosting.{HostState}
@@ -23,8 +23,7 @@ returns-then-not-has_number-clause-goes c w st =
     (None, w, refl, no_one_to_release none, here)
 
 pub returns-then-not-has_number-clause-err : goal.returns-then-not-has_number-clause-err
-returns-then-not-has_number-clause-err c =
-    put_back (host_of c.self.inside) c.args.id.place c.in-Some.entry.now (sym c.in-Some.ensures.value) ∙ c.self.view_is
+returns-then-not-has_number-clause-err c = search (rules, put_back, host_of)
 
 pub exit-requires : goal.exit-requires
 exit-requires c =

@@ -1,4 +1,4 @@
-use Rattle.std.proofs.Common.{refl, sym, ◌∙◌}
+use Rattle.std.proofs.Common.{refl, sym, ◌∙◌, rules}
 use Rattle.wh_host_model.specs.Host.{Retries, retry, call_ok, call_no_instance, call_no_call, is_retried, no_one_to_retry, no_fault_to_retry}
 use Rattle.wh_host.proofs.Hosts.{asked_here, kept_back, put_back, retry_stays}
 use Rattle.wh_host.proofs.Fields.{another_there, host_of, nobody_there, some_host, shown_host, unmoved_there}
@@ -19,8 +19,7 @@ returns-then-not-has_number-clause-asks c w st =
     (call_no_instance, w, refl, no_one_to_retry none, here)
 
 pub returns-then-not-has_number-clause-err : goal.returns-then-not-has_number-clause-err
-returns-then-not-has_number-clause-err c =
-    put_back (host_of c.self.inside) c.args.id.place c.in-Some.entry.now (sym c.in-Some.ensures.value) ∙ c.self.view_is
+returns-then-not-has_number-clause-err c = search (rules, put_back, host_of)
 
 pub invariant_of-self-then-not-retry : goal.invariant_of-self-then-not-retry
 invariant_of-self-then-not-retry c =
@@ -33,8 +32,7 @@ returns-then-not-retry-clause-asks c w st =
     (call_no_call, w, refl, no_fault_to_retry who.1 who.2, who.3)
 
 pub returns-then-not-retry-clause-err : goal.returns-then-not-retry-clause-err
-returns-then-not-retry-clause-err c =
-    kept_back (host_of c.self.inside) c.args.id.place c.in-Some.entry.now c.retry.new.self (c.if-not-retry.ensures.none refl).1 (sym c.in-Some.ensures.value) ∙ c.self.view_is
+returns-then-not-retry-clause-err c = search (rules, kept_back, host_of)
 
 pub invariant_of-self-2 : goal.invariant_of-self-2
 invariant_of-self-2 c =

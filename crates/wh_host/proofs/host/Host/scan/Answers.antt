@@ -1,5 +1,4 @@
-use Rattle.std.proofs.Common.{ap}
-use Rattle.wh_host.specs.Hosting.{HostState}
+use Rattle.std.proofs.Common.{rules}
 use Rattle.wh_host.proofs.Backed.{scans_backing, same_backing, then_backing}
 use Rattle.wh_host.proofs.Offering.{scanned_here}
 use Rattle.wh_host.proofs.Paged.{only_nothing}
@@ -7,8 +6,7 @@ use Rattle.wh_host.proofs.Fields.{host_of, shown_host}
 use Rattle.wh_host.proofs.host.Host.scan.Goals as goal
 
 pub returns-then-not-has_few_pages-clause-moves : goal.returns-then-not-has_few_pages-clause-moves
-returns-then-not-has_few_pages-clause-moves g c w st =
-    only_nothing c.args.self.now w st
+returns-then-not-has_few_pages-clause-moves g c w st = search (rules, only_nothing)
 
 pub invariant_of-self : goal.invariant_of-self
 invariant_of-self g c =
@@ -23,8 +21,4 @@ returns-clause-moves g c w st =
     scanned_here (host_of c.self.inside) w hashes _ c.scan_all.new.memory (shown_host w c.self.view_is st) c.scan_all.ensures.scans.2
 
 pub returns-clause-backing : goal.returns-clause-backing
-returns-clause-backing g c =
-    let s = c.self.inside.memory in
-    let hashes = g.H.PageHash.hashes c.args.hasher.now in
-    let here = same_backing c.args.self.now.space s (ap (λ (z : HostState). z.space) c.self.view_is) in
-    then_backing c.args.self.now.space s c.scan_all.new.memory here (scans_backing hashes s _ c.scan_all.new.memory c.scan_all.ensures.scans.2)
+returns-clause-backing g c = search (rules, same_backing, then_backing, scans_backing)

@@ -1,6 +1,6 @@
-use Rattle.std.proofs.Common.{◌+◌, sym, subst, ◌∙◌, arith}
+use Rattle.std.proofs.Common.{◌+◌, sym, subst, ◌∙◌, arith, rules}
 use Rattle.wh_host.specs.Hosting.{IsHost}
-use Rattle.wh_host.proofs.Reaching.{each_had_leave, each_takes_some}
+use Rattle.wh_host.proofs.Reaching.{each_takes_some}
 use Rattle.wh_host.proofs.RunnerTurns.{have_run, heard_all, may_run_all}
 use Rattle.wh_host.proofs.Fields.{host_of}
 use Rattle.wh_host.proofs.host.Host.turns_at_once.Goals as goal
@@ -52,9 +52,4 @@ returns-clause-some g c least w st =
     c.lay_all.ensures.answers
 
 pub returns-clause-leave : goal.returns-clause-leave
-returns-clause-leave g c =
-    let h = host_of c.self.inside in
-    let out = c.take_all.ensures in
-    each_had_leave h c.args.burst.quantum (c.args.burst.further + 1) c.take_all.new.entries.slots h.space c.run_all.new.runners c.lay_all.new.runners
-    (have_run h c.args.burst.quantum (c.args.burst.further + 1) c.take_all.new.entries.slots c.take_all.new.runners c.run_all.new.runners c.run_all.auto.runners (let few = out.frames in let free = c.free.ensures in omega (arith, few, free)) out.out out.rest c.run_all.ensures)
-    c.lay_all.ensures.answers
+returns-clause-leave g c = search rules

@@ -1,4 +1,4 @@
-use Rattle.std.proofs.Common.{◌+◌, ◌<◌, length, slice_index_or, refl, arith}
+use Rattle.std.proofs.Common.{◌+◌, ◌<◌, length, slice_index_or, arith, rules}
 use Rattle.wh_host.specs.Rounds.{RunsAt}
 use Rattle.wh_host.proofs.RunnerLists.{at_index, each_all, each_next}
 use Rattle.wh_host.proofs.rounds.InOrderRoundRunner.run_all.Goals as goal
@@ -11,11 +11,7 @@ run-requires c = λ sits.
     c.requires.may now.at y (now.invariant.0.rest now.at y (omega arith) (at_index now.runners now.at c.index-runners-at.result less)) sits)
 
 pub loop-at-preserved : goal.loop-at-preserved
-loop-at-preserved c =
-    let now = c.loop-at in
-    let y = slice_index_or now.runners now.at c.index-runners-at.result in
-    let less : now.at < length now.runners = omega (arith, c.loop-at-test.true, now.auto.runners, now.auto.at-end) in
-    (each_next (RunsAt c.args.round.now.modules.now.items c.args.round.now.memory.now c.args.round.now.burst.quantum (c.args.round.now.burst.further + 1)) c.args.runners.now now.runners now.at y c.run.new.runner now.invariant.0 (at_index now.runners now.at c.index-runners-at.result less) c.run.ensures, refl)
+loop-at-preserved c = search (rules, slice_index_or, each_next, at_index)
 
 pub returns : goal.returns
 returns c =
