@@ -11,7 +11,7 @@ shown = [
     ("docs/guide/compiling-rust.md", "examples/rust/words.rs", "rust"),
     ("docs/guide/compiling-cpp.md", "examples/cpp/shapes.cpp", "cpp"),
 ]
-printed = [("docs/guide/library.md", "examples/library/hello.stdout")]
+printed = [("docs/guide/library.md", f"examples/library/{name}.stdout") for name in ("hello", "warm")]
 others = [
     (page, program)
     for page, program, language in shown

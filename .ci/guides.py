@@ -83,6 +83,25 @@ def shows_times(count):
     return lambda page, block: same(page.printed, block * count)
 
 
+def shows_lines(page, block):
+    """The lines stand in the files of the examples that they name behind them."""
+    for line in block.splitlines():
+        code, name = re.fullmatch(r"(.*?)  (?://|#) (\S+)", line).groups()
+        found = [file for file in (*ROOT.glob("examples/library/*"), *ROOT.glob("bindings/rust/examples/*")) if file.name == name]
+        same(str([code in file.read_text() for file in found]), "[True]")
+
+
+def shows_alike(name, other):
+    """The programs that the first block builds and runs in its last three lines print this block under another name."""
+
+    def step(page, block):
+        lines = next(page.blocks()).splitlines()[-3:]
+        page.run("\n".join(line.replace(name, other) for line in lines))
+        same(page.printed, block * 3)
+
+    return step
+
+
 def begins(page, block):
     same(page.printed[: len(block)], block)
 
@@ -255,7 +274,10 @@ PAGES = {
         ["example_embedding"],
         [is_file("crates/example_embedding/src/main.rt"), in_folder("crates/example_embedding"), shows_times(2)],
     ),
-    "docs/guide/library.md": (["libwolqedir.a", "gcc", "cargo"], [runs, shows_times(3)]),
+    "docs/guide/library.md": (
+        ["libwolqedir.a", "gcc", "cargo"],
+        [runs, shows_times(3), shows_lines, shows_alike("hello", "warm")],
+    ),
     "docs/guide/many-machines.md": (
         ["wasmhost", "parallel", "xxd", "/tmp/hello.wasm"],
         [left("it writes to /usr/local"), parallel],

@@ -8,7 +8,7 @@ import subprocess
 import sys
 
 root = pathlib.Path(__file__).resolve().parent.parent
-MOST_WORDS = 42900
+MOST_WORDS = 43400
 LINK = re.compile(r"\[[^\]]*\]\(([^)\s]+)\)")
 HEADING = re.compile(r"#{1,6} +(.*)")
 
@@ -91,12 +91,12 @@ def miscounts(files):
 def other_sentences():
     """The faults that the guide explains in other words than the library does. Of L3 the library says what it says of D13."""
     said = set(re.findall(r'^    "(.*)",$', (root / "crates/wolqedir/src/texts.rt").read_text(), re.M))
-    for line in prose(pathlib.PurePosixPath("docs/guide/script.md")):
+    for page, line in ((page, line) for page in ("docs/guide/script.md", "docs/guide/library.md") for line in prose(page)):
         cells = [cell.strip() for cell in line.strip().strip("|").split("|")]
         for name, text in zip(cells, cells[1:]):
             plain = re.sub(r"\[([^\]]*)\]\([^)]*\)", r"\1", text).replace("`", "")
-            if name != "L3" and re.fullmatch(r"[DVLATHS]\d+", name) and plain not in said:
-                yield f"docs/guide/script.md: {name}: the library has no sentence {plain!r}"
+            if name != "L3" and re.fullmatch(r"[DVLATHSF]\d+", name) and plain not in said:
+                yield f"{page}: {name}: the library has no sentence {plain!r}"
 
 
 def is_counted(page):

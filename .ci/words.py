@@ -4,7 +4,7 @@ pages."""
 import pathlib, re, sys
 
 OLD = set("""
-    Awake BlankPact Bond Crew Desk Engine Enrolled EnrolledModule Fittings Fork Guest Half Inlet Keeper Lender LoadWant Made Manner Matter
+    Awake BlankPact Bond Crew Desk Engine Enrolled EnrolledModule Fittings Guest Half Inlet Keeper Lender LoadWant Made Manner Matter
     Means Outlet Pace Pact Patience Reception Resident Roster Seat Slip Staff Standby StandsByEvents StandsDuly StandsForFrame
     StandsForHost StandsForScript StandsRightly TakenOn Ties TurnedDown TurnsDownModule Upper
     engine_on fittings guest guests nothing_made roster said scarce stands_for stint taken_on turned_down

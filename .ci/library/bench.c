@@ -1,6 +1,7 @@
 /* Figures of the library, by hand: `bench calls MODULE EXPORT ARG IDLE` makes 60000 calls of an instance beside so many idle ones,
- * each by wq_invoke, wq_run and wq_status_of; `bench run MODULE EXPORT COUNT FUEL` lets so many instances compute at once, and
- * `bench idle MODULE COUNT` admits so many. Processor time, and what /proc says of memory. */
+ * each by wq_invoke, wq_run and wq_status_of; `bench run MODULE EXPORT COUNT FUEL` lets so many instances compute at once, `bench
+ * idle MODULE COUNT` admits so many, and `bench forks MODULE WARM EXPORT ARG COPIES`, behind a call of WARM, copies an instance so
+ * often, and then 60000 times, calling each copy and releasing it. Processor time, and what /proc says of memory. */
 #include "wolqedir.h"
 #include <stdio.h>
 #include <stdlib.h>
@@ -84,6 +85,35 @@ static void together(size_t module, const char *export, int count, uint64_t fuel
   printf("%d at once: %.3f s, %.2f ns a charge\n", count, now() - began, (now() - began) * 1e9 / (double)charges);
 }
 
+static wq_instance forked(const wq_instance *template) {
+  wq_quota quota = {.shares = 1, .min = 2, .max = 16};
+  wq_instance copy = {0, 0};
+  must(wq_fork(&host, template, &quota, &copy));
+  return copy;
+}
+
+static void forks(size_t module, const char *warm, const char *export, int64_t arg, int copies) {
+  const int count = 60000;
+  static const int64_t none[1];
+  size_t len = 0;
+  uint64_t charges = 0;
+  wq_instance template = admit(module);
+  invoke(&template, warm, none, 0, 1000000);
+  run();
+  double began = now();
+  for (int at = 0; at < copies; at++) forked(&template);
+  printf("%d copies: %.2f us each\n", copies, (now() - began) / copies * 1e6);
+  began = now();
+  for (int at = 0; at < count; at++) {
+    wq_instance copy = forked(&template);
+    invoke(&copy, export, &arg, 1, 1000000);
+    charges += run();
+    must(wq_release(&host, &copy, &len));
+  }
+  double each = (now() - began) / count;
+  printf("beside them: %.2f us a copy, a call of %.1f charges and a release\n", each * 1e6, (double)charges / count);
+}
+
 static void memory(void) {
   char line[128];
   FILE *file = fopen("/proc/self/status", "r");
@@ -97,6 +127,7 @@ int main(int count, char **words) {
   size_t module = load(words[2]);
   if (strcmp(words[1], "calls") == 0 && count == 6) calls(module, words[3], atoll(words[4]), atoi(words[5]));
   if (strcmp(words[1], "run") == 0 && count == 6) together(module, words[3], atoi(words[4]), strtoull(words[5], NULL, 10));
+  if (strcmp(words[1], "forks") == 0 && count == 7) forks(module, words[3], words[4], atoll(words[5]), atoi(words[6]));
   if (strcmp(words[1], "idle") == 0) {
     for (int at = 0; at < atoi(words[3]); at++) admit(module);
     run();

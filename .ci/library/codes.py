@@ -1,13 +1,14 @@
 """Each code of the library, met by what it stands for. What the guide shows of modules that are refused is asked of the library,
 with the fault that the guide names; and each sentence is the guide's."""
 import ctypes
+import itertools
 import os
 import re
 
 from driven import MOST, ROOT, generate, wolqedir
 from wolqedir import Host, Refused
 
-GUIDE = os.path.join(ROOT, "docs", "guide", "script.md")
+GUIDES = [os.path.join(ROOT, "docs", "guide", page) for page in ("script.md", "library.md")]
 # A body of 257 times i32.const 0.
 HIGH = bytes.fromhex("0061736d01000000010401600000030201000a870401840400") + bytes.fromhex("4100") * 257 + b"\x0b"
 # That it was done; a scan of a host whose frames and slots are 2^32 together, for which there is no room; and faults of the swap
@@ -23,19 +24,18 @@ def named(code):
 def sentences():
     """The sentences of the guide's tables, without their marks, by the names of faults; and its modules that are refused."""
     texts, modules = {}, []
-    with open(GUIDE) as guide:
-        for line in guide:
-            cells = [cell.strip() for cell in line.strip().strip("|").split("|")]
-            for name, text in zip(cells, cells[1:]):
-                if re.fullmatch(r"[DVLATHS]\d+", name):
-                    texts.setdefault(name, re.sub(r"\[([^\]]*)\]\([^)]*\)", r"\1", text).replace("`", ""))
-            modules += re.findall(r"\| `module \w+ ([0-9a-f]+)` \|.*`([DVL]\d+)", line)
+    for line in itertools.chain.from_iterable(map(open, GUIDES)):
+        cells = [cell.strip() for cell in line.strip().strip("|").split("|")]
+        for name, text in zip(cells, cells[1:]):
+            if re.fullmatch(r"[DVLATHSF]\d+", name):
+                texts.setdefault(name, re.sub(r"\[([^\]]*)\]\([^)]*\)", r"\1", text).replace("`", ""))
+        modules += re.findall(r"\| `module \w+ ([0-9a-f]+)` \|.*`([DVL]\d+)", line)
     return {**texts, "L3": texts["D13"]}, modules
 
 
 def codes():
     """All codes that there are, by the header."""
-    families = enumerate([0, 13, 11, 3, 2, 9, 8, 10, 3])
+    families = enumerate([0, 13, 11, 3, 2, 9, 8, 10, 3, 4])
     return [*range(8), *(256 * family + number for family, most in families for number in range(1, most + 1))]
 
 
@@ -45,7 +45,7 @@ def texts():
     told = {named(code): wolqedir.code_text(code) for code in codes()}
     other = [(name, text, guide.get(name)) for name, text in told.items() if not text or text != guide.get(name, text)]
     assert not other, other
-    assert len(guide) == 56, len(guide)
+    assert len(guide) == 60, len(guide)
     known = set(codes())
     others = [code for code in range(4096) if (wolqedir.code_text(code) is not None) != (code in known)]
     assert not others and wolqedir.code_text(2**32 - 1) is None, others
@@ -120,6 +120,42 @@ def of_requests():
         yield code_of(lambda: host.invoke(a, "f", fuel=MOST))
 
 
+def not_copied(host, wanted, instance, max=32, **quota):
+    """The code by which an instance isn't copied. The host is as it was."""
+    before = host.report()
+    found = code_of(lambda: host.fork(instance, max=max, **quota))
+    assert found == wanted and host.report() == before, (wanted, found)
+    return found
+
+
+def of_forks():
+    """The codes of copies."""
+    with Host(frames=6, slots=65536) as host:
+        pages, trapping = host.load(pool("pages")), host.load(pool("trapping"))
+        a, dead = host.admit(pages, max=32), host.admit(trapping, max=16, fuel=MOST)
+        host.invoke(a, "fill", [0, 6, 1], fuel=MOST)
+
+        yield not_copied(host, "F1", a)
+        host.run(MOST)
+        yield not_copied(host, "F2", dead, 16)
+        yield not_copied(host, "F3", a, 16)
+        host.release(dead)
+        b = host.admit(pages, max=32)
+        host.invoke(b, "fill", [0, 2, 1], fuel=MOST)
+        host.run(MOST)
+        yield not_copied(host, "F4", a)
+        host.release(b)
+        yield not_copied(host, "H1", b)
+        quotas = {"A2": {"shares": 0}, "A3": {"min": 1}, "A4": {"min": 5}, "A5": {"max": 65536}, "A7": {"max": 15}}
+        for wanted, quota in quotas.items():
+            yield not_copied(host, wanted, a, **quota)
+    with Host(frames=8192 + 2, slots=8192) as host:
+        a = host.admit(host.load(pool("empty")), max=2)
+        for _ in range(4095):
+            host.fork(a, max=2)
+        yield not_copied(host, "A6", a, 2)
+
+
 # Calls that trap: of which module, of which export, with which arguments.
 TRAPS = {
     "T2": ("wide", "div_s", [1, 0]),
@@ -173,4 +209,4 @@ def of_handles():
 
 def met():
     """The codes that come."""
-    return {code for part in (of_modules, of_admissions, of_requests, of_traps, of_handles) for code in part()}
+    return {code for part in (of_modules, of_admissions, of_requests, of_forks, of_traps, of_handles) for code in part()}

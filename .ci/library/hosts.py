@@ -18,6 +18,7 @@ def raised(act):
 def acts(host, instance):
     """What can be asked of an instance."""
     yield lambda: host.invoke(instance, "f", fuel=MOST)
+    yield lambda: host.fork(instance)
     yield lambda: host.status(instance, 0)
     yield lambda: host.refuel(instance, 1)
     yield lambda: host.retry(instance)

@@ -3,10 +3,10 @@
 ARCHIVE is another libwolqedir.a than that which archive.py gives, and WASMHOST another program than crates/wasmhost/out/wasmhost.
 
 It needs gcc, cargo and python3, and ends with the name of the one that is missing. The examples are built, under the sanitizers
-where gcc has them, and have to print examples/library/hello.stdout, also over the library as it is installed; random scripts get of
-the library what they get of wasmhost; each code comes; turns are as the header says; a host that is let go gives back all memory;
-where a request for memory is refused, the host is as it was; and the bindings keep numbers in their ranges, hosts apart, and threads
-from one another."""
+where gcc has them, and have to print what examples/library has, the first also over the library as it is installed; random scripts
+get of the library what they get of wasmhost; each code comes; turns are as the header says; copies come to what their calls come to
+alone; a host that is let go gives back all memory; where a request for memory is refused, the host is as it was; and the bindings
+keep numbers in their ranges, hosts apart, and threads from one another."""
 import os
 import random
 import re
@@ -63,27 +63,25 @@ def examples(folder):
     import installed
 
     flags = sanitizers(folder)
-    program = folder + "/hello"
     libraries = [folder + "/libwolqedir.a", folder + "/liblibc_c.a"]
-    warned = ["gcc", "-std=c11", "-Wall", "-Wextra", "-Werror", "-g", "-O1"]
-    run([*warned, *flags, "-Ibindings/c", "examples/library/hello.c", *libraries, "-o", program])
+    warned = ["gcc", "-std=c11", "-Wall", "-Wextra", "-Werror", "-g", "-O1", *flags, "-Ibindings/c"]
     cargo = ["-q", "--offline", "--release", "--manifest-path", "bindings/rust/Cargo.toml"]
     rust = {"WOLQEDIR_LIB": folder, "CARGO_TARGET_DIR": folder + "/target"}
+    python = {"WOLQEDIR_SO": folder + "/installed/lib/libwolqedir.so", "PYTHONPATH": ROOT + "/bindings/python"}
     run(["cargo", "test", *cargo, "--tests"], env={**os.environ, **rust})
-    with open(ROOT + "/examples/library/hello.stdout") as file:
-        wanted = file.read()
-    for words, settings in (
-        ([program], {}),
-        (["cargo", "run", *cargo, "--example", "hello"], rust),
-        (
-            ["python3", "examples/library/hello.py"],
-            {"WOLQEDIR_SO": folder + "/installed/lib/libwolqedir.so", "PYTHONPATH": ROOT + "/bindings/python"},
-        ),
-        *installed.programs(folder + "/installed", folder),
-    ):
-        got = run(words, env={**os.environ, **settings})
-        if got != wanted:
-            sys.exit(f"{' '.join(words)} printed\n{got}in place of\n{wanted}")
+    for name in ("hello", "warm"):
+        run([*warned, f"examples/library/{name}.c", *libraries, "-o", f"{folder}/{name}"])
+        with open(f"{ROOT}/examples/library/{name}.stdout") as file:
+            wanted = file.read()
+        for words, settings in (
+            ([f"{folder}/{name}"], {}),
+            (["cargo", "run", *cargo, "--example", name], rust),
+            (["python3", f"examples/library/{name}.py"], python),
+            *(installed.programs(folder + "/installed", folder) if name == "hello" else ()),
+        ):
+            got = run(words, env={**os.environ, **settings})
+            if got != wanted:
+                sys.exit(f"{' '.join(words)} printed\n{got}in place of\n{wanted}")
     return "under the sanitizers" if flags else "without sanitizers, which gcc lacks"
 
 
@@ -195,6 +193,7 @@ def main(archive=None, program=ROOT + "/crates/wasmhost/out/wasmhost"):
         os.environ["WOLQEDIR_SO"] = folder + "/refusing.so"
         import codes
         import epochs
+        import forks
         import refusals
         import turns
 
@@ -211,6 +210,7 @@ def main(archive=None, program=ROOT + "/crates/wasmhost/out/wasmhost"):
         assert refusals.blocks() == 0, refusals.blocks()
         print("each host gave back all blocks of memory that it had taken")
         print(f"{turns.alike()} runs gave instances their turns of 1000 charges, one after the other")
+        print(f"{forks.warm()} copies of a template took frames for what they wrote, and {forks.alone()} calls of others came to the same alone")
         print(f"{epochs.begun()} runs began epochs where the header says")
         lacking = {codes.named(code) for code in codes.codes()} - met - codes.UNMET
         assert not lacking, f"codes that never came: {sorted(lacking)}"

@@ -15,6 +15,7 @@ STRUCTS = [
     ("Handle", "wq_host", "Handle", "Handle"),
     ("RawInstance", "wq_instance", "Instance", "RawInstance"),
     ("RawParams", "wq_params", "Params", "Params"),
+    ("RawQuota", "wq_quota", "Quota", "Quota"),
     ("Progress", "wq_progress", "Progress", "Progress"),
     ("RawStatus", "wq_status", "Status", "Told"),
     ("RawReport", "wq_report", "Report", "RawReport"),
@@ -202,7 +203,7 @@ def kinds():
 def same():
     """How many exports there are, and how many places of structs. All declare the same."""
     wanted, shapes = exports(), structs()
-    assert len(wanted) == 18 and len(shapes) == len(STRUCTS), (len(wanted), len(shapes))
+    assert len(wanted) == 19 and len(shapes) == len(STRUCTS), (len(wanted), len(shapes))
     for where, found, told in (
         ("bindings/c/wolqedir.h", of_header(), wanted),
         ("bindings/rust/src/sys.rs", of_crate(), wanted),

@@ -81,6 +81,8 @@ def of_admission():
 
 def of_calls():
     it = named
+    for at, name in enumerate(("shares", "min", "max")):
+        yield lambda host, value, name=name: host.fork(it(host), **{name: value}), "wq_fork", lambda got, at=at: got[2][at], U64, as_is
     yield lambda host, value: host.invoke(it(host), "f", [value], fuel=1), "wq_invoke", lambda got: got[4], I64, signed
     yield lambda host, value: host.invoke(it(host), "f", fuel=value), "wq_invoke", lambda got: got[6], U64, as_is
     yield lambda host, value: host.status(it(host), value), "wq_status_of", lambda got: got[2], U32, as_is
@@ -93,6 +95,7 @@ def of_calls():
 def of_instances():
     """The numbers of an instance, which a program may have made by itself."""
     acts = {
+        "wq_fork": lambda host, it: host.fork(it),
         "wq_invoke": lambda host, it: host.invoke(it, "f", fuel=1),
         "wq_status_of": lambda host, it: host.status(it, 0),
         "wq_refuel": lambda host, it: host.refuel(it, 1),

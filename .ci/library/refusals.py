@@ -14,6 +14,7 @@ WANTS = {
     "new": {"2"},
     "load": {"D13", "V11", "L3", "M2"},
     "admit": {"2", "A9"},
+    "fork": {"A9"},
     "invoke": {"2", "H7"},
     "report": {"2", "H7"},
     "transcript": {"2", "H7"},
@@ -105,6 +106,7 @@ def all_refused():
     watched.tried("run", lambda: host.run(MOST))
     watched.tried("refuel", lambda: host.refuel(wide, 1000))
     watched.tried("run", lambda: host.run(MOST))
+    watched.instances.append(watched.tried("fork", lambda: host.fork(pages, max=32)))
     watched.tried("scan", host.scan)
     watched.tried("epoch", host.epoch)
     watched.tried("report", host.report)

@@ -32,7 +32,8 @@
  *
  * Life. A host keeps 1024 modules, and lets none go before itself (M1). It has 4096 instances at once (A6). An instance has 65535
  * calls beside its start (H6), 1024 of them open at once (H4); each takes 100 to 260 bytes until the instance is released. It puts
- * out 65536 bytes at most (T9), which wq_taken has when it is released, and not before. None can go to another host.
+ * out 65536 bytes at most (T9), which wq_taken has when it is released, and not before. A copy counts the calls and the bytes that
+ * it was copied with. None can go to another host.
  */
 #ifndef WOLQEDIR_H
 #define WOLQEDIR_H
@@ -69,6 +70,7 @@ typedef uint32_t wq_code;
 #define WQ_H       0x600u  /* H1 to H8: the host doesn't do what is asked of an instance */
 #define WQ_T       0x700u  /* T1 to T10: a call has trapped; in a status */
 #define WQ_S       0x800u  /* S1 to S3: the swap device has failed; in a status, and never of a device in memory */
+#define WQ_F       0x900u  /* F1 to F4: the instance isn't copied; docs/guide/library.md lists them */
 
 /* An instance, as it was admitted. Its number is never given again; its place may be. */
 typedef struct wq_instance { uint64_t place, number; } wq_instance;
@@ -80,6 +82,11 @@ typedef struct wq_params {
   uint64_t salt;      /* the value of the host's global `salt`, */
   uint32_t base;      /* and of `base` */
 } wq_params;
+
+typedef struct wq_quota {
+  uint64_t shares;    /* of memory, 1 to 1000000 */
+  uint64_t min, max;  /* frames of 4096 bytes: promised, and at most; 2 <= min <= max <= 65536 */
+} wq_quota;
 
 typedef struct wq_progress {
   uint64_t charges;   /* how many were taken, by all calls together */
@@ -137,6 +144,14 @@ wq_code wq_load(wq_host *host, const uint8_t *bytes, size_t len, size_t *module)
 /* Admits an instance of a module, with the n words of its input. Its start runs by wq_run, before its calls. WQ_MEMORY, A. */
 wq_code wq_admit(wq_host *host, size_t module, const wq_params *params, const uint64_t *inputs, size_t n,
                  wq_instance *instance);
+
+/* Copies an instance all of whose calls have ended: the copy begins as that one is, with its memory, globals, table, calls and
+ * output, and has its own quota. They share all frames until one of them writes: no frame is taken, and no byte copied. H1; F1
+ * where a call is open, the start among them; F2 where its start has failed; A2 to A7, as wq_admit answers such a quota; F3
+ * where the copy's memory could not grow just as far, or has more pages than max; F4 where a page of it is in swap or on its
+ * way, so promise a template as many frames as it has pages: the first of these. Else A9 where room is refused, or frames and
+ * slots are 2^32 together or more. */
+wq_code wq_fork(wq_host *host, const wq_instance *of, const wq_quota *quota, wq_instance *instance);
 
 /* Asks for a call of the function that the instance exports by this name, with n arguments and so much fuel, and runs nothing:
  * its place among the instance's calls, of which the start is 0. An argument is a number in the bits of its type, signed or

@@ -26,7 +26,7 @@ from typing import NamedTuple, Optional
 __version__ = "0.1.0"
 
 KINDS = {1: "waiting", 2: "going", 3: "fuel", 4: "frame", 5: "device", 6: "returned", 7: "trapped", 8: "cancelled", 9: "dead"}
-FAMILIES = " DVLMAHTS"
+FAMILIES = " DVLMAHTSF"
 MOST = 2**64 - 1
 SLICE = 1000000
 SERIALS = itertools.count()
@@ -77,6 +77,10 @@ class Instance:
 
 class Params(Structure):
     _fields_ = [(name, c_uint64) for name in ("shares", "min", "max", "fuel", "salt")] + [("base", c_uint32)]
+
+
+class Quota(Structure):
+    _fields_ = [(name, c_uint64) for name in ("shares", "min", "max")]
 
 
 class Progress(Structure):
@@ -173,6 +177,7 @@ EXPORTS = {
     "wq_host_free": [HOST],
     "wq_load": [HOST, BYTES, c_size_t, LENGTH],
     "wq_admit": [HOST, c_size_t, POINTER(Params), POINTER(c_uint64), c_size_t, IT],
+    "wq_fork": [HOST, IT, POINTER(Quota), IT],
     "wq_invoke": [HOST, IT, BYTES, c_size_t, POINTER(c_int64), c_size_t, c_uint64, POINTER(c_uint32)],
     "wq_run": [HOST, c_uint64, POINTER(Progress)],
     "wq_status_of": [HOST, IT, c_uint32, POINTER(Told)],
@@ -276,7 +281,7 @@ def alone(method):
 
 class Host:
     """A host. Threads may share it: one call at a time is made, between two slices of a run. A signal's handler may call it too, but
-    for `release` within `release`, which raises RuntimeError; the child of a fork may not. It is let go at the end of a `with`, or by
+    for `release` within `release`, which raises RuntimeError; the child of os.fork may not. It is let go at the end of a `with`, or by
     `close`; then each call raises Refused, by code 1."""
 
     def __init__(self, frames=1024, slots=4096, tax=(3, 4)):
@@ -326,6 +331,15 @@ class Host:
         params = Params(*given, word("salt", salt), word("base", base, 32))
         words, raw = [word("an input", item) for item in inputs], RawInstance()
         must(lib.wq_admit(self.handle, u64("module", module), params, array(c_uint64, words), len(words), raw))
+        return Instance(self.serial, raw.place, raw.number)
+
+    @alone
+    def fork(self, instance, shares=100, min=2, max=64):
+        """Copies an instance all of whose calls have ended: the copy begins as that one is, with its memory, globals, table, calls and
+        output, and has its own quota, whose numbers are 0 to 2^64 - 1. They share all frames until one of them writes: no frame is
+        taken, and no byte copied."""
+        quota, raw = Quota(*(u64(*pair) for pair in (("shares", shares), ("min", min), ("max", max)))), RawInstance()
+        must(lib.wq_fork(self.handle, self.named(instance), quota, raw))
         return Instance(self.serial, raw.place, raw.number)
 
     @alone

@@ -2,7 +2,8 @@
 use crate::sys;
 use std::fmt;
 
-/// Why a host doesn't do what is asked. The numbers are those that scripts show behind the letter (`docs/guide/script.md`).
+/// Why a host doesn't do what is asked. The numbers are those that scripts show behind the letter (`docs/guide/script.md`);
+/// those of `Fork` are in `docs/guide/library.md`.
 #[derive(Clone, Copy, Debug, PartialEq, Eq, Hash)]
 #[non_exhaustive]
 pub enum Error {
@@ -28,6 +29,8 @@ pub enum Error {
     Admit(u8),
     /// H: the host doesn't do what is asked of an instance.
     Ask(u8),
+    /// F: the instance isn't copied.
+    Fork(u8),
     /// Another code.
     Other(u32),
 }
@@ -46,6 +49,7 @@ impl Error {
             Error::Module(number) => 0x400 + u32::from(number),
             Error::Admit(number) => 0x500 + u32::from(number),
             Error::Ask(number) => 0x600 + u32::from(number),
+            Error::Fork(number) => 0x900 + u32::from(number),
             Error::Other(code) => code,
         }
     }
@@ -66,6 +70,7 @@ pub(crate) fn answer(code: u32) -> Result<(), Error> {
         (4, _) => Error::Module(number),
         (5, _) => Error::Admit(number),
         (6, _) => Error::Ask(number),
+        (9, _) => Error::Fork(number),
         _ => Error::Other(code),
     })
 }

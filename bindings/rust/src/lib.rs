@@ -59,6 +59,17 @@ pub struct Params<'a> {
     pub inputs: &'a [u64],
 }
 
+/// How much of a host's memory a copy may have.
+#[derive(Clone, Copy, Debug, PartialEq, Eq)]
+pub struct Quota {
+    /// Its shares of memory, 1 to 1000000.
+    pub shares: u64,
+    /// How many frames of 4096 bytes it is promised, from 2.
+    pub min: u64,
+    /// How many it may have, to 65536.
+    pub max: u64,
+}
+
 /// How many frames and slots a host has, and the tax on frames on which no page was touched.
 #[derive(Clone, Copy, Debug)]
 pub struct Settings {
@@ -272,6 +283,19 @@ impl Host {
         let (words, n, mut instance) = (inputs.as_ptr(), inputs.len(), sys::Instance::default());
         // SAFETY: as in `load`.
         answer(unsafe { sys::wq_admit(&mut self.handle, module.number, &given, words, n, &mut instance) })?;
+        Ok(self.owned(instance))
+    }
+
+    /// Copies an instance all of whose calls have ended: the copy begins as that one is, with its memory, globals, table, calls
+    /// and output, and has its own quota. They share all frames until one of them writes: no frame is taken, and no byte copied.
+    ///
+    /// # Errors
+    /// `OtherHost`; `Ask`; `Admit`; `Fork`.
+    pub fn fork(&mut self, of: Instance, quota: Quota) -> Result<Instance, Error> {
+        let Quota { shares, min, max } = quota;
+        let (of, given, mut instance) = (self.named(of)?, sys::Quota { shares, min, max }, sys::Instance::default());
+        // SAFETY: as in `load`.
+        answer(unsafe { sys::wq_fork(&mut self.handle, &of, &given, &mut instance) })?;
         Ok(self.owned(instance))
     }
 

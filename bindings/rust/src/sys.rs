@@ -28,6 +28,14 @@ pub struct Params {
 }
 
 #[repr(C)]
+#[derive(Clone, Copy)]
+pub struct Quota {
+    pub shares: u64,
+    pub min: u64,
+    pub max: u64,
+}
+
+#[repr(C)]
 #[derive(Clone, Copy, Default)]
 pub struct Progress {
     pub charges: u64,
@@ -80,6 +88,12 @@ extern "C" {
         params: *const Params,
         inputs: *const u64,
         n: usize,
+        instance: *mut Instance,
+    ) -> u32;
+    pub fn wq_fork(
+        host: *mut Handle,
+        of: *const Instance,
+        quota: *const Quota,
         instance: *mut Instance,
     ) -> u32;
     pub fn wq_invoke(

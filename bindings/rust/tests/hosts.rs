@@ -1,8 +1,10 @@
 //! Two hosts of one process: what is of one is refused by the other, which stays as it was.
 use std::collections::HashSet;
-use wolqedir::{Error, Host, Instance, Module, Params, Settings, State};
+use wolqedir::{Error, Host, Instance, Module, Params, Quota, Settings, State};
 
 const PARAMS: Params<'_> = Params { shares: 100, min: 2, max: 16, fuel: 100, salt: 0, base: 0, inputs: &[40, 2] };
+
+const QUOTA: Quota = Quota { shares: 7, min: 3, max: 16 };
 
 /// A host with an instance of the module that the examples run.
 fn hosted() -> Result<(Host, Module, Instance), Error> {
@@ -20,6 +22,7 @@ fn an_instance_of_another_host_is_refused() -> Result<(), Error> {
     assert_ne!(mine, theirs);
     let before = other.report()?;
     assert_eq!(other.invoke(mine, "run", &[], 1000), Err(Error::OtherHost));
+    assert_eq!(other.fork(mine, QUOTA), Err(Error::OtherHost));
     assert_eq!(other.status(mine, 0), Err(Error::OtherHost));
     assert_eq!(other.refuel(mine, 1), Err(Error::OtherHost));
     assert_eq!(other.retry(mine), Err(Error::OtherHost));
@@ -43,6 +46,25 @@ fn a_module_of_another_host_is_refused() -> Result<(), Error> {
     let (mut other, _, _) = hosted()?;
     assert_eq!(other.admit(module, PARAMS), Err(Error::OtherHost));
     assert_eq!(other.report()?.instances.len(), 1);
+    Ok(())
+}
+
+#[test]
+fn a_copy_has_the_calls_and_the_output_of_its_template() -> Result<(), Error> {
+    let (mut host, _, template) = hosted()?;
+    let call = host.invoke(template, "run", &[], 1000)?;
+    assert_eq!(host.fork(template, QUOTA), Err(Error::Fork(1)));
+    host.run(1000);
+    assert_eq!(host.fork(template, Quota { max: 32, ..QUOTA }), Err(Error::Fork(3)));
+    assert_eq!(host.fork(template, Quota { shares: 0, ..QUOTA }), Err(Error::Admit(2)));
+    let copy = host.fork(template, QUOTA)?;
+    assert_eq!(host.transcript(copy)?, host.transcript(template)?);
+    assert_eq!(host.status(copy, call)?, host.status(template, call)?);
+    let row = host.report()?.instances[1];
+    assert_eq!((row.instance, row.shares, row.min, row.max, row.charged), (copy, 7, 3, 16, 0));
+    assert_eq!(host.release(copy)?, host.release(template)?);
+    assert_eq!(host.fork(template, QUOTA), Err(Error::Ask(1)));
+    assert_eq!(Error::Fork(4).code(), 0x904);
     Ok(())
 }
 

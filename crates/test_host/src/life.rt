@@ -4,7 +4,9 @@ use crate::rig::Rig;
 use crate::views::PAGES;
 use anyhow::{Context, Result, ensure};
 use std::alloc::Global;
-use wh_host::{AdmitError, CallStatus, CallValue, HostError, ModuleId, Suspension};
+use wh_host::{
+    AdmitError, CallStatus, CallValue, ForkError, HostError, ModuleId, Quota, Suspension,
+};
 use wh_host_model::TurnEnd;
 use wh_kernels::{ConstantHash, FnvHash};
 use wh_model::{Trap, ValType};
@@ -19,6 +21,8 @@ pub enum Step {
     /// An instance of a module is admitted, with these frames at least and pages at most, and fuel for its start: its place
     /// and its number.
     Admit(usize, (u64, u64), u64, Result<(usize, u64), u8>),
+    /// An instance is copied, with these shares, and these frames at least and at most: the copy's place and its number.
+    Fork(usize, (u64, u64, u64), Result<(usize, u64), ForkError>),
     /// A call is asked for, with these arguments and this fuel: its place in the journal.
     Invoke(usize, &'static str, &'static [i128], u64, Result<u32, u8>),
     /// A byte is stored at an address of an instance of the pager, in a turn that has all charges for it.
@@ -104,6 +108,21 @@ fn is_admitted(
             Ok(want == Ok((id.place, id.number)))
         }
         Err(error) => Ok(want == Err(error.number())),
+    }
+}
+
+// Whether an instance was copied to this place and under this number, or wasn't for this fault.
+fn is_copied(
+    answer: Result<InstId, ForkError>,
+    want: Result<(usize, u64), ForkError>,
+    admitted: &mut Vec<InstId>,
+) -> Result<bool> {
+    match answer {
+        Ok(id) => {
+            admitted.push(id)?;
+            Ok(want == Ok((id.place, id.number)))
+        }
+        Err(error) => Ok(want == Err(error)),
     }
 }
 
@@ -222,7 +241,8 @@ impl Step {
     // The place of the instance that it names.
     fn instance(self) -> usize {
         match self {
-            Step::Invoke(at, ..)
+            Step::Fork(at, ..)
+            | Step::Invoke(at, ..)
             | Step::Store(at, ..)
             | Step::Turn(at, ..)
             | Step::Refuel(at, ..)
@@ -259,6 +279,14 @@ impl Step {
             Step::Admit(number, (min, max), fuel, want) => {
                 let answer = rig.admit_of(alloc, ModuleId { number }, min, max, fuel);
                 is_admitted(answer, want, admitted)?
+            }
+            Step::Fork(_, (shares, min_frames, max_frames), want) => {
+                let quota = Quota {
+                    shares,
+                    min_frames,
+                    max_frames,
+                };
+                is_copied(rig.fork(alloc, id, quota), want, admitted)?
             }
             Step::Scan => rig.scan(&FnvHash),
             Step::ScanAlike => rig.scan(&ConstantHash),

@@ -6,6 +6,7 @@
 mod charging;
 mod enrolled;
 mod flat;
+mod forks;
 mod guest;
 mod life;
 mod lists;
@@ -23,6 +24,7 @@ mod views;
 use anyhow::{Context, Result, ensure};
 use charging::CHARGING;
 use enrolled::{enroll, open_most};
+use forks::FORKS;
 use life::live;
 use lists::{Ends, Seen};
 use lives::LIVES;
@@ -147,10 +149,10 @@ fn look_at(counts: &Counts) -> Result<()> {
 
 fn main(rt: HostRuntime) -> Result<()> {
     let alloc = rt.alloc();
-    for life in LIVES.iter().chain(&PAGING).chain(&CHARGING) {
+    for life in LIVES.iter().chain(&PAGING).chain(&CHARGING).chain(&FORKS) {
         live(alloc, life)?;
     }
-    let lives = LIVES.len() + PAGING.len() + CHARGING.len();
+    let lives = LIVES.len() + PAGING.len() + CHARGING.len() + FORKS.len();
     println!(rt; "lives: {lives}")?;
     open_most(alloc)?;
     enroll(alloc)?;

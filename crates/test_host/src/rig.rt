@@ -12,7 +12,8 @@ use std::alloc::Global;
 use std::cell::Cell;
 use std::rc::Rc;
 use wh_host::{
-    AdmitError, CallStatus, Eviction, Fetch, Host, HostError, ModuleError, ModuleId, Params,
+    AdmitError, CallStatus, Eviction, Fetch, ForkError, Host, HostError, ModuleError, ModuleId,
+    Params, Quota,
 };
 use wh_host_model::TurnEnd;
 use wh_kernels::PageHash;
@@ -90,6 +91,11 @@ impl Rig {
     /// Admits an instance of the first module with this minimum of frames, and 16 at most.
     pub fn admit(&mut self, alloc: Global, min: u64) -> Result<InstId, AdmitError> {
         self.admit_of(alloc, self.module, min, 16, 0)
+    }
+
+    /// Copies an instance, with this quota.
+    pub fn fork(&mut self, alloc: Global, id: InstId, quota: Quota) -> Result<InstId, ForkError> {
+        self.host.fork(alloc, id, quota)
     }
 
     /// Queues a call of an instance, with this fuel; returns its place in the journal.

@@ -3,7 +3,7 @@
 use crate::tables::agree;
 use anyhow::{Result, ensure};
 use std::alloc::Global;
-use wh_commands::{Command, ParseError, parse};
+use wh_commands::{CallAction, Command, InvokeCommand, ParseError, ParsedLine, parse};
 use wh_params::Params;
 
 // Lines, each with the verb of its command.
@@ -44,7 +44,7 @@ const NONE: [&[u8]; 20] = [
 
 fn reads_module(alloc: Global) -> bool {
     match parse(alloc, b"module m 0061736D01000000") {
-        Ok(Command::Module { name, bytes }) => {
+        Ok(ParsedLine::Command(Command::Module { name, bytes })) => {
             name == "m" && bytes.as_slice() == [0, 0x61, 0x73, 0x6D, 1, 0, 0, 0].as_slice()
         }
         _ => false,
@@ -60,11 +60,13 @@ fn are_given(given: &Params) -> bool {
 fn reads_admission(alloc: Global) -> bool {
     match parse(alloc, b"admit a m 100 2 16 0 -1 -1 10 -1") {
         Ok(
-            Command::Admit {
-                inst,
-                module,
-                given,
-            },
+            ParsedLine::Command(
+                Command::Admit {
+                    inst,
+                    module,
+                    given,
+                },
+            ),
         ) => inst == "a" && module == "m" && are_given(&given),
         _ => false,
     }
@@ -73,12 +75,14 @@ fn reads_admission(alloc: Global) -> bool {
 fn reads_call(alloc: Global) -> bool {
     match parse(alloc, b"invoke a f! 0007 5 -0 99999999999999999999") {
         Ok(
-            Command::Invoke {
-                inst,
-                export,
-                fuel,
-                args,
-            },
+            ParsedLine::Invoke(
+                InvokeCommand {
+                    inst,
+                    export,
+                    fuel,
+                    args,
+                },
+            ),
         ) => (inst, export, fuel) == ("a", "f!", 7)
             && args.as_slice() == [5, 0, 99_999_999_999_999_999_999].as_slice(),
         _ => false,
@@ -90,11 +94,12 @@ fn verb_of(command: &Command<'_>) -> &'static str {
         Command::Module { .. } => "module",
         Command::Load { .. } => "load",
         Command::Admit { .. } => "admit",
-        Command::Invoke { .. } => "invoke",
         Command::Drain => "drain",
-        Command::Refuel { .. } => "refuel",
-        Command::Cancel { .. } => "cancel",
-        Command::Retry { .. } => "retry",
+        Command::Act { action, .. } => match action {
+            CallAction::Refuel { .. } => "refuel",
+            CallAction::Cancel => "cancel",
+            CallAction::Retry => "retry",
+        },
         Command::Scan => "scan",
         Command::Report => "report",
         Command::Release { .. } => "release",
@@ -103,7 +108,8 @@ fn verb_of(command: &Command<'_>) -> &'static str {
 
 fn has_verb(alloc: Global, line: &[u8], verb: &str) -> bool {
     match parse(alloc, line) {
-        Ok(command) => verb_of(&command) == verb,
+        Ok(ParsedLine::Invoke(_)) => verb == "invoke",
+        Ok(ParsedLine::Command(command)) => verb_of(&command) == verb,
         Err(_) => false,
     }
 }

@@ -63,7 +63,7 @@ impl Pair {
         let burst = Burst {
             quantum: q,
             further,
-            wanted: &wanted,
+            wanted: Some(&wanted),
         };
         host.turns_at_once(fork, self.runners.as_mut_slice(), burst);
     }

@@ -9,7 +9,7 @@ use Rattle.wh_admit.specs.declared.room.Room.{Room}
 use Rattle.wh_admit.specs.declared.error.AdmitError.{AdmitError}
 use Rattle.wh_admit.specs.declared.error.AdmitError.TheVariants.{NoModule, Shares, MinMax, Frames, Swap, Instances, MemoryMin, SegmentBounds, Memory}
 use Rattle.wh_admit.specs.AdmitErrors.{fault_of}
-use Rattle.wh_admit.specs.AdmissionNumbers.{AreShares, AreFrames, HasNumbers, RefusesNumbers}
+use Rattle.wh_admit.specs.AdmissionNumbers.{AreShares, AreFrames, HasNumbers, RefusesNumbers, quota_of}
 use Rattle.wh_admit.specs.AdmittedStart.{RefusesBeginning}
 
 -- a module is given, and an instance of it comes to this
@@ -112,12 +112,12 @@ module _ (m : Module) (room : Room) (p : Params) where
   past_slots are range left slots = one_more (Some m) room p swap 5 refl (past_frames are range left)
       (λ met. absurd (omega (arith, slots, met)))
 
-  past_numbers : HasNumbers p room → NoneBelow (Some m) room p 7
+  past_numbers : HasNumbers (quota_of p) room → NoneBelow (Some m) room p 7
   past_numbers h =
       one_more (Some m) room p instances 6 refl (past_slots h.shares h.range h.frames h.slots)
       (λ met. absurd (omega (arith, h.few, met)))
 
-  pub refuses_numbers : (e : AdmitError) → RefusesNumbers p room e → RefusesHere (Some m) room p (fault_of e)
+  pub refuses_numbers : (e : AdmitError) → RefusesNumbers (quota_of p) room e → RefusesHere (Some m) room p (fault_of e)
   refuses_numbers NoModule is = absurd is
   refuses_numbers Shares is = (is, past_module)
   refuses_numbers MinMax (are, is) = (is, past_shares are)
@@ -135,17 +135,23 @@ module _ (m : Module) (room : Room) (p : Params) where
       let e : m2 ≡ m = cc same in
       one_beginning m (given_of p) a b is (subst (λ z. IsInitial z (given_of p) b) e other)
 
-  past_memory : HasNumbers p room → (b : Beginning) → IsInitial m (given_of p) b → ¬ (b ≡ memory_min)
+  -- none is met, where the beginning has none
+  pub past_beginning : HasNumbers (quota_of p) room → ¬ (ComesTo (Some m) p memory_min)
+      → ¬ (ComesTo (Some m) p segment_bounds) → NoneBelow (Some m) room p 9
+  past_beginning h few within =
+      one_more (Some m) room p segments 8 refl (one_more (Some m) room p memory 7 refl (past_numbers h) few) within
+
+  past_memory : HasNumbers (quota_of p) room → (b : Beginning) → IsInitial m (given_of p) b → ¬ (b ≡ memory_min)
       → NoneBelow (Some m) room p 8
   past_memory h b is other = one_more (Some m) room p memory 7 refl (past_numbers h)
       (λ met. other (only_one b memory_min is met))
 
-  pub past_all : HasNumbers p room → (b : Beginning) → IsInitial m (given_of p) b → ¬ (b ≡ memory_min)
+  pub past_all : HasNumbers (quota_of p) room → (b : Beginning) → IsInitial m (given_of p) b → ¬ (b ≡ memory_min)
       → ¬ (b ≡ segment_bounds) → NoneBelow (Some m) room p 9
-  past_all h b is other another = one_more (Some m) room p segments 8 refl (past_memory h b is other)
-      (λ met. another (only_one b segment_bounds is met))
+  past_all h b is other another =
+      past_beginning h (λ met. other (only_one b memory_min is met)) (λ met. another (only_one b segment_bounds is met))
 
-  pub refuses_beginning : HasNumbers p room → (e : AdmitError) → RefusesBeginning m p e
+  pub refuses_beginning : HasNumbers (quota_of p) room → (e : AdmitError) → RefusesBeginning m p e
       → RefusesHere (Some m) room p (fault_of e)
   refuses_beginning h NoModule is = absurd is
   refuses_beginning h Shares is = absurd is

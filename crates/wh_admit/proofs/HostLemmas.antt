@@ -10,7 +10,7 @@ use Rattle.wh_admit.specs.declared.room.Room.{Room}
 use Rattle.wh_admit.specs.declared.outcome.Admitted.{Admitted}
 use Rattle.wh_admit.specs.declared.error.AdmitError.{AdmitError}
 use Rattle.wh_admit.specs.AdmitErrors.{fault_of}
-use Rattle.wh_admit.specs.AdmissionNumbers.{HasNumbers, RefusesNumbers}
+use Rattle.wh_admit.specs.AdmissionNumbers.{HasNumbers, RefusesNumbers, quota_of}
 use Rattle.wh_admit.specs.AdmittedStart.{BeginsAs, RefusesBeginning}
 use Rattle.wh_admit.specs.RepresentedHost.{IsModuleAt, RepresentsHost}
 use Rattle.wh_admit.specs.AdmissionFaults.{MeetsNone, RefusesFor, RefusesAdmission}
@@ -83,15 +83,15 @@ handed_on (Ok a) e P is holds = tt
 handed_on (Err x) e P is holds = subst P (sym is) holds
 
 module _ (m : Module) (room : Room) (p : Params) where
-  pub numbers_refused : (e : AdmitError) → RefusesNumbers p room e → RefusesAdmission (Some m) room p e
+  pub numbers_refused : (e : AdmitError) → RefusesNumbers (quota_of p) room e → RefusesAdmission (Some m) room p e
   numbers_refused e is = refuses_for (Some m) room p (fault_of e) (refuses_numbers m room p e is)
 
-  pub beginning_refused : HasNumbers p room → (r : Result Admitted AdmitError) → IfErr r (RefusesBeginning m p)
+  pub beginning_refused : HasNumbers (quota_of p) room → (r : Result Admitted AdmitError) → IfErr r (RefusesBeginning m p)
       → IfErr r (RefusesAdmission (Some m) room p)
   beginning_refused h (Ok a) is = tt
   beginning_refused h (Err e) is = refuses_for (Some m) room p (fault_of e) (refuses_beginning m room p h e is)
 
-  pub beginning_met : HasNumbers p room → (r : Result Admitted AdmitError) → IfOk r (BeginsAs m p)
+  pub beginning_met : HasNumbers (quota_of p) room → (r : Result Admitted AdmitError) → IfOk r (BeginsAs m p)
       → OnOk r (MeetsNone (Some m) room p)
   beginning_met h (Ok a) is =
       let i = is.instantiates in

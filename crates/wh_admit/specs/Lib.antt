@@ -4,3 +4,4 @@ pub mod RepresentedHost
 pub mod AdmissionNumbers
 pub mod AdmittedStart
 pub mod AdmissionFaults
+pub mod QuotaFaults

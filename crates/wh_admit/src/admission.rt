@@ -5,46 +5,21 @@ ghost use Rattle.std.specs.Option.{option_copied};
 ghost use Rattle.wh_syntax.specs.View.{view_module};
 ghost use Rattle.wh_params.specs.View.{view_params};
 ghost use Rattle.wh_admit.specs.View.{linked_module};
-ghost use Rattle.wh_admit.specs.AdmissionNumbers.{AreShares, AreFrames, HasNumbers, RefusesNumbers};
+ghost use Rattle.wh_admit.specs.AdmissionNumbers.{AreShares, AreFrames};
 ghost use Rattle.wh_admit.specs.AdmittedStart.{BeginsAs, BeginsAdmitted, RefusesBeginning};
 ghost use Rattle.wh_admit.specs.AdmissionFaults.{MeetsNone, RefusesAdmission};
 
 use crate::error::AdmitError;
-use crate::limits::{FRAMES_OF_PAGE, LEAST_FRAMES, MOST_FRAMES, MOST_INSTANCES, MOST_SHARES};
+use crate::limits::FRAMES_OF_PAGE;
 use crate::outcome::Admitted;
+use crate::quotas::check_numbers;
 use crate::room::Room;
 use crate::words::are_words;
 use std::alloc::Global;
 use wh_imports::Linked;
 use wh_initial::{Parameters, instantiate};
 use wh_machine::Machine;
-use wh_params::Params;
-
-/// Looks at the numbers that the owner gives, one after the other, and at the room that is left. It takes no memory.
-///
-/// # Errors
-/// `Shares`, `MinMax`, `Frames`, `Swap` or `Instances`, the first of them that holds.
-fn check_numbers(params: &Params, room: Room) -> Result<(), AdmitError>
-    ensures ok { OnOk result (HasNumbers (view_params params.now) room) }
-    ensures err { IfErr result (RefusesNumbers (view_params params.now) room) }
-{
-    if params.shares < 1 || params.shares > MOST_SHARES {
-        return Err(AdmitError::Shares);
-    }
-    if params.min < LEAST_FRAMES || params.max < params.min || params.max > MOST_FRAMES {
-        return Err(AdmitError::MinMax);
-    }
-    if params.min > room.frames {
-        return Err(AdmitError::Frames);
-    }
-    if params.max - params.min + 1 > room.slots {
-        return Err(AdmitError::Swap);
-    }
-    if room.live >= MOST_INSTANCES {
-        return Err(AdmitError::Instances);
-    }
-    Ok(())
-}
+use wh_params::{Params, Quota};
 
 /// Makes what an instance begins with, where the numbers that its owner gives are admitted.
 ///
@@ -110,6 +85,11 @@ pub fn admit(
     let Some(linked) = linked else {
         return Err(AdmitError::NoModule);
     };
-    check_numbers(&params, room)?;
+    let quota = Quota {
+        shares: params.shares,
+        min_frames: params.min,
+        max_frames: params.max,
+    };
+    check_numbers(quota, room)?;
     begin(alloc, linked, params)
 }

@@ -9,16 +9,20 @@
 
 mod admission;
 mod error;
+mod fork_error;
 mod laws;
 mod limits;
 mod outcome;
+mod quotas;
 mod room;
 mod words;
 
 pub use admission::admit;
 pub use error::AdmitError;
+pub use fork_error::ForkError;
 pub use laws::standing_holds;
 pub use limits::{LEAST_FRAMES, MOST_FRAMES, MOST_INSTANCES, MOST_SHARES};
-pub use outcome::Admitted;
+pub use outcome::{Admitted, AdmittedQuota};
+pub use quotas::check_quota;
 pub use room::Room;
-pub use wh_params::Params;
+pub use wh_params::{Params, Quota};

@@ -13,7 +13,7 @@ use Rattle.wh_bodies.specs.declared.fault.BodyFault.{BodyFault}
 use Rattle.wh_bodies.specs.declared.table.BranchEntry.{BranchEntry}
 use Rattle.wh_bodies.specs.declared.labels.Label.{Label}
 use Rattle.wh_bodies.specs.BodyFaults.{follow, IsOfBody}
-use Rattle.wh_bodies.specs.SideTables.{nowhere}
+use Rattle.wh_bodies.specs.SideTables.{nowhere, leads_to, immediate_of}
 use Rattle.wh_bodies.specs.Known.{Known, topmost, take_any, is_wanted, take_one, give_one, fall, take_all, give_all, pass, selected, same_type}
 use Rattle.wh_bodies.specs.CheckSteps.{State, found, typed, aligned, type_to_write, load_exponent, store_exponent, fixed, straight, entry_to, branch, branch_if, same_operand, add_run, branch_table, plain_step, closed_construct, with_label, act, noted, step, at_instr, run}
 use Rattle.wh_bodies.specs.ConstructEnds.{all_marks}
@@ -140,8 +140,8 @@ in_run labels carries (l ∷ ls) pool = in_found (slice_get labels l) (λ to. co
 in_table : (labels : List Label) (ls : List ℕ) (last : ℕ) (k : Known) (pool : List BranchEntry) → Listed (branch_table labels ls last k pool)
 in_table labels ls last k pool = search (rules, in_found, in_follow, in_run, in_take_one, in_take_all)
 
-in_noted : (c : Context) (op : Op) (k : Known) (pool : List BranchEntry) → Listed (straight c op k) → Listed (follow {B = Step} (straight c op k) (λ new. Ok (nowhere, new, pool)))
-in_noted c op k pool p = in_follow {B = Step} (straight c op k) (λ new. Ok (nowhere, new, pool)) p (λ new. tt)
+in_noted : (c : Context) (op : Op) (k : Known) (pool : List BranchEntry) → Listed (straight c op k) → Listed (follow {B = Step} (straight c op k) (λ new. Ok (leads_to (immediate_of op), new, pool)))
+in_noted c op k pool p = in_follow {B = Step} (straight c op k) (λ new. Ok (leads_to (immediate_of op), new, pool)) p (λ new. tt)
 
 in_plain : (c : Context) (labels : List Label) (op : Op) (k : Known) (pool : List BranchEntry) → Listed (plain_step c labels op k pool)
 in_plain c labels (br l) k pool = in_follow {B = Step} (branch labels l k) (λ r. Ok (r.0, r.1, pool)) (in_branch labels l k) (λ r. tt)

@@ -17,3 +17,4 @@ pub mod Complete
 pub mod Refused
 pub mod BodyKinds
 pub mod FaultPlaces
+pub mod ConstantWords

@@ -13,7 +13,7 @@ use Rattle.wh_bodies.specs.declared.table.BranchEntry.{BranchEntry}
 use Rattle.wh_bodies.specs.declared.labels.Label.{Label}
 use Rattle.wh_bodies.specs.BodyFaults.{follow}
 use Rattle.wh_bodies.specs.Known.{Known, Admits, Fit, take_any, take_one, give_one, take_all, give_all, pass, fall, agreed, selected}
-use Rattle.wh_bodies.specs.SideTables.{Target, nowhere, leads_to, entry_of, run_of, branch_to, to_target}
+use Rattle.wh_bodies.specs.SideTables.{Target, leads_to, immediate_of, entry_of, run_of, branch_to, to_target}
 use Rattle.wh_bodies.specs.Opened.{target_of, targets_of, around}
 use Rattle.wh_bodies.specs.CheckSteps.{found, fixed, straight, entry_to, branch, branch_if, same_operand, add_run, branch_table, plain_step}
 use Rattle.wh_bodies.proofs.Follow.{ok_is, follow_ok, found_ok, cond_ok}
@@ -150,12 +150,12 @@ done_as : (c : Context) (labels : List Label) (op : Op) (k m n : Known) (pool : 
 done_as c labels op k m n pool d e less more same h = subst (λ (s : Step). Done c labels op k s.1 pool s.0 s.2) (ok_is {E = ValidKind} (d, m, less) (e, n, more) same) h
 
 module _ (c : Context) (labels : List Label) (k n : Known) (pool : List BranchEntry) (e : BranchEntry) (more : List BranchEntry) (w : k.floor ≤ length k.types) where
-  straight_done : (op : Op) → ((m : Known) → straight c op k ≡ Ok m → Explained (around labels c) op k m) → entry_of (targets_of labels) (length pool) op ≡ nowhere → run_of (targets_of labels) op ≡ [] → follow {B = Step} (straight c op k) (λ new. Ok (nowhere, new, pool)) ≡ Ok (e, n, more) → Done c labels op k n pool e more
+  straight_done : (op : Op) → ((m : Known) → straight c op k ≡ Ok m → Explained (around labels c) op k m) → entry_of (targets_of labels) (length pool) op ≡ leads_to (immediate_of op) → run_of (targets_of labels) op ≡ [] → follow {B = Step} (straight c op k) (λ new. Ok (leads_to (immediate_of op), new, pool)) ≡ Ok (e, n, more) → Done c labels op k n pool e more
   straight_done op explained entry run same =
-      let q = follow_ok {B = Step} (straight c op k) (λ new. Ok (nowhere, new, pool)) (e, n, more) same in
-      done_as c labels op k q.0 n pool nowhere e pool more q.2 (record { explained = explained q.0 q.1; entry = sym entry; run = sym (ap (λ r. pool ++ r) run ∙ append-nil pool) })
+      let q = follow_ok {B = Step} (straight c op k) (λ new. Ok (leads_to (immediate_of op), new, pool)) (e, n, more) same in
+      done_as c labels op k q.0 n pool (leads_to (immediate_of op)) e pool more q.2 (record { explained = explained q.0 q.1; entry = sym entry; run = sym (ap (λ r. pool ++ r) run ∙ append-nil pool) })
 
-  fixed_done : (op : Op) → ((m : Known) → straight c op k ≡ Ok m → follow (fixed (around labels c) op) (λ f. pass k f.params f.results) ≡ Ok m) → ((floor h : ℕ) → height_behind (around labels c) floor h op ≡ lowered floor h (taken (around labels c) op) + given (around labels c) op) → ((f : FuncType) → fixed (around labels c) op ≡ Ok f → Typed (around labels c) op f) → entry_of (targets_of labels) (length pool) op ≡ nowhere → run_of (targets_of labels) op ≡ [] → follow {B = Step} (straight c op k) (λ new. Ok (nowhere, new, pool)) ≡ Ok (e, n, more) → Done c labels op k n pool e more
+  fixed_done : (op : Op) → ((m : Known) → straight c op k ≡ Ok m → follow (fixed (around labels c) op) (λ f. pass k f.params f.results) ≡ Ok m) → ((floor h : ℕ) → height_behind (around labels c) floor h op ≡ lowered floor h (taken (around labels c) op) + given (around labels c) op) → ((f : FuncType) → fixed (around labels c) op ≡ Ok f → Typed (around labels c) op f) → entry_of (targets_of labels) (length pool) op ≡ leads_to (immediate_of op) → run_of (targets_of labels) op ≡ [] → follow {B = Step} (straight c op k) (λ new. Ok (leads_to (immediate_of op), new, pool)) ≡ Ok (e, n, more) → Done c labels op k n pool e more
   fixed_done op is high types entry run same = straight_done op (λ m h. explained_fixed (around labels c) op k m w high types (is m h)) entry run same
 
 -- ---- branches

@@ -17,7 +17,7 @@ use Rattle.wh_bodies.specs.declared.table.BranchEntry.{BranchEntry}
 use Rattle.wh_bodies.specs.declared.labels.Label.{Label}
 use Rattle.wh_bodies.specs.BodyFaults.{follow}
 use Rattle.wh_bodies.specs.Known.{Known, Fit, take_one, take_all, give_all, pass, fall}
-use Rattle.wh_bodies.specs.SideTables.{nowhere, leads_to}
+use Rattle.wh_bodies.specs.SideTables.{leads_to, immediate_of}
 use Rattle.wh_bodies.specs.Opened.{around}
 use Rattle.wh_bodies.specs.CheckSteps.{found, fixed, straight, typed, aligned, type_to_write, load_exponent, store_exponent, entry_to, same_operand, add_run, plain_step}
 use Rattle.wh_bodies.proofs.Knowing.{takes_one, takes_all}
@@ -197,8 +197,8 @@ can_table c labels ls last k pool a b below w t fit =
 
 -- ---- every instruction without a body
 
-straight_steps : (c : Context) (op : Op) (k : Known) (pool : List BranchEntry) (after : List ValType) → Goes (straight c op k) after → Steps (follow {B = Step} (straight c op k) (λ new. Ok (nowhere, new, pool))) after
-straight_steps c op k pool after g = (nowhere, g.0, pool, ap (λ (r : Result Known ValidKind). follow {B = Step} r (λ new. Ok (nowhere, new, pool))) g.1, g.2)
+straight_steps : (c : Context) (op : Op) (k : Known) (pool : List BranchEntry) (after : List ValType) → Goes (straight c op k) after → Steps (follow {B = Step} (straight c op k) (λ new. Ok (leads_to (immediate_of op), new, pool))) after
+straight_steps c op k pool after g = (leads_to (immediate_of op), g.0, pool, ap (λ (r : Result Known ValidKind). follow {B = Step} r (λ new. Ok (leads_to (immediate_of op), new, pool))) g.1, g.2)
 
 pub can_step : (c : Context) (labels : List Label) (op : Op) (k : Known) (pool : List BranchEntry) (a b below : List ValType) → k.floor ≤ length k.types → length k.types ≤ 256 → height_behind (around labels c) k.floor (length k.types) op ≤ 256 → OpType (around labels c) op a b → Fit k (a ++ below) → Steps (plain_step c labels op k pool) (b ++ below)
 can_step c labels (br l) k pool a b below w small room t fit = can_branch c labels l k pool a b below w t fit

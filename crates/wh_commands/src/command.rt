@@ -2,7 +2,29 @@
 
 use wh_params::Params;
 
-/// What a line asks for. Names are 1 to 32 of `a` to `z`, `0` to `9` and `_`.
+/// What a line asks for: a call, or another command. Names are 1 to 32 of `a` to `z`, `0` to `9` and `_`.
+#[derive(Debug, Drop)]
+pub enum ParsedLine<'a> {
+    /// A call.
+    Invoke(InvokeCommand<'a>),
+    /// Another command.
+    Command(Command<'a>),
+}
+
+/// `invoke INST EXPORT FUEL [ARG ..]`: call an exported function.
+#[derive(Debug, Drop)]
+pub struct InvokeCommand<'a> {
+    /// The name of the instance.
+    pub inst: &'a str,
+    /// The name by which the function is exported, a word.
+    pub export: &'a str,
+    /// How many charges the call may take.
+    pub fuel: u64,
+    /// The arguments, each of at most 20 digits, with a sign or none.
+    pub args: Vec<i128>,
+}
+
+/// What a line asks for that asks for no call.
 #[derive(Debug, Drop)]
 pub enum Command<'a> {
     /// `module NAME HEX`: keep the module of these bytes under the name. Two hexadecimal digits are a byte, in either case.
@@ -28,35 +50,14 @@ pub enum Command<'a> {
         /// What it is given.
         given: Params,
     },
-    /// `invoke INST EXPORT FUEL [ARG ..]`: call an exported function.
-    Invoke {
-        /// The name of the instance.
-        inst: &'a str,
-        /// The name by which the function is exported, a word.
-        export: &'a str,
-        /// How many charges the call may take.
-        fuel: u64,
-        /// The arguments, each of at most 20 digits, with a sign or none.
-        args: Vec<i128>,
-    },
     /// `drain`: run all calls until none can go on.
     Drain,
-    /// `refuel INST N`: give the present call more fuel.
-    Refuel {
+    /// `refuel INST N`, `cancel INST` or `retry INST`: act on the present call.
+    Act {
         /// The name of the instance.
         inst: &'a str,
-        /// How many charges more it may take.
-        fuel: u64,
-    },
-    /// `cancel INST`: end the present call.
-    Cancel {
-        /// The name of the instance.
-        inst: &'a str,
-    },
-    /// `retry INST`: let the present call, which is blocked on a fault of the swap device, try again.
-    Retry {
-        /// The name of the instance.
-        inst: &'a str,
+        /// What to do.
+        action: CallAction,
     },
     /// `scan`: merge equal pages.
     Scan,
@@ -67,4 +68,18 @@ pub enum Command<'a> {
         /// The name of the instance.
         inst: &'a str,
     },
+}
+
+/// What a line asks of the present call of an instance.
+#[derive(Clone, Copy, Debug, PartialEq, Eq)]
+pub enum CallAction {
+    /// `refuel INST N`: give it more fuel.
+    Refuel {
+        /// How many charges more it may take.
+        fuel: u64,
+    },
+    /// `cancel INST`: end it.
+    Cancel,
+    /// `retry INST`: let it try again, where it is blocked on a fault of the swap device.
+    Retry,
 }

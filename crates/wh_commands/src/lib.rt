@@ -4,12 +4,14 @@
 mod command;
 mod error;
 mod laws;
+mod limits;
 mod numbers;
 mod reading;
 mod shapes;
 mod words;
 
-pub use command::Command;
+pub use command::{CallAction, Command, InvokeCommand, ParsedLine};
 pub use error::ParseError;
 pub use laws::one_command;
+pub use limits::{LONGEST_LINE, LONGEST_NAME, MOST_DIGITS};
 pub use reading::parse;

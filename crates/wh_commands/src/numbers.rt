@@ -6,9 +6,8 @@ ghost use Rattle.wh_model.specs.declared.ValType.TheVariants.{I32, I64};
 ghost use Rattle.wh_script_model.specs.Words as spec;
 ghost use Rattle.wh_script_model.specs.Words.{AreDigits, IsNumber, IsCount, IsBits};
 
+use crate::limits::MOST_DIGITS;
 use crate::shapes::text_of;
-
-const MOST_DIGITS: usize = 20;
 
 /// Whether a word is 1 to 20 decimal digits.
 fn is_numeral(word: &[u8]) -> bool

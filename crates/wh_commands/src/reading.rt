@@ -11,10 +11,10 @@ ghost use Rattle.wh_script_model.specs.Words.{IsNumber, IsCount, IsBits};
 ghost use Rattle.wh_script_model.specs.Commands.{AreParams, Follow, AsksCommand};
 ghost use Rattle.wh_script_model.specs.Commands as lines;
 ghost use Rattle.wh_commands.specs.WordsLeft.{words_left, IsHexWord};
-ghost use Rattle.wh_commands.specs.ParsedCommands.{Says, FindsAsked, IsAskedBy, Refuses};
+ghost use Rattle.wh_commands.specs.ParsedCommands.{Finds, FindsAsked, IsAskedBy, Refuses, asked_in, command_of, invoke_of};
 ghost use Rattle.wh_params.specs.View.{view_params};
 
-use crate::command::Command;
+use crate::command::{CallAction, Command, InvokeCommand, ParsedLine};
 use crate::error::ParseError;
 use crate::numbers::{i64_bits_in, number_in};
 use crate::words::{Words, words_in};
@@ -24,7 +24,7 @@ use wh_params::Params;
 /// `NAME HEX`
 fn keep(alloc: Global, words: Words<'_>) -> Result<Command<'_>, ParseError>
     ensures ok { IfOk result (λ command. IsAskedBy (codes "module")
-        (words_left words.entry) command) }
+        (words_left words.entry) (command_of command)) }
     ensures none { IfErr result (Refuses ((name hex : List ℕ) × IsName name × IsHexWord hex
         × (words_left words.entry ≡ name ∷ hex ∷ []))) }
 {
@@ -41,7 +41,7 @@ fn keep(alloc: Global, words: Words<'_>) -> Result<Command<'_>, ParseError>
 /// `NAME PATH`
 fn load(words: Words<'_>) -> Result<Command<'_>, ParseError>
     ensures ok { IfOk result (λ command. IsAskedBy (codes "load")
-        (words_left words.entry) command) }
+        (words_left words.entry) (command_of command)) }
     ensures err { IfErr result (λ e. e ≡ ParseError.Syntax) }
     ensures none { OnErr result ((name path : List ℕ) → IsName name → IsWord path
         → words_left words.entry ≢ name ∷ path ∷ []) }
@@ -56,7 +56,7 @@ fn load(words: Words<'_>) -> Result<Command<'_>, ParseError>
 /// `INST N`
 fn refuel(words: Words<'_>) -> Result<Command<'_>, ParseError>
     ensures ok { IfOk result (λ command. IsAskedBy (codes "refuel")
-        (words_left words.entry) command) }
+        (words_left words.entry) (command_of command)) }
     ensures err { IfErr result (λ e. e ≡ ParseError.Syntax) }
     ensures none { OnErr result ((inst word : List ℕ) (n : ℕ) → IsName inst → IsCount word n
         → words_left words.entry ≢ inst ∷ word ∷ []) }
@@ -65,7 +65,10 @@ fn refuel(words: Words<'_>) -> Result<Command<'_>, ParseError>
     let inst = words.next_name()?;
     let fuel = words.next_count()?;
     words.end()?;
-    Ok(Command::Refuel { inst, fuel })
+    Ok(Command::Act {
+        inst,
+        action: CallAction::Refuel { fuel },
+    })
 }
 
 /// `INST`
@@ -147,7 +150,7 @@ fn given(alloc: Global, words: Words<'_>) -> Result<Params, ParseError>
 /// `INST MODULE SHARES MIN MAX FUEL BASE SALT [INPUT ..]`
 fn admit(alloc: Global, words: Words<'_>) -> Result<Command<'_>, ParseError>
     ensures ok { IfOk result (λ command. IsAskedBy (codes "admit")
-        (words_left words.entry) command) }
+        (words_left words.entry) (command_of command)) }
     ensures none { IfErr result (Refuses ((inst of : List ℕ) × (params : owners.Params)
         × Follow (lines.admit inst of params) (words_left words.entry))) }
 {
@@ -163,9 +166,9 @@ fn admit(alloc: Global, words: Words<'_>) -> Result<Command<'_>, ParseError>
 }
 
 /// `INST EXPORT FUEL [ARG ..]`
-fn invoke(alloc: Global, words: Words<'_>) -> Result<Command<'_>, ParseError>
-    ensures ok { IfOk result (λ command. IsAskedBy (codes "invoke")
-        (words_left words.entry) command) }
+fn invoke(alloc: Global, words: Words<'_>) -> Result<InvokeCommand<'_>, ParseError>
+    ensures ok { IfOk result (λ call. IsAskedBy (codes "invoke")
+        (words_left words.entry) (invoke_of call)) }
     ensures none { IfErr result (Refuses ((inst export : List ℕ) × (fuel : ℕ) × (args : List ℤ)
         × Follow (lines.invoke inst export fuel args) (words_left words.entry))) }
 {
@@ -174,7 +177,7 @@ fn invoke(alloc: Global, words: Words<'_>) -> Result<Command<'_>, ParseError>
     let export = words.next_text()?;
     let fuel = words.next_count()?;
     let args = args(alloc, words)?;
-    Ok(Command::Invoke {
+    Ok(InvokeCommand {
         inst,
         export,
         fuel,
@@ -185,31 +188,37 @@ fn invoke(alloc: Global, words: Words<'_>) -> Result<Command<'_>, ParseError>
 /// `INST`
 fn cancel(words: Words<'_>) -> Result<Command<'_>, ParseError>
     ensures ok { IfOk result (λ command. IsAskedBy (codes "cancel")
-        (words_left words.entry) command) }
+        (words_left words.entry) (command_of command)) }
     ensures err { IfErr result (λ e. e ≡ ParseError.Syntax) }
     ensures none { OnErr result ((inst : List ℕ) → IsName inst
         → words_left words.entry ≢ inst ∷ []) }
 {
     let inst = inst_alone(words)?;
-    Ok(Command::Cancel { inst })
+    Ok(Command::Act {
+        inst,
+        action: CallAction::Cancel,
+    })
 }
 
 /// `INST`
 fn retry(words: Words<'_>) -> Result<Command<'_>, ParseError>
     ensures ok { IfOk result (λ command. IsAskedBy (codes "retry")
-        (words_left words.entry) command) }
+        (words_left words.entry) (command_of command)) }
     ensures err { IfErr result (λ e. e ≡ ParseError.Syntax) }
     ensures none { OnErr result ((inst : List ℕ) → IsName inst
         → words_left words.entry ≢ inst ∷ []) }
 {
     let inst = inst_alone(words)?;
-    Ok(Command::Retry { inst })
+    Ok(Command::Act {
+        inst,
+        action: CallAction::Retry,
+    })
 }
 
 /// `INST`
 fn release(words: Words<'_>) -> Result<Command<'_>, ParseError>
     ensures ok { IfOk result (λ command. IsAskedBy (codes "release")
-        (words_left words.entry) command) }
+        (words_left words.entry) (command_of command)) }
     ensures err { IfErr result (λ e. e ≡ ParseError.Syntax) }
     ensures none { OnErr result ((inst : List ℕ) → IsName inst
         → words_left words.entry ≢ inst ∷ []) }
@@ -221,7 +230,7 @@ fn release(words: Words<'_>) -> Result<Command<'_>, ParseError>
 /// Nothing after the verb.
 fn drain(words: Words<'_>) -> Result<Command<'_>, ParseError>
     ensures ok { IfOk result (λ command. IsAskedBy (codes "drain")
-        (words_left words.entry) command) }
+        (words_left words.entry) (command_of command)) }
     ensures err { IfErr result (λ e. e ≡ ParseError.Syntax) }
     ensures none { OnErr result (words_left words.entry ≢ []) }
 {
@@ -232,7 +241,7 @@ fn drain(words: Words<'_>) -> Result<Command<'_>, ParseError>
 /// Nothing after the verb.
 fn scan(words: Words<'_>) -> Result<Command<'_>, ParseError>
     ensures ok { IfOk result (λ command. IsAskedBy (codes "scan")
-        (words_left words.entry) command) }
+        (words_left words.entry) (command_of command)) }
     ensures err { IfErr result (λ e. e ≡ ParseError.Syntax) }
     ensures none { OnErr result (words_left words.entry ≢ []) }
 {
@@ -243,7 +252,7 @@ fn scan(words: Words<'_>) -> Result<Command<'_>, ParseError>
 /// Nothing after the verb.
 fn report(words: Words<'_>) -> Result<Command<'_>, ParseError>
     ensures ok { IfOk result (λ command. IsAskedBy (codes "report")
-        (words_left words.entry) command) }
+        (words_left words.entry) (command_of command)) }
     ensures err { IfErr result (λ e. e ≡ ParseError.Syntax) }
     ensures none { OnErr result (words_left words.entry ≢ []) }
 {
@@ -251,21 +260,15 @@ fn report(words: Words<'_>) -> Result<Command<'_>, ParseError>
     Ok(Command::Report)
 }
 
-/// Parses the command of a line without its newline.
-///
-/// # Errors
-/// `Syntax` if the line isn't of the shape of a command, or has a byte above 127; `Memory` if the allocation for its
-/// bytes or numbers fails.
-pub fn parse(alloc: Global, line: &[u8]) -> Result<Command<'_>, ParseError>
-    // The line asks for what the command that is found means.
-    ensures found { IfOk result (λ command. (asked : lines.Command) × AsksCommand line.now asked
-        × Says command asked) }
-    // What the line asks for is found, or there was no memory.
-    ensures only { (asked : lines.Command) → AsksCommand line.now asked → FindsAsked result asked }
+/// The command of this verb, which isn't `invoke`, and of the words after it.
+fn command_by<'a>(alloc: Global, verb: &[u8], words: Words<'a>) -> Result<Command<'a>, ParseError>
+    requires { verb.now ≢ codes "invoke" }
+    ensures found { IfOk result (λ command. IsAskedBy verb.now (words_left words.entry)
+        (command_of command)) }
+    ensures only { (asked : lines.Command) → IsAskedBy verb.now (words_left words.entry) asked
+        → Finds command_of result asked }
     ensures err { IfErr result (λ e. (e ≡ ParseError.Syntax) ⊎ (e ≡ ParseError.Memory)) }
 {
-    let mut words = words_in(line);
-    let verb = words.next_piece()?;
     if is_same(verb, b"module") {
         return keep(alloc, words);
     }
@@ -274,9 +277,6 @@ pub fn parse(alloc: Global, line: &[u8]) -> Result<Command<'_>, ParseError>
     }
     if is_same(verb, b"admit") {
         return admit(alloc, words);
-    }
-    if is_same(verb, b"invoke") {
-        return invoke(alloc, words);
     }
     if is_same(verb, b"drain") {
         return drain(words);
@@ -300,6 +300,26 @@ pub fn parse(alloc: Global, line: &[u8]) -> Result<Command<'_>, ParseError>
         return release(words);
     }
     Err(ParseError::Syntax)
+}
+
+/// Parses a line without its newline.
+///
+/// # Errors
+/// `Syntax` if the line isn't of the shape of a command, or has a byte above 127; `Memory` if the allocation for its
+/// bytes or numbers fails.
+pub fn parse(alloc: Global, line: &[u8]) -> Result<ParsedLine<'_>, ParseError>
+    // The line asks for what is found.
+    ensures found { IfOk result (λ found. AsksCommand line.now (asked_in found)) }
+    // What the line asks for is found, or there was no memory.
+    ensures only { (asked : lines.Command) → AsksCommand line.now asked → FindsAsked result asked }
+    ensures err { IfErr result (λ e. (e ≡ ParseError.Syntax) ⊎ (e ≡ ParseError.Memory)) }
+{
+    let mut words = words_in(line);
+    let verb = words.next_piece()?;
+    if is_same(verb, b"invoke") {
+        return Ok(ParsedLine::Invoke(invoke(alloc, words)?));
+    }
+    Ok(ParsedLine::Command(command_by(alloc, verb, words)?))
 }
 
 /// Whether two words are the same.

@@ -8,9 +8,8 @@ ghost use Rattle.wh_script_model.specs.Lines as spec;
 ghost use Rattle.wh_script_model.specs.Lines.{IsName, IsWord};
 ghost use Rattle.wh_script_model.specs.Hex.{IsHex};
 
+use crate::limits::LONGEST_NAME;
 use memchr::memchr;
-
-const LONGEST_NAME: usize = 32;
 
 fn is_name_byte(byte: u8) -> bool
     ensures { result ≡ spec.is_name_byte byte }

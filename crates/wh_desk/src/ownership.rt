@@ -9,6 +9,7 @@ ghost use Rattle.wh_desk.specs.Questions.{question_of};
 use crate::principal::Principal;
 use crate::request::{DeskReply, DeskRequest};
 use std::alloc::{AllocError, Global};
+use wh_admit::MOST_INSTANCES;
 use wh_host::{AdmitError, HostError, MOST_MODULES, ModuleId};
 use wh_space_model::InstId;
 
@@ -29,9 +30,6 @@ pub struct OwnedInstance {
     /// Whose it is.
     pub owner: Principal,
 }
-
-// How many instances a host has at most.
-const MOST_INSTANCES: usize = 4096;
 
 /// Knows whose each module and each instance is.
 #[derive(Drop)]

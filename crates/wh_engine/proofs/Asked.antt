@@ -2,22 +2,30 @@
 use Rattle.std.proofs.Common.{arith, ◌≡◌, ℕ, ◌<◌, true, List, [], ◌∷◌, map, length, get_or, slice_get, Some, Result, Ok, Err, refl, ap, sym, subst, ◌∙◌}
 use Rattle.std.proofs.lemmas.Option.{slice_get-get_or}
 use Rattle.wh_host.proofs.Hosts.{reached_on}
-use Rattle.wh_host_model.specs.Host.{Event, World, CallAnswer, call_ok, call_no_instance, call_no_call}
+use Rattle.wh_host_model.specs.Host.Events as events
+use Rattle.wh_host_model.specs.Host.{Event, World, CallAnswer, call_ok, call_no_instance, call_no_call, IsCancel, IsRefuel, IsRetry}
 use Rattle.wh_space_model.specs.declared.plain.InstId.{InstId}
 use Rattle.wh_host_model.specs.Host.Happens.{Happens}
 use Rattle.wh_script_model.specs.Settings.{Settings}
-use Rattle.wh_script_model.specs.{Command, Reply, Files, IsObeyed}
-use Rattle.wh_script_model.specs.ScriptState.{ScriptState}
+use Rattle.wh_script_model.specs.{Command, Reply, Files, IsObeyed, cancel, refuel, retry, no_one_to_cancel, no_one_to_refuel, no_one_to_retry}
+use Rattle.wh_script_model.specs.ScriptState as script
+use Rattle.wh_script_model.specs.ScriptState.{ScriptState, HasInstance}
+use Rattle.wh_commands.specs.declared.command.CallAction.{CallAction}
+use Rattle.wh_commands.specs.declared.command.CallAction.TheVariants.{Refuel, Cancel, Retry}
+use Rattle.wh_commands.specs.ParsedCommands.{action_of}
 use Rattle.wh_host.specs.Hosting.{HostState, IsHost}
 use Rattle.wh_host.specs.CallRequests.{IsCallAnswer, AnswersCall, host_number}
 use Rattle.wh_host.specs.declared.error.HostError.{HostError}
 use Rattle.wh_host.specs.declared.error.HostError.TheVariants.{NoInstance, Invoke, NoCall, Memory}
 use Rattle.wh_script_laws.specs.Following.{Knows, StaysWhole}
 use Rattle.wh_script_laws.specs.Laws.{FollowsCommand}
+use Rattle.wh_script_laws.specs.Replies.{cancel_reply, refuel_reply, retry_reply}
+use Rattle.wh_script_laws.proofs.CommandsAsked.{refuels_follow, retries_follow}
+use Rattle.wh_script_laws.proofs.CommandsEnding.{cancels_follow}
 use Rattle.wh_engine.specs.declared.parts.NamedInstance.{NamedInstance}
 use Rattle.wh_engine.specs.RepresentedScript.{WholeState, IsLed, RepresentsWhole}
-use Rattle.wh_engine.specs.Obeying.{IsNamed}
-use Rattle.wh_engine.proofs.Touching.{TouchesCalls, nothing, calls_of, names_stay, guests_stay, guest_at, placed_at}
+use Rattle.wh_engine.specs.Obeying.{IsNamed, reply_to_action}
+use Rattle.wh_engine.proofs.Touching.{TouchesCalls, nothing, calls_of, cancel_touches, refuel_touches, retry_touches, names_stay, guests_stay, guest_at, placed_at}
 
 -- the engine with another host
 abbrev pub on_host : WholeState → HostState → WholeState
@@ -86,24 +94,48 @@ asked asks command reply name law touches event happens settings files line m e 
 
 -- ---- by its result
 
--- what came of it, where the host has answered Ok, and where not
-pub answered_ok : (command : Command) (reply : CallAnswer → Reply) (settings : Settings) (files : Files) (line : ℕ) (m : ScriptState) (e : WholeState) (h2 : HostState)
-    → ((answer : CallAnswer) × IsCallAnswer (Ok tt) answer × (m2 : ScriptState) × IsObeyed true settings files m line command (reply answer ∷ []) m2 × RepresentsWhole settings (on_host e h2) m2)
-    → (m2 : ScriptState) × IsObeyed true settings files m line command (reply call_ok ∷ []) m2 × RepresentsWhole settings (on_host e h2) m2
-answered_ok command reply settings files line m e h2 did =
-    subst (λ (answer : CallAnswer). (m2 : ScriptState) × IsObeyed true settings files m line command (reply answer ∷ []) m2 × RepresentsWhole settings (on_host e h2) m2) did.1 (did.2, did.3, did.4)
+-- the reply that the result of the host gets is that of its answer
+answered : (command : Command) (reply : CallAnswer → Reply) (say : Result Unit HostError → Reply) (settings : Settings) (files : Files) (line : ℕ) (m : ScriptState) (e : WholeState) (h2 : HostState)
+    (r : Result Unit HostError) → reply call_ok ≡ say (Ok tt) → reply call_no_instance ≡ say (Err NoInstance) → reply call_no_call ≡ say (Err NoCall)
+    → ((answer : CallAnswer) × IsCallAnswer r answer × (m2 : ScriptState) × IsObeyed true settings files m line command (reply answer ∷ []) m2 × RepresentsWhole settings (on_host e h2) m2)
+    → ObeysWhole settings files m line command (say r) (on_host e h2)
+answered command reply say settings files line m e h2 (Ok done) ok none no_call did =
+    subst (λ (r : Reply). ObeysWhole settings files m line command r (on_host e h2)) (ap reply did.1 ∙ ok) (did.2, did.3, did.4)
+answered command reply say settings files line m e h2 (Err NoInstance) ok none no_call did =
+    subst (λ (r : Reply). ObeysWhole settings files m line command r (on_host e h2)) (ap reply did.1 ∙ none) (did.2, did.3, did.4)
+answered command reply say settings files line m e h2 (Err (Invoke error)) ok none no_call did = absurd did.1
+answered command reply say settings files line m e h2 (Err Memory) ok none no_call did = absurd did.1
+answered command reply say settings files line m e h2 (Err NoCall) ok none no_call did =
+    subst (λ (r : Reply). ObeysWhole settings files m line command r (on_host e h2)) (ap reply did.1 ∙ no_call) (did.2, did.3, did.4)
 
--- the number by which the reply names it, where it hasn't
-pub answered_err : (command : Command) (reply : CallAnswer → Reply) (refused : ℕ → Reply) (settings : Settings) (files : Files) (line : ℕ) (m : ScriptState) (e : WholeState) (h2 : HostState)
-    (error : HostError) → reply call_no_instance ≡ refused 1 → reply call_no_call ≡ refused 8
-    → ((answer : CallAnswer) × IsCallAnswer (Err error) answer × (m2 : ScriptState) × IsObeyed true settings files m line command (reply answer ∷ []) m2 × RepresentsWhole settings (on_host e h2) m2)
-    → (m2 : ScriptState) × IsObeyed true settings files m line command (refused (host_number error) ∷ []) m2 × RepresentsWhole settings (on_host e h2) m2
-answered_err command reply refused settings files line m e h2 NoInstance none no_call did =
-    subst (λ (r : Reply). (m2 : ScriptState) × IsObeyed true settings files m line command (r ∷ []) m2 × RepresentsWhole settings (on_host e h2) m2) (ap reply did.1 ∙ none) (did.2, did.3, did.4)
-answered_err command reply refused settings files line m e h2 (Invoke error) none no_call did = absurd did.1
-answered_err command reply refused settings files line m e h2 Memory none no_call did = absurd did.1
-answered_err command reply refused settings files line m e h2 NoCall none no_call did =
-    subst (λ (r : Reply). (m2 : ScriptState) × IsObeyed true settings files m line command (r ∷ []) m2 × RepresentsWhole settings (on_host e h2) m2) (ap reply did.1 ∙ no_call) (did.2, did.3, did.4)
+-- what an action asks of the host
+abbrev pub AsksAction : CallAction → World → InstId → CallAnswer → World → Type 0
+AsksAction (Refuel n) w id answer w2 = IsRefuel w id n answer w2
+AsksAction Cancel w id answer w2 = IsCancel w id answer w2
+AsksAction Retry w id answer w2 = IsRetry w id answer w2
+
+pub acted : (action : CallAction) (settings : Settings) (files : Files) (line : ℕ) (m : ScriptState) (e : WholeState) (name : List ℕ) (h2 : HostState) (x : NamedInstance) (i : ℕ) (r : Result Unit HostError)
+    → RepresentsWhole settings e m → IsNamed m i name → slice_get e.instances i ≡ Some x → AnswersCall e.host (λ w a w2. AsksAction action w x.id a w2) r h2
+    → StaysWhole e.host.space h2.space → ObeysWhole settings files m line (action_of name action) (reply_to_action name action r) (on_host e h2)
+acted (Refuel n) settings files line m e name h2 x i r s named at answers whole =
+    answered (refuel name n) (refuel_reply name) (reply_to_action name (Refuel n)) settings files line m e h2 r refl refl refl
+    (asked (AsksAction (Refuel n)) (refuel name n) (refuel_reply name) name (refuels_follow name n) (λ settings files m m2 line replies o. refuel_touches o) (λ id. events.refuel id n)
+    (λ w w2 id answer h. (answer, h)) settings files line m e h2 x i r s named at answers whole)
+acted Cancel settings files line m e name h2 x i r s named at answers whole =
+    answered (cancel name) (cancel_reply name) (reply_to_action name Cancel) settings files line m e h2 r refl refl refl
+    (asked (AsksAction Cancel) (cancel name) (cancel_reply name) name (cancels_follow name) (λ settings files m m2 line replies o. cancel_touches o) (λ id. events.cancel id)
+    (λ w w2 id answer h. (answer, h)) settings files line m e h2 x i r s named at answers whole)
+acted Retry settings files line m e name h2 x i r s named at answers whole =
+    answered (retry name) (retry_reply name) (reply_to_action name Retry) settings files line m e h2 r refl refl refl
+    (asked (AsksAction Retry) (retry name) (retry_reply name) name (retries_follow name) (λ settings files m m2 line replies o. retry_touches o) (λ id. events.retry id)
+    (λ w w2 id answer h. (answer, h)) settings files line m e h2 x i r s named at answers whole)
+
+-- of an instance that was released
+pub acted_gone : (action : CallAction) (settings : Settings) (files : Files) (line : ℕ) (m : ScriptState) (name : List ℕ) (i : ℕ) (g : script.NamedInstance) → HasInstance m name i g → g.is_released ≡ true
+    → IsObeyed true settings files m line (action_of name action) (reply_to_action name action (Err NoInstance) ∷ []) m
+acted_gone (Refuel n) settings files line m name i g has gone = no_one_to_refuel i has gone
+acted_gone Cancel settings files line m name i g has gone = no_one_to_cancel i has gone
+acted_gone Retry settings files line m name i g has gone = no_one_to_retry i has gone
 
 -- the one that is read at a place
 pub guest_there : (xs : List NamedInstance) (i : ℕ) (x : NamedInstance) → i < length xs → x ≡ get_or xs i x → slice_get xs i ≡ Some x

@@ -4,10 +4,12 @@ use Rattle.std.specs.Global.{Vec}
 use Rattle.wh_host_model.specs.Owners.{Params}
 use Rattle.wh_script_model.specs.Settings.{Settings}
 use Rattle.wh_script_model.specs.Commands.{Command}
-use Rattle.wh_script_model.specs.Texts.{Reply, release_ok, release_refused}
+use Rattle.wh_script_model.specs.Texts.{Reply, refuel_ok, refuel_refused, cancel_ok, cancel_refused, retry_ok, retry_refused, release_ok, release_refused}
 use Rattle.wh_script_model.specs.ScriptState.{NamedModule, NamedInstance, ScriptState, HasInstance}
 use Rattle.wh_script_model.specs.Receiving.{ReceivesModule, ReceivesInstance, ReceivesCall}
 use Rattle.wh_script_model.specs.Answers.{Files, IsObeyed}
+use Rattle.wh_commands.specs.declared.command.CallAction.{CallAction}
+use Rattle.wh_commands.specs.declared.command.CallAction.TheVariants.{Refuel, Cancel, Retry}
 use Rattle.wh_host.specs.CallRequests.{host_number}
 use Rattle.wh_host.specs.declared.error.HostError.{HostError}
 use Rattle.wh_engine.specs.RepresentedScript.{ScriptHostState, RepresentsScript}
@@ -46,3 +48,12 @@ ObeysCommand settings files m line command reply e2 =
 abbrev pub reply_to_release : (name : List ℕ) → Result (Vec ℕ) HostError → Reply
 reply_to_release name (Ok output) = release_ok name output.items
 reply_to_release name (Err error) = release_refused name (host_number error)
+
+-- and what is asked of the present call of an instance
+abbrev pub reply_to_action : (name : List ℕ) → CallAction → Result Unit HostError → Reply
+reply_to_action name (Refuel fuel) (Ok done) = refuel_ok name
+reply_to_action name (Refuel fuel) (Err error) = refuel_refused name (host_number error)
+reply_to_action name Cancel (Ok done) = cancel_ok name
+reply_to_action name Cancel (Err error) = cancel_refused name (host_number error)
+reply_to_action name Retry (Ok done) = retry_ok name
+reply_to_action name Retry (Err error) = retry_refused name (host_number error)

@@ -9,10 +9,7 @@ use crate::shapes::{Param, Shape, WordFault, shape_of, word_fault};
 use std::alloc::{AllocError, Global};
 use std::io::{BufRead, Read};
 use std::{fmt, io};
-use wh_commands::{ParseError, parse};
-
-/// How many bytes a line may have, without its newline.
-pub const LONGEST_LINE: usize = 2200000;
+use wh_commands::{LONGEST_LINE, ParseError, parse};
 
 /// How many bytes of a word are shown.
 const MOST_SHOWN: usize = 40;

@@ -1,5 +1,7 @@
 //! What each command of a script is followed by.
 
+use wh_commands::{LONGEST_NAME, MOST_DIGITS};
+
 /// What a word has to be.
 #[derive(Clone, Copy, Debug, PartialEq, Eq)]
 pub enum WordKind {
@@ -197,10 +199,6 @@ pub enum WordFault {
     /// It is a number, and out of its range.
     OutOfRange,
 }
-
-const LONGEST_NAME: usize = 32;
-
-const MOST_DIGITS: usize = 20;
 
 /// Whether a word is a name.
 fn is_name(word: &str) -> bool {

@@ -1,17 +1,19 @@
 //! How modules and instances come to a hand.
 
 ghost use Rattle.std.specs.Prelude.{◌≡◌, ℕ, IfOk, OnErr};
-ghost use Rattle.wh_params.specs.View.{view_params};
+ghost use Rattle.wh_params.specs.View.{view_params, view_quota};
 ghost use Rattle.wh_host_model.specs.Host.Worlds.{promised};
+ghost use Rattle.wh_space_model.specs.Forks.{Copies};
 ghost use Rattle.wh_space_model.specs.Places.{Enters};
 ghost use Rattle.wh_host.specs.Admitting.{AnswersAdmit};
 ghost use Rattle.wh_host.specs.Backing.{KeepsBacking};
+ghost use Rattle.wh_host.specs.ForkAnswers.{AnswersFork, claim_by};
 ghost use Rattle.wh_host.specs.Loading.{AnswersLoad};
 
 use crate::hand::Hand;
 use crate::line::settle;
 use std::alloc::Global;
-use wh_host::{AdmitError, ModuleError, ModuleId, Params};
+use wh_host::{AdmitError, ForkError, ModuleError, ModuleId, Params, Quota};
 use wh_space_model::InstId;
 
 impl Hand {
@@ -56,5 +58,30 @@ impl Hand {
         };
         settle(&mut self.line, &self.host, id, false);
         Ok(id)
+    }
+
+    /// Copies an instance without an open call: the copy begins as the instance is, with the same memory, globals, table,
+    /// output and ended calls, and with its own quota. The two share all frames of the memory, copy-on-write: no frame is
+    /// taken, and no page copied. All else that the copy will ever need is reserved now.
+    ///
+    /// # Errors
+    /// Those of `Host::fork`: `NoInstance`; `CallOpen`; `StartFailed`; `NotAdmitted` with the first fault that an admission
+    /// with this quota meets, out of memory aside; `OtherLimit`; `PageAway`; the first of them that holds. Where none does:
+    /// `Memory` where room is refused, where frames and slots are 2^32 together or more, or where 2^64 - 1 instances were
+    /// admitted. The host is as it was then.
+    pub fn fork(&mut self, alloc: Global, id: InstId, quota: Quota) -> Result<InstId, ForkError>
+        ensures forks { AnswersFork self.old.host id (view_quota quota) result self.new.host }
+        ensures err { OnErr result (self.new ≡ self.old) }
+        ensures backing { KeepsBacking self.old.host.space self.new.host.space }
+        ensures memory { IfOk result (λ copy. Copies self.old.host.space id.place copy.place
+            (claim_by copy.number (view_quota quota)) self.new.host.space) }
+        ensures output { self.new.output ≡ self.old.output }
+    {
+        let copy = match self.host.fork(alloc, id, quota) {
+            Ok(copy) => copy,
+            Err(error) => return Err(error),
+        };
+        settle(&mut self.line, &self.host, copy, false);
+        Ok(copy)
     }
 }

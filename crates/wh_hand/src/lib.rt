@@ -19,7 +19,7 @@ mod telling;
 pub use hand::Hand;
 pub use running::Ran;
 pub use wh_host::{
-    AdmitError, CallStatus, CallValue, HostError, InstanceReport, ModuleError, ModuleId, Params,
-    Report, Suspension, Transcript,
+    AdmitError, CallRequest, CallStatus, CallValue, Cancel, ForkError, HostError, InstanceReport,
+    Invoke, ModuleError, ModuleId, Params, Quota, Refuel, Report, Retry, Suspension, Transcript,
 };
 pub use wh_space_model::{InstId, Tax};

@@ -1,11 +1,17 @@
 -- What keeps tickets, slots, frames and the tax as they are.
-use Rattle.std.proofs.Common.{◌≡◌, ℕ, ◌==◌, List, [], ◌∷◌, length, map, zero, suc, slice_get, Some, inl, inr, refl, ap, ◌∙◌, arith, rules}
+use Rattle.std.proofs.Common.{◌≡◌, ℕ, ◌*◌, ◌==◌, nat_lt, cond, Bool, true, false, List, [], ◌∷◌, length, map, zero, suc, slice_get, Option, Some, None, inl, inr, refl, ap, ◌∙◌, arith, rules}
+use Rattle.wh_model.specs.declared.memory.Need.{Need}
 use Rattle.wh_space_model.specs.declared.states.Offer.{Offer}
 use Rattle.wh_space_model.specs.declared.states.Offer.TheVariants.{Skipped, Zeroed, Hinted, Stale, Merged, FalseMatch}
 use Rattle.wh_space_model.specs.declared.states.Slot.{Slot}
 use Rattle.wh_space_model.specs.declared.states.Slot.TheVariants.{Vacant, Taken, Evicting, EvictVoid, Fetching, FetchVoid}
-use Rattle.wh_space_model.specs.{Pass, errand_for, pass_of, OffersAlone, OffersUnlisted, Space, Exits, released_use, Scans}
+use Rattle.wh_space_model.specs.Frames.{Pool}
+use Rattle.wh_space_model.specs.Parts.{Slots}
+use Rattle.wh_space_model.specs.{Claimed, Copies, IsSound, Pass, errand_for, pass_of, has_pins, unpinned, OffersAlone, OffersUnlisted, Space, Exits, released_use, Scans, ended, stood}
 use Rattle.wh_space_model.specs.Offers.{Offers}
+use Rattle.wh_space_model.proofs.Entered.{enters_soundly}
+use Rattle.wh_space_model.proofs.Forked.{IsKept, lent_first}
+use Rattle.wh_instance.specs.declared.stages.TurnResult.{TurnResult}
 use Rattle.wh_instance.specs.declared.stages.TurnResult.TheVariants as turned
 use Rattle.wh_host.specs.Backing.{KeepsBacking}
 
@@ -88,3 +94,16 @@ pub scans_backing : (hashes : List ℕ → ℕ) (s : Space) (pages : List (ℕ �
 scans_backing hashes s [] s2 is = same_backing s s2 is
 scans_backing hashes s (page ∷ pages) s2 (hash, answer, mid, its, offer, rest) =
     then_backing s mid s2 (offers_backing hashes s page.0 page.1 hash answer mid offer) (scans_backing hashes mid pages s2 rest)
+
+-- ---- a copy
+
+pub copies_backing : (s : Space) (i j : ℕ) (c : Claimed) (s2 : Space) → IsSound s → Copies s i j c s2 → KeepsBacking s s2
+copies_backing s i j c s2 sound copies =
+    let mid : Space = copies.mid in
+    let enters = copies.enters in
+    let lent = lent_first mid i j (16 * copies.size) s2 (enters_soundly s j c copies.size mid sound enters) copies.apart copies.lends in
+    let keeps : IsKept mid s2 = lent.keeps in
+    let before = enters.leaves in
+    let first : KeepsBacking s mid = backs s mid (ap pass_of before) (ap (λ (a : Space). length a.pool.frames) before) (ap (λ (a : Space). a.tax) before) in
+    let then : KeepsBacking mid s2 = backs mid s2 (ap (λ (z : Slots). let p : Pass = record { held = z.held; out = map errand_for z.uses } in p) keeps.slots) (ap (λ (z : Pool). length z.frames) keeps.pool) keeps.tax in
+    then_backing s mid s2 first then

@@ -1,13 +1,14 @@
 -- An admission, and the host that it leaves.
 use Rattle.std.proofs.Common.{◌≡◌, ◌≢◌, ℕ, zero, suc, ◌+◌, ◌*◌, ◌/◌, ◌<◌, ◌≤◌, ◌⊎◌, ⊎_elim, inl, inr, false, Option, Some, None, List, [], ◌∷◌, ◌++◌, length, map, get_or, slice_get, replicate, refl, sym, ap, subst, ◌∙◌, arith}
 use Rattle.std.proofs.lemmas.List.{length-replicate}
-use Rattle.slab.specs.Slab.{Slab, Updates}
+use Rattle.slab.specs.Slab.{Slab, Updates, get}
 use Rattle.wh_model.specs.Format.{most_segments, Small, Module}
 use Rattle.wh_model.specs.Format.Syntax.{Limits}
 use Rattle.wh_model.specs.Execution.{first_size, last_size, fragments}
 use Rattle.wh_space_model.specs.declared.plain.InstId.{InstId}
 use Rattle.wh_space_model.specs.{Space, minima, spreads, view, Enters, HasRoomFor}
-use Rattle.wh_host_model.specs.Host.{Arrives, Tenant, World, promised, StartsAs, MeetsFault, LetsIn, rest_of, admit, admit_ok, admit_refused, IsAdmit, is_admitted, isnt_admitted, no_memory_to_admit}
+use Rattle.wh_host_model.specs.Host.{Arrives, Event, Tenant, World, promised, StartsAs, MeetsFault, LetsIn, rest_of, admit, admit_ok, admit_refused, IsAdmit, is_admitted, isnt_admitted, no_memory_to_admit}
+use Rattle.wh_host_model.specs.Host.Happens.{Happens}
 use Rattle.wh_host_model.specs.{Params, given_of, AdmitFault, no_module, shares, min_max, frames, swap, instances, memory, segments, admit_rank}
 use Rattle.wh_host_model.proofs.Host.Bridges.{entrants_arrive}
 use Rattle.wh_host_model.proofs.Host.Lasting.{modules_stay_accepted}
@@ -114,9 +115,47 @@ one_longer : {A : Type 0} (xs : List A) (x : A) → length (xs ++ x ∷ []) ≡ 
 one_longer [] x = refl
 one_longer (y ∷ xs) x = let h = one_longer xs x in omega (arith, h)
 
-within_limit : (ls : List Limits) (limit : ℕ) → last_size ls limit ≤ limit
+pub within_limit : (ls : List Limits) (limit : ℕ) → last_size ls limit ≤ limit
 within_limit [] limit = omega arith
 within_limit (l ∷ ls) limit = omega arith
+
+-- one more instance is there, at a place of its own, and the others see what they saw
+pub joins : (h : HostState) (w : World) (e : Event) (t : Tenant) (x : InstanceEntry) (place : ℕ) (rs rs1 rs2 : Slab InstanceEntry) (s2 : Space) → (st : IsHost h w) → rs.slots ≡ h.entries → get rs place ≡ None → rs1.slots ≡ rs.slots → Updates rs1 rs2 place (Some x)
+    → t.place ≡ place → ((j : ℕ) → j ≢ place → view s2 j ≡ view w.space j) → IsEntryOf h.modules x s2 h.next t → Happens w e (record w { tenants = w.tenants ++ Some t ∷ []; space = s2 })
+    → IsHost (record h { entries = rs2.slots; live = h.live + 1; space = s2; next = h.next + 1 }) (record w { tenants = w.tenants ++ Some t ∷ []; space = s2 })
+joins h w e t x place rs rs1 rs2 s2 st are none slots updates at_it sees represents happens =
+    let w2 : World = record w { tenants = w.tenants ++ Some t ∷ []; space = s2 } in
+    let vacant : entry_at h.entries place ≡ None = ap (λ (zs : List (Option InstanceEntry)). entry_at zs place) (sym are) ∙ none in
+    let still : (q : ℕ) → q ≢ place → entry_at rs2.slots q ≡ entry_at h.entries q = λ q other. updates.others q other ∙ ap (λ (zs : List (Option InstanceEntry)). entry_at zs q) (slots ∙ are) in
+    record {
+      comes = comes_on w w2 e st.comes happens;
+      modules = st.modules;
+      space = refl;
+      live = let e = st.live in let more = one_more w.tenants t in omega (arith, e, more);
+      next = let e = st.next in let longer = one_longer w.tenants (Some t) in omega (arith, e, longer);
+      next_module = st.next_module;
+      there = λ j u e.
+          ⊎_elim
+          (λ (old : get_or w.tenants j None ≡ Some u).
+          let f = st.there j u old in
+          let far : u.place ≢ place = λ q. absurd (let bad : None ≡ Some f.0 = sym vacant ∙ ap (entry_at h.entries) (sym q) ∙ f.1 in cc bad) in
+          (f.0, still u.place far ∙ f.1, moved_on h.modules f.0 w.space s2 j u f.2 (sees u.place far)))
+          (λ (new : (j ≡ length w.tenants) × (Some t ≡ Some u)).
+          let one = one_value t u new.1 in
+          let which : h.next ≡ j = st.next ∙ sym new.0 in
+          (x, ap (entry_at rs2.slots) (ap (λ (z : Tenant). z.place) (sym one) ∙ at_it) ∙ updates.changed, subst (λ z. IsEntryOf h.modules x s2 j z) one (subst (λ n. IsEntryOf h.modules x s2 n t) which represents)))
+          (at_end w.tenants (Some t) j u e);
+      all = λ q j z e n.
+          ⊎_elim
+          (λ (here : q ≡ place).
+          let same : x ≡ z = one_value x z (sym updates.changed ∙ ap (entry_at rs2.slots) (sym here) ∙ e) in
+          let which : j ≡ length w.tenants = one_value j (length w.tenants) (sym n ∙ ap (λ (v : InstanceEntry). v.number) (sym same) ∙ represents.number ∙ ap Some st.next) in
+          (t, ap (λ c. get_or (w.tenants ++ Some t ∷ []) c None) which ∙ has_come w.tenants (Some t), at_it ∙ sym here))
+          (λ (there : q ≢ place).
+          let f = st.all q j z (sym (still q there) ∙ e) n in
+          (f.0, still_there w.tenants (Some t) j f.0 f.1, f.2))
+          (same_or_not q place);
+    }
 
 size_is : (m n : ℕ) → m ≡ n → 65536 * m ≡ n * 65536
 size_is m n e = omega (arith, e)
@@ -186,38 +225,8 @@ admitted_here h w k p m a x place rs rs1 rs2 s2 st is none b begins are enters u
       limit = omega (arith, limits, within_limit wasm.memories (p.max / 16));
       copied = begins.copied;
       is = over;
-    } in
-    let vacant : entry_at h.entries place ≡ None = ap (λ (zs : List (Option InstanceEntry)). entry_at zs place) (sym are) ∙ enters.vacant in
-    let still : (q : ℕ) → q ≢ place → entry_at rs2.slots q ≡ entry_at h.entries q = λ q other. updates.others q other ∙ ap (λ (zs : List (Option InstanceEntry)). entry_at zs q) (enters.slots ∙ are) in (
+    } in (
       w2,
       happens,
-      record {
-        comes = comes_on w w2 (admit k p) st.comes (admit_ok id, happens);
-        modules = st.modules;
-        space = refl;
-        live = let e = st.live in let more = one_more w.tenants t in omega (arith, e, more);
-        next = let e = st.next in let longer = one_longer w.tenants (Some t) in omega (arith, e, longer);
-        next_module = st.next_module;
-        there = λ j u e.
-            ⊎_elim
-            (λ (old : get_or w.tenants j None ≡ Some u).
-            let f = st.there j u old in
-            let far : u.place ≢ place = λ q. absurd (let bad : None ≡ Some f.0 = sym vacant ∙ ap (entry_at h.entries) (sym q) ∙ f.1 in cc bad) in
-            (f.0, still u.place far ∙ f.1, moved_on h.modules f.0 w.space s2 j u f.2 (arrives.others u.place far).view))
-            (λ (new : (j ≡ length w.tenants) × (Some t ≡ Some u)).
-            let one = one_value t u new.1 in
-            let which : h.next ≡ j = st.next ∙ sym new.0 in
-            (x, ap (entry_at rs2.slots) (ap (λ (z : Tenant). z.place) (sym one)) ∙ updates.changed, subst (λ z. IsEntryOf h.modules x s2 j z) one (subst (λ n. IsEntryOf h.modules x s2 n t) which represents)))
-            (at_end w.tenants (Some t) j u e);
-        all = λ q j z e n.
-            ⊎_elim
-            (λ (here : q ≡ place).
-            let same : x ≡ z = one_value x z (sym updates.changed ∙ ap (entry_at rs2.slots) (sym here) ∙ e) in
-            let which : j ≡ length w.tenants = one_value j (length w.tenants) (sym n ∙ ap (λ (v : InstanceEntry). v.number) (sym same) ∙ begins.number ∙ ap Some st.next) in
-            (t, ap (λ c. get_or (w.tenants ++ Some t ∷ []) c None) which ∙ has_come w.tenants (Some t), sym here))
-            (λ (there : q ≢ place).
-            let f = st.all q j z (sym (still q there) ∙ e) n in
-            (f.0, still_there w.tenants (Some t) j f.0 f.1, f.2))
-            (same_or_not q place);
-      },
+      joins h w (admit k p) t x place rs rs1 rs2 s2 st are enters.vacant enters.slots updates refl (λ j other. (arrives.others j other).view) represents (admit_ok id, happens),
     )

@@ -24,3 +24,5 @@ mod Sharings
 mod Reports
 mod Enrolling
 mod Charges
+mod Begun
+mod ForkedHosts

@@ -22,3 +22,4 @@ pub mod Telling
 pub mod Reporting
 pub mod InstanceRefs
 pub mod Rolls
+pub mod ForkAnswers

@@ -1,4 +1,6 @@
 -- Which events owners ask for, and what they lead to.
+use Rattle.std.specs.Prelude.{◌≡◌}
+use Rattle.wh_space_model.specs.declared.plain.InstId.{InstId}
 use Rattle.wh_host_model.specs.Host.Worlds.{World}
 use Rattle.wh_host_model.specs.Host.Events.{Event, turn, load, admit, invoke, refuel, cancel, retry, release, fork, unload, offer, evict_begin, evict_commit, fetch_begin, fetch_commit, provide, epoch}
 use Rattle.wh_host_model.specs.Host.Happens.{Happens}
@@ -28,3 +30,28 @@ IsRequest (provide id fault) = ⊥
 abbrev pub LeadsByRequest : HostState → HostState → Type 0
 LeadsByRequest h h2 =
     (w : World) → IsHost h w → (e : Event) × (w2 : World) × IsRequest e × Happens w e w2 × IsHost h2 w2
+
+-- It is a request about the calls of this instance: one more call, or more fuel for the present one, its end or another try.
+abbrev pub IsCallRequest : InstId → Event → Type 0
+IsCallRequest id (invoke other name given fuel) = other ≡ id
+IsCallRequest id (refuel other n) = other ≡ id
+IsCallRequest id (cancel other) = other ≡ id
+IsCallRequest id (retry other) = other ≡ id
+IsCallRequest id (load bytes) = ⊥
+IsCallRequest id (admit k p) = ⊥
+IsCallRequest id (release other) = ⊥
+IsCallRequest id (fork other q) = ⊥
+IsCallRequest id (unload k) = ⊥
+IsCallRequest id epoch = ⊥
+IsCallRequest id (turn other q) = ⊥
+IsCallRequest id (offer page hash) = ⊥
+IsCallRequest id (evict_begin other) = ⊥
+IsCallRequest id (evict_commit other call fault) = ⊥
+IsCallRequest id (fetch_begin other) = ⊥
+IsCallRequest id (fetch_commit other call fault) = ⊥
+IsCallRequest id (provide other fault) = ⊥
+
+-- so a request about its calls leads
+abbrev pub LeadsByCallRequest : HostState → InstId → HostState → Type 0
+LeadsByCallRequest h id h2 =
+    (w : World) → IsHost h w → (e : Event) × (w2 : World) × IsCallRequest id e × Happens w e w2 × IsHost h2 w2

@@ -23,8 +23,14 @@ use std::alloc::Global;
 use wh_admit::{AdmitError, Params};
 use wh_space_model::InstId;
 
-/// Is what an owner asks of a host.
-pub trait Request {
+// Names what only this crate can name, so that no other implements `Request`.
+pub(crate) mod sealed {
+    /// Is a request of this crate.
+    pub trait Sealed {}
+}
+
+/// Is what an owner asks of a host. Nobody outside this crate implements it: whoever may ask is lent the host.
+pub trait Request: sealed::Sealed {
     /// What the host answers.
     type Answer;
 
@@ -57,6 +63,8 @@ pub struct Load<'a> {
     pub bytes: &'a [u8],
 }
 
+impl sealed::Sealed for Load<'_> {}
+
 impl Request for Load<'_> {
     type Answer = ModuleId;
 
@@ -82,6 +90,8 @@ pub struct Admit {
     /// What the instance is given.
     pub params: Params,
 }
+
+impl sealed::Sealed for Admit {}
 
 impl Request for Admit {
     type Answer = InstId;
@@ -116,6 +126,8 @@ pub struct Invoke<'a> {
     pub fuel: u64,
 }
 
+impl sealed::Sealed for Invoke<'_> {}
+
 impl Request for Invoke<'_> {
     type Answer = u32;
 
@@ -141,6 +153,8 @@ pub struct Refuel {
     pub fuel: u64,
 }
 
+impl sealed::Sealed for Refuel {}
+
 impl Request for Refuel {
     type Answer = ();
 
@@ -164,6 +178,8 @@ pub struct Cancel {
     pub id: InstId,
 }
 
+impl sealed::Sealed for Cancel {}
+
 impl Request for Cancel {
     type Answer = ();
 
@@ -186,6 +202,8 @@ pub struct Retry {
     /// The instance.
     pub id: InstId,
 }
+
+impl sealed::Sealed for Retry {}
 
 impl Request for Retry {
     type Answer = ();
@@ -212,6 +230,8 @@ pub struct Release {
     pub id: InstId,
 }
 
+impl sealed::Sealed for Release {}
+
 impl Request for Release {
     type Answer = Vec<u8>;
 
@@ -231,6 +251,8 @@ impl Request for Release {
 /// Asks for a new epoch to begin: no page is marked as touched then. It is never refused.
 #[derive(Clone, Copy)]
 pub struct BeginEpoch;
+
+impl sealed::Sealed for BeginEpoch {}
 
 impl Request for BeginEpoch {
     type Answer = ();

@@ -20,3 +20,4 @@ pub use beginning::instantiate;
 pub use error::InstantiateError;
 pub use outcome::Instantiated;
 pub use parameters::Parameters;
+pub use sizes::{first_pages, last_pages};

@@ -15,3 +15,4 @@ mod Taken
 mod Bounds
 pub mod Told
 pub mod Finished
+pub mod Duplicates

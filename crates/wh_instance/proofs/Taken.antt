@@ -1,5 +1,5 @@
 -- Calls that an instance takes, and those that it doesn't.
-use Rattle.std.proofs.Common.{◌≡◌, ◌≢◌, ℕ, suc, ◌-◌, ◌<◌, ◌≤◌, ◌^◌, Bool, true, false, min, List, [], ◌∷◌, ◌++◌, length, map, Some, slice_get, ℤ, refl, sym, ap, subst, ◌∙◌, arith, length-append, rules}
+use Rattle.std.proofs.Common.{◌≡◌, ◌≢◌, ℕ, suc, ◌<◌, ◌≤◌, ◌^◌, Bool, true, false, min, List, [], ◌∷◌, ◌++◌, length, map, Some, slice_get, ℤ, refl, sym, ap, subst, ◌∙◌, arith, length-append, rules}
 use Rattle.std.specs.List.{AllByRecursion}
 use Rattle.wh_model.specs.Format.{FuncType, Body, Module}
 use Rattle.wh_model.specs.Execution.Store.{Instance}

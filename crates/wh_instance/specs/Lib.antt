@@ -12,3 +12,4 @@ pub mod Invoked
 pub mod Seen
 pub mod Stored
 pub mod Told
+pub mod CopiedInstances

@@ -15,7 +15,6 @@ use crate::leave::Leave;
 use crate::stages::{CallStage, TurnResult};
 use crate::starting::turn_start;
 use crate::turning::{turn_first, turn_on};
-use std::sync::atomic::AtomicU64;
 use wh_imports::Linked;
 use wh_journal::JournalCall;
 use wh_linmem::LinearMem;
@@ -185,11 +184,10 @@ impl HostInstance {
                 (came, 0, charges)
             }
             CallStage::UnderWay => {
-                let nobody = AtomicU64::new(0);
                 let turn = Burst {
                     quantum: q,
                     further: 0,
-                    wanted: &nobody,
+                    wanted: None,
                 };
                 let ended = self.advance_on(linked, memory, turn);
                 (ended.came, 0, ended.charges)

@@ -21,8 +21,8 @@ pub struct Burst<'a> {
     pub quantum: u64,
     /// How many turns come after the first at most.
     pub further: u32,
-    /// How many want the memory.
-    pub wanted: &'a AtomicU64,
+    /// How many want the memory; `None` where no further turn is begun.
+    pub wanted: Option<&'a AtomicU64>,
 }
 
 /// What came of a burst.
@@ -46,8 +46,8 @@ impl<'a> Burst<'a> {
         ensures leave { result ≡ true → leave.new.reads ≡ leave.old.reads + 1 }
         ensures none { result ≡ false → leave.new ≡ leave.old }
     {
-        match came {
-            TurnOutcome::Again => self.quantum > 0 && leave.ask(self.wanted),
+        match (came, self.wanted) {
+            (TurnOutcome::Again, Some(wanted)) => self.quantum > 0 && leave.ask(wanted),
             _ => false,
         }
     }

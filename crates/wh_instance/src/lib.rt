@@ -10,6 +10,7 @@ mod asking;
 mod beginning;
 mod burst;
 mod computing;
+mod copying;
 mod error;
 mod exports;
 mod host_instance;

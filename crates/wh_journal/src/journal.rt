@@ -23,8 +23,8 @@ fn copies_of(alloc: Global, calls: &[JournalCall]) -> Result<Vec<JournalCall>, A
 /// The calls of one instance in the order of their coming: those that have ended, and after them the others, the first
 /// of which is the present call.
 ///
-/// Each method but `end_all` takes constant time; `push` does so but where the room has to grow. Only `push` takes
-/// memory.
+/// Each method but `end_all` and those that copy takes constant time; `push` does so but where the room has to grow.
+/// Only `push` and those that copy take memory.
 #[derive(Drop)]
 pub struct Journal {
     calls: Vec<JournalCall>,
@@ -124,6 +124,18 @@ impl Journal {
             copies.items ≡ self.now.ended ++ self.now.open_calls) }
     {
         copies_of(alloc, &self.calls)
+    }
+
+    /// Makes a journal of copies of the calls that have ended, in order. It has no other call.
+    ///
+    /// # Errors
+    /// `AllocError` if an allocation fails. Nothing is left then.
+    pub fn copy_ended(&self, alloc: Global) -> Result<Journal, AllocError>
+        ensures { IfOk result (λ copy. copy ≡ record { ended = self.now.ended; open_calls = [] }) }
+    {
+        let calls = copies_of(alloc, &self.calls[..self.first_open])?;
+        let first_open = calls.len();
+        Ok(Journal { calls, first_open })
     }
 
     /// Adds to the pieces that the present call has written and to the charges that it has taken.

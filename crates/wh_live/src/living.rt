@@ -26,6 +26,10 @@ use wh_workers::{Jobs, ServeError, Served, WorkerSetup, serve_on};
 // How many charges all series that are out have together while instances arrive: for a millisecond or less.
 const SHORT_CHARGES: u32 = 1 << 18;
 
+// How many charges a series has at most, whether instances arrive or not: for some twenty milliseconds. So who arrives first
+// after a long time waits no longer.
+const LONGEST_CHARGES: u32 = 1 << 23;
+
 // What the threads of a run do, and who dispatches the turns.
 struct LiveParts<
     D: SwapDev,
@@ -86,7 +90,9 @@ fn parts_of<
         schedule: Arc::try_clone(schedule)?,
     };
     let short = SHORT_CHARGES / run_config.quantum.max(1);
-    let dispatches = TurnSupply::new(alloc, cell.share()?, Arc::try_clone(schedule)?, 0, short)?;
+    let longest = LONGEST_CHARGES / run_config.quantum.max(1);
+    let schedule = Arc::try_clone(schedule)?;
+    let dispatches = TurnSupply::new(alloc, cell.share()?, schedule, 0, short, longest)?;
     let supply = LiveSupply::new(dispatches, queue.share()?);
     let jobs = Jobs {
         turns,

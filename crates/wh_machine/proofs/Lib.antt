@@ -21,5 +21,6 @@ pub mod Takings
 pub mod Coming
 pub mod Seeing
 pub mod Quickly
+pub mod Besides
 pub mod Totals
 pub mod Tagged

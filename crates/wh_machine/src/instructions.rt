@@ -1,6 +1,7 @@
 //! What the machine does at each instruction of words and frames alone.
 
 ghost use Rattle.std.specs.Prelude.{◌≡◌, ◌+◌, ◌^◌, ◌<◌};
+ghost use Rattle.wh_model.specs.Execution.Numbers.{unsigned};
 ghost use Rattle.wh_control.specs.ControlSteps.{moved};
 ghost use Rattle.wh_syntax.specs.declared.instr.Instr.TheVariants.{Nop, Block, Loop, Drop, Select, LocalGet, LocalSet, LocalTee, I32Const, I64Const, Test, Compare, Unary, Binary, Convert, End};
 ghost use Rattle.wh_machine.specs.declared.machine.Exec.TheVariants.{Free, Charged};
@@ -21,6 +22,16 @@ pub fn advance(stack: &mut Stack)
         ≡ record stack.old { frame = moved stack.old.frame (stack.old.frame.place + 1) } }
 {
     stack.frame.place += 1;
+}
+
+/// Moves to the next instruction, whose place is known.
+#[inline(always)]
+pub fn advance_to(stack: &mut Stack, behind: usize)
+    requires { behind ≡ stack.old.frame.place + 1 }
+    ensures { stack.new
+        ≡ record stack.old { frame = moved stack.old.frame (stack.old.frame.place + 1) } }
+{
+    stack.frame.place = behind;
 }
 
 /// Executes `drop`.
@@ -89,15 +100,16 @@ pub fn exec_binary(stack: &mut Stack, width: ValType, op: BinaryOp) -> Exec
     }
 }
 
-/// Executes a binary operator of this type that never traps.
+/// Executes a binary operator of this type that never traps, and goes on at the place behind it.
 #[inline(always)]
-pub fn exec_total(stack: &mut Stack, width: ValType, op: BinaryOp)
+pub fn exec_total(stack: &mut Stack, width: ValType, op: BinaryOp, behind: usize)
     requires next { ComesNextAnywhere stack.old (Binary width op) }
     requires total { IsTotal op }
+    requires place { behind ≡ stack.old.frame.place + 1 }
     ensures { IsExecAnywhere stack.old (Binary width op) Charged stack.new }
 {
     match binary(&mut stack.words, width, op) {
-        Ok(()) => advance(stack),
+        Ok(()) => advance_to(stack, behind),
         Err(_) => unreachable!(),
     }
 }
@@ -190,6 +202,18 @@ pub fn exec_i32_const(stack: &mut Stack, number: i32)
     ensures { IsExecAnywhere stack.old (I32Const number) Free stack.new }
 {
     stack.words.push(word_of_i32(number));
+    advance(stack);
+}
+
+/// Executes `i32.const` of a number with this word.
+#[inline(always)]
+pub fn exec_i32_word(stack: &mut Stack, number: i32, word: u32)
+    requires next { ComesNextAnywhere stack.old (I32Const number) }
+    requires word { word ≡ unsigned 32 number }
+    ensures { IsExecAnywhere stack.old (I32Const number) Free stack.new }
+{
+    let _ = number;
+    stack.words.push(u64::from(word));
     advance(stack);
 }
 

@@ -4,7 +4,6 @@ ghost use Rattle.std.specs.Prelude.{◌≡◌, ◌+◌, ◌-◌, ◌/◌, ◌^�
 ghost use Rattle.wh_cell.specs.Owning.{ComesOn};
 ghost use Rattle.wh_scheduler.specs.InHand.{EachCanOffer, EachIs, Rests, RunsHere, WorksHere, left_of};
 
-use crate::jobs::TURNS_FOR_AN_OFFER;
 use crate::owned::OwnedHost;
 use crate::scan_job::page_in_round;
 use std::sync::ledger::Ledger;
@@ -12,6 +11,7 @@ use wh_cell::CellAgreements;
 use wh_kernels::PageHash;
 use wh_space_model::InstId;
 use wh_swap::SwapDev;
+use wh_workers::TURNS_FOR_AN_OFFER;
 
 /// What the owner of a host did itself until no call could go on.
 #[derive(Clone, Copy, Debug, PartialEq, Eq)]

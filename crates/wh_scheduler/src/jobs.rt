@@ -19,17 +19,11 @@ use wh_cell::{CellAgreements, HostCell, Moved};
 use wh_host_model::TurnEnd;
 use wh_space_model::InstId;
 use wh_swap::SwapDev;
-use wh_threads::{Help, HelpOutcome, Helper};
-use wh_workers::{Next, Supply};
-
-// For how many turns that are dispatched the scanner offers a page.
-pub(crate) const TURNS_FOR_AN_OFFER: u64 = 64;
+use wh_threads::{Help, HelpOutcome, Helper, LONGEST_SLEEP_SECONDS};
+use wh_workers::{Next, Supply, TURNS_FOR_AN_OFFER};
 
 // How often a worker that has no series looks whether the scanner, which waits for the lock, has it now.
 const LOOKS_WHILE_SCANNER_WAITS: u32 = 2000;
-
-// How long who dispatches turns sleeps at most, in seconds, though it isn't notified.
-const LONGEST_SLEEP_SECONDS: u64 = 1;
 
 /// Shared by the threads of a run: whose turns are dispatched, and a condition variable for each who may have to wait
 /// for something. Whoever waits counts how often it was notified, looks, and sleeps unless it was notified again
@@ -210,6 +204,8 @@ pub struct TurnSupply<D: SwapDev, T: Ledger, C: Ledger, O: Ledger, E: Ledger, B:
     schedule: Arc<Schedule, Global>,
     // How many turns all series that are out have together, while instances arrive.
     short: u32,
+    // How many turns each has at most, whether instances arrive or not.
+    longest: u32,
     // How many turns each has at most that is dispatched now.
     most: u32,
     // Turns of those that had none out, one of each.
@@ -231,6 +227,7 @@ impl<D: SwapDev + Drop, T: Ledger, C: Ledger, O: Ledger, E: Ledger, B: CellAgree
             cell: _,
             schedule: _,
             short: _,
+            longest: _,
             most: _,
             newcomers: _,
             queued: _,
@@ -249,7 +246,8 @@ impl<D: SwapDev + Drop, T: Ledger, C: Ledger, O: Ledger, E: Ledger, B: CellAgree
     E,
     B,
 > {
-    /// Returns a supply for `many` instances. While instances arrive all series that are out have about `short` turns together.
+    /// Returns a supply for `many` instances. A series has at most `longest` turns, or one if that is 0; while instances
+    /// arrive, all that are out have about `short` turns together.
     ///
     /// # Errors
     /// `AllocError` if an allocation fails.
@@ -259,6 +257,7 @@ impl<D: SwapDev + Drop, T: Ledger, C: Ledger, O: Ledger, E: Ledger, B: CellAgree
         schedule: Arc<Schedule, Global>,
         many: usize,
         short: u32,
+        longest: u32,
     ) -> Result<TurnSupply<D, T, C, O, E, B>, AllocError> {
         let newcomers = Vec::with_capacity(alloc, many)?;
         let queued = Vec::with_capacity(alloc, many)?;
@@ -266,7 +265,8 @@ impl<D: SwapDev + Drop, T: Ledger, C: Ledger, O: Ledger, E: Ledger, B: CellAgree
             cell,
             schedule,
             short,
-            most: u32::MAX,
+            longest: longest.max(1),
+            most: longest.max(1),
             newcomers,
             queued,
             dispatched: 0,
@@ -314,7 +314,7 @@ impl<D: SwapDev + Drop, T: Ledger, C: Ledger, O: Ledger, E: Ledger, B: CellAgree
         self.dispatched = 0;
         let mut run_queue = self.schedule.run_queue.lock(rt);
         run_queue.take_queued(&mut self.queued);
-        self.most = run_queue.most_turns(self.short);
+        self.most = run_queue.most_turns(self.short).min(self.longest);
         run_queue.needs_rescan
     }
 

@@ -7,7 +7,6 @@ ghost use Rattle.wh_scheduler.specs.InHand.{EachCanOffer, EachIs, Rests, RunsHer
 
 use crate::draining::{WorkHere, offer_some};
 use crate::here::{Outlook, outlook_of};
-use crate::jobs::TURNS_FOR_AN_OFFER;
 use crate::owned::OwnedHost;
 use std::sync::ledger::Ledger;
 use wh_cell::CellAgreements;
@@ -15,6 +14,7 @@ use wh_host::Host;
 use wh_kernels::PageHash;
 use wh_space_model::InstId;
 use wh_swap::SwapDev;
+use wh_workers::TURNS_FOR_AN_OFFER;
 
 // How many turns the owner runs at most for each page that it evicts.
 const MOST_TURNS_FOR_A_PAGE: u64 = 4096;

@@ -253,7 +253,7 @@ impl RoundRoom {
         let burst = Burst {
             quantum: u64::from(aim.quantum),
             further,
-            wanted: aim.wanted,
+            wanted: Some(aim.wanted),
         };
         let turns = worker.tally().turns;
         locked.turns_at_once(fork, runners, orders, burst, worker);

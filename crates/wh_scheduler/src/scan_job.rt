@@ -2,7 +2,7 @@
 
 ghost use Rattle.std.specs.Prelude.{◌≡◌, ◌<◌, ◌^◌};
 
-use crate::jobs::{Schedule, TURNS_FOR_AN_OFFER};
+use crate::jobs::Schedule;
 use std::alloc::{AllocError, Global};
 use std::sync::atomic::Ordering;
 use std::sync::ledger::Ledger;
@@ -13,6 +13,7 @@ use wh_kernels::PageHash;
 use wh_space_model::InstId;
 use wh_swap::SwapDev;
 use wh_threads::{Help, HelpOutcome, Helper};
+use wh_workers::TURNS_FOR_AN_OFFER;
 
 // How many pages are looked at, and offered, under one hold of the lock at most.
 const MOST_LOOKS: u64 = 64;

@@ -85,7 +85,14 @@ fn staff_of<
         cell: cell.share()?,
         schedule: Arc::try_clone(&schedule)?,
     };
-    let supply = TurnSupply::new(alloc, cell.share()?, schedule, ids.len(), u32::MAX)?;
+    let supply = TurnSupply::new(
+        alloc,
+        cell.share()?,
+        schedule,
+        ids.len(),
+        u32::MAX,
+        u32::MAX,
+    )?;
     let jobs = Jobs {
         turns,
         scans,

@@ -5,7 +5,7 @@ ghost use Rattle.std.specs.Thread.{IsSync};
 ghost use Rattle.wh_threads.specs.Working.{turns_due};
 
 use crate::at_once::AtOnce;
-use crate::jobs::{Schedule, TURNS_FOR_AN_OFFER};
+use crate::jobs::Schedule;
 use crate::round_room::{Aim, MOST_AT_ONCE};
 use crate::run_queue::Series;
 use std::alloc::{AllocError, Global};
@@ -18,6 +18,7 @@ use wh_cell::{CellAgreements, HostCell};
 use wh_host_model::TurnEnd;
 use wh_swap::SwapDev;
 use wh_threads::{ReceivedTurns, Turns, Worker};
+use wh_workers::TURNS_FOR_AN_OFFER;
 
 // For how many turns a worker receives turns while another one waits to do so.
 const MOST_TURNS_HELD: u64 = 1024;

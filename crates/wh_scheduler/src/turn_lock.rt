@@ -6,9 +6,7 @@ use std::hint;
 use std::sync::atomic::{AtomicU64, Ordering};
 use std::sync::{Condvar, Wait};
 use std::time::Duration;
-
-// How long a worker that waits sleeps at most, in seconds, though it isn't notified.
-const LONGEST_SLEEP_SECONDS: u64 = 1;
+use wh_threads::LONGEST_SLEEP_SECONDS;
 
 // How often a worker that has received a series looks whether others are still to be dispatched: who dispatches them
 // may have to be woken.

@@ -6,7 +6,7 @@ use Rattle.wh_script_model.specs.Settings.{Settings}
 use Rattle.wh_script_model.specs.ScriptState.{ScriptState}
 use Rattle.wh_commands.specs.declared.error.ParseError.{ParseError}
 use Rattle.wh_commands.specs.declared.error.ParseError.TheVariants.{Syntax, Memory}
-use Rattle.wh_commands.specs.declared.command.Command.{Command as Code}
+use Rattle.wh_commands.specs.declared.command.ParsedLine.{ParsedLine}
 use Rattle.wh_script.specs.Causes.{cause_number, line_error}
 use Rattle.wh_commands.specs.ParsedCommands.{FindsAsked}
 use Rattle.wh_script_laws.specs.Printed.{AllArePrinted, IsWellMade}
@@ -86,7 +86,7 @@ wants_memory files number line text text2 e e2 faults read complains settings m 
     (c.0 ++ error 5 number ∷ [], c.1, t.0, line_out_of_memory refl read (faults, c.2), met_then c.2, t.1, t.2, c.4)
 
 -- a line whose command isn't found
-pub isnt_found : {D : Type 0} (files : Files) (number : ℕ) (line text text2 : List ℕ) (e e2 : ScriptHostState D) (faults : List ℕ) (r : Result Code ParseError) (cause : ParseError) → r ≡ Err cause
+pub isnt_found : {D : Type 0} (files : Files) (number : ℕ) (line text text2 : List ℕ) (e e2 : ScriptHostState D) (faults : List ℕ) (r : Result ParsedLine ParseError) (cause : ParseError) → r ≡ Err cause
     → ((asked : Command) → AsksCommand line asked → FindsAsked r asked) → IsRead line
     → Complains (error (cause_number (line_error cause)) number) e text e2 text2 faults → Answers files number line e text e2 text2 faults
 isnt_found files number line text text2 e e2 faults r Syntax is only read complains =

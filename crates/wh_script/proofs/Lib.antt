@@ -6,7 +6,6 @@ pub mod Rows
 pub mod Blamed
 pub mod Drained
 pub mod DrainedLines
-pub mod Asked
 pub mod Within
 pub mod Answered
 pub mod OfHost

@@ -1,10 +1,13 @@
 -- What commands get behind a drain.
-use Rattle.std.proofs.Common.{◌≡◌, ◌∙◌, ℕ, true, List, [], ◌∷◌, ◌++◌, slice_get, Option, Some, None, MatchOption, OnOk, Result, Ok, Err, refl, sym, ap, subst}
+use Rattle.std.proofs.Common.{◌≡◌, ◌∙◌, ℕ, true, List, [], ◌∷◌, ◌++◌, slice_get, Option, Some, None, MatchOption, refl, sym, ap, subst}
 use Rattle.std.proofs.lemmas.Option.{same_Some}
 use Rattle.wh_host_model.specs.{Params}
 use Rattle.wh_script_model.specs.Settings.{Settings}
 use Rattle.wh_script_model.specs.{Command, load, admit, drain, scan, report, Reply, error, scan_ok, reply_text, NamedModule, HasModule, NoModule, LacksInstance, ReceivesInstance, Files, NamesModule, BringsBytes, IsForInstance, IsObeyed, module_name_is_taken, no_file, module_comes, no_such_module, instance_name_is_taken, instance_comes, no_such_instance, is_drained, is_scanned, is_reported}
 use Rattle.wh_script_model.specs.ScriptState.{ScriptState}
+use Rattle.wh_commands.specs.declared.command.CallAction.{CallAction}
+use Rattle.wh_commands.specs.declared.command.CallAction.TheVariants.{Refuel, Cancel, Retry}
+use Rattle.wh_commands.specs.ParsedCommands.{action_of}
 use Rattle.wh_host.specs.Reporting.{ReportState, ReportsHost}
 use Rattle.wh_replies.specs.ReportTexts.{report_text}
 use Rattle.wh_engine.specs.Draining.{StaysSo}
@@ -104,6 +107,12 @@ pub guest_isnt_there : {D : Type 0} (files : Files) (number : ℕ) (command : Co
 guest_isnt_there files number command inst e text text2 for none is =
     obeys_one files number command e e text text2 (error 2 number) is (λ settings m s. (m, no_such_instance for (none settings m s), s))
 
+-- what is asked of a present call is for that instance
+pub action_for : (inst : List ℕ) (action : CallAction) → IsForInstance (action_of inst action) inst
+action_for inst (Refuel fuel) = refl
+action_for inst Cancel = refl
+action_for inst Retry = refl
+
 pub guest_obeyed : {D : Type 0} (files : Files) (number : ℕ) (command : Command) (reply : Reply) (e e2 : ScriptHostState D) (text text2 : List ℕ)
     → ((settings : Settings) (m : ScriptState) → RepresentsScript settings e m → ObeysCommand settings files m number command reply e2)
     → text2 ≡ text ++ reply_text reply → Obeys files number command e text e2 text2
@@ -120,8 +129,3 @@ reported files number e text text2 shows reports is settings m s =
 
 pub only_drained : {D : Type 0} (files : Files) (number : ℕ) (e : ScriptHostState D) (text : List ℕ) → Obeys files number drain e text e text
 only_drained files number e text settings m s = ([], m, is_obeyed is_drained, adds_replies (adds_none text) (λ asked. absurd (cc asked)), s)
-
--- what holds anyhow holds where there is no error
-pub on_ok_own : {A E : Type 0} {Q : Type 0} (r : Result A E) → Q → OnOk r Q
-on_ok_own (Ok x) q = q
-on_ok_own (Err e) q = tt

@@ -1,7 +1,7 @@
 -- What a line gets, and for which script the engine stands then.
-use Rattle.std.specs.Prelude.{◌≡◌, ℕ, true, List, [], ◌∷◌, ◌++◌, Option, ⊤}
+use Rattle.std.specs.Prelude.{◌≡◌, ℕ, true, List, [], ◌∷◌, ◌++◌, Option}
 use Rattle.wh_script_model.specs.Settings.{Settings}
-use Rattle.wh_script_model.specs.Commands.{Command, invoke, report, AsksCommand}
+use Rattle.wh_script_model.specs.Commands.{Command, report, AsksCommand}
 use Rattle.wh_script_model.specs.Texts.{Reply, error, reply_text}
 use Rattle.wh_script_model.specs.ScriptState.{ScriptState}
 use Rattle.wh_script_model.specs.Answers.{Files, IsObeyed, IsRead, AnswersLine}
@@ -38,11 +38,6 @@ Complains reply e text e2 text2 faults =
     × ServesScript settings e2 m2
 
 -- ---- commands
-
--- it asks for no call
-abbrev pub IsNoInvoke : Command → Type 0
-IsNoInvoke (invoke inst export fuel args) = ⊥
-IsNoInvoke other = ⊤
 
 -- what a command gets after a drain: it is obeyed; or memory runs out for it
 pub data GetsReplies (settings : Settings) (files : Files) (m : ScriptState) (number : ℕ) (command : Command)

@@ -2,8 +2,7 @@
 
 ghost use Rattle.std.specs.Prelude.{◌≡◌, ◌⊎◌, ℕ, List, [], OnOk, IfErr, string_bytes};
 ghost use Rattle.wh_script_model.specs.Answers.{Files};
-ghost use Rattle.wh_script_model.specs.Commands as asked_of;
-ghost use Rattle.wh_commands.specs.ParsedCommands.{Says};
+ghost use Rattle.wh_commands.specs.ParsedCommands.{command_of, invoke_of};
 ghost use Rattle.wh_engine.specs.Draining.{DeviceHoldsAmid, DeviceMayFail, DeviceStaysTrue, StopsOnlyOpen};
 ghost use Rattle.wh_settings.specs.Hashing.{hashes_by};
 ghost use Rattle.wh_settings.specs.View.{hashing_of};
@@ -19,7 +18,7 @@ use std::sync::Wait;
 use std::sync::ledger::Ledger;
 use std::thread::Threads;
 use wh_cell::CellAgreements;
-use wh_commands::{Command, parse};
+use wh_commands::{Command, InvokeCommand, ParsedLine, parse};
 use wh_engine::RunFault;
 use wh_swap::SwapDev;
 
@@ -68,13 +67,14 @@ impl<
             Line::End | Line::Skipped => Ok(()),
             Line::TooLong => self.complain_drained(rt, LineError::Syntax, number),
             Line::Kept => match parse(self.alloc, held) {
-                Ok(command) => self.command(rt, source, command, number),
+                Ok(ParsedLine::Invoke(call)) => self.invoke(rt, &call, number),
+                Ok(ParsedLine::Command(command)) => self.command(rt, source, command, number),
                 Err(error) => self.complain_drained(rt, LineError::from(error), number),
             },
         }
     }
 
-    /// Appends the reply to a command. All but `invoke` drain first.
+    /// Drains, and appends the reply to a command.
     ///
     /// # Errors
     /// As `answer`.
@@ -92,9 +92,9 @@ impl<
             self.new.script_host.host.device }
         ensures answers { OnOk result (DeviceHoldsAmid D.honest D.faults
             self.old.script_host.host.device self.new.script_host.host.device
-            (λ met. (asked : asked_of.Command) → Says command.entry asked → AnswersCommand
-            (S.files source.now) number asked self.old.script_host (string_bytes self.old.text)
-            self.new.script_host (string_bytes self.new.text) met)) }
+            (AnswersCommand (S.files source.now) number (command_of command.entry)
+            self.old.script_host (string_bytes self.old.text) self.new.script_host
+            (string_bytes self.new.text))) }
         // After the drain, as `obey` has it.
         ensures scans { OnOk result (command.entry ≡ Command.Scan → HasOfferedThen
             (hashes_by (hashing_of self.old.config.hash)) self.new.script_host) }
@@ -102,31 +102,19 @@ impl<
             self.new.script_host (string_bytes self.new.text)) }
         ensures open { IfErr result (StopsOnlyOpen self.old.script_host) }
     {
-        match command {
-            Command::Invoke {
-                inst,
-                export,
-                fuel,
-                args,
-            } => self.invoke(rt, inst, export, fuel, &args, number),
-            command => {
-                self.drain(rt)?;
-                self.obey(&rt, source, command, number)
-            }
-        }
+        self.drain(rt)?;
+        self.obey(&rt, source, command, number)
     }
 
-    /// Requests a call of the instance `inst`. Where there is none of this name, or memory runs out, drains and says so.
+    /// Requests a call; its line is printed at the next drain. Where there is no instance of this name, or memory runs out,
+    /// drains and says so.
     ///
     /// # Errors
     /// As `answer`.
     fn invoke<X: Threads + Wait + Copy + Send + Sync + 'static>(
         &mut self,
         rt: X,
-        inst: &str,
-        export: &str,
-        fuel: u64,
-        args: &[i128],
+        call: &InvokeCommand<'_>,
         number: u64,
     ) -> Result<(), RunFault>
         ensures config { self.new.config ≡ self.old.config }
@@ -136,17 +124,17 @@ impl<
             self.new.script_host.host.device }
         ensures answers { OnOk result (DeviceHoldsAmid D.honest D.faults
             self.old.script_host.host.device self.new.script_host.host.device
-            (λ met. (files : Files) → AnswersCommand files number
-            (asked_of.invoke inst.now export.now fuel args.now) self.old.script_host
-            (string_bytes self.old.text) self.new.script_host (string_bytes self.new.text) met)) }
+            (λ met. (files : Files) → AnswersCommand files number (invoke_of call.now)
+            self.old.script_host (string_bytes self.old.text) self.new.script_host
+            (string_bytes self.new.text) met)) }
         ensures open { IfErr result (StopsOnlyOpen self.old.script_host) }
     {
-        let Some(instance) = self.script_host.instance_number(inst) else {
+        let Some(instance) = self.script_host.instance_number(call.inst) else {
             return self.complain_drained(rt, LineError::NoName, number);
         };
         let asked = self
             .script_host
-            .invoke(self.alloc, instance, export, fuel, args);
+            .invoke(self.alloc, instance, call.export, call.fuel, &call.args);
         if asked.is_err() {
             return self.complain_drained(rt, LineError::Memory, number);
         }

@@ -10,10 +10,8 @@ use crate::fault::ScriptFault;
 use memchr::memchr;
 use std::alloc::Global;
 use std::io::{ErrorKind, Read};
+use wh_commands::LONGEST_LINE;
 use wh_streams::WatchedRead;
-
-/// The greatest length of a line, in bytes without its newline.
-pub const LONGEST_LINE: usize = 2200000;
 
 const CHUNK: usize = 65536;
 

@@ -4,13 +4,15 @@ ghost use Rattle.std.specs.Prelude.{◌≡◌, ◌++◌, ℕ, List, None, OnOk, 
 ghost use Rattle.wh_script_model.specs.Answers.{BringsBytes, Files, NamesModule};
 ghost use Rattle.wh_script_model.specs.Commands as asked_of;
 ghost use Rattle.wh_script_model.specs.Texts.{release_ok, reply_text};
-ghost use Rattle.wh_commands.specs.ParsedCommands.{Says};
+ghost use Rattle.wh_commands.specs.ParsedCommands.{action_of, command_of};
 ghost use Rattle.wh_params.specs.View.{view_params};
+ghost use Rattle.wh_replies.specs.View.{reply_of};
 ghost use Rattle.wh_engine.specs.Draining.{StaysSo};
+ghost use Rattle.wh_engine.specs.Obeying.{reply_to_action};
 ghost use Rattle.wh_names.specs.NamePlaces.{place_of_name};
 ghost use Rattle.wh_settings.specs.Hashing.{hashes_by};
 ghost use Rattle.wh_settings.specs.View.{hashing_of};
-ghost use Rattle.wh_script.specs.Answering.{AddsReport, HasOffered, IsNoInvoke, Obeys};
+ghost use Rattle.wh_script.specs.Answering.{AddsReport, HasOffered, Obeys};
 
 use crate::files::{FileError, Source};
 use crate::line_error::LineError;
@@ -19,8 +21,9 @@ use std::sync::Wait;
 use std::sync::ledger::Ledger;
 use std::thread::Threads;
 use wh_cell::CellAgreements;
-use wh_commands::Command;
+use wh_commands::{CallAction, Command};
 use wh_engine::RunFault;
+use wh_host::HostError;
 use wh_params::Params;
 use wh_replies::{Reply, write_released, write_report};
 use wh_swap::SwapDev;
@@ -33,7 +36,7 @@ impl<
     E: Ledger + Send + 'static,
     B: CellAgreements + Send + 'static,
 > Session<D, T, C, O, E, B> {
-    /// Appends the reply to a command. A call is requested without: its line is printed at the next drain.
+    /// Appends the reply to a command.
     ///
     /// # Errors
     /// `Memory` where room for the reply is refused.
@@ -44,9 +47,9 @@ impl<
         command: Command<'_>,
         number: u64,
     ) -> Result<(), RunFault>
-        ensures obeys { OnOk result ((asked : asked_of.Command) → Says command.entry asked
-            → IsNoInvoke asked → Obeys (S.files source.now) number asked self.old.script_host
-            (string_bytes self.old.text) self.new.script_host (string_bytes self.new.text)) }
+        ensures obeys { OnOk result (Obeys (S.files source.now) number (command_of command.entry)
+            self.old.script_host (string_bytes self.old.text) self.new.script_host
+            (string_bytes self.new.text)) }
         // A scan offers all pages of the host under the hash of the settings, and a report is that of the host.
         ensures scans { OnOk result (command.entry ≡ Command.Scan → HasOffered
             (hashes_by (hashing_of self.old.config.hash)) self.old.script_host
@@ -65,16 +68,8 @@ impl<
                 module,
                 given,
             } => self.admit(inst, module, given, number),
-            Command::Invoke {
-                inst,
-                export,
-                fuel,
-                args,
-            } => self.request(inst, export, fuel, &args, number),
             Command::Drain => Ok(()),
-            Command::Refuel { inst, fuel } => self.refuel(inst, fuel, number),
-            Command::Cancel { inst } => self.cancel(inst, number),
-            Command::Retry { inst } => self.retry(inst, number),
+            Command::Act { inst, action } => self.act(inst, action, number),
             Command::Scan => self.scan(rt),
             Command::Report => self.report(),
             Command::Release { inst } => self.release(inst, number),
@@ -94,31 +89,6 @@ impl<
             return self.complain(LineError::NameTaken, number);
         }
         self.keep(name, bytes, number)
-    }
-
-    /// `invoke INST EXPORT FUEL [ARG ..]`.
-    fn request(
-        &mut self,
-        inst: &str,
-        export: &str,
-        fuel: u64,
-        args: &[i128],
-        number: u64,
-    ) -> Result<(), RunFault>
-        ensures config { self.new.config ≡ self.old.config }
-        ensures device { self.new.script_host.host.device ≡ self.old.script_host.host.device }
-        ensures err { IfErr result (λ e. e ≡ RunFault.Memory) }
-    {
-        let Some(instance) = self.script_host.instance_number(inst) else {
-            return self.complain(LineError::NoName, number);
-        };
-        let asked = self
-            .script_host
-            .invoke(self.alloc, instance, export, fuel, args);
-        if asked.is_err() {
-            return self.complain(LineError::Memory, number);
-        }
-        Ok(())
     }
 
     /// `load NAME PATH`.
@@ -184,10 +154,10 @@ impl<
         }
     }
 
-    /// `refuel INST N`.
-    fn refuel(&mut self, inst: &str, fuel: u64, number: u64) -> Result<(), RunFault>
+    /// `refuel INST N`, `cancel INST` and `retry INST`.
+    fn act(&mut self, inst: &str, action: CallAction, number: u64) -> Result<(), RunFault>
         ensures obeys { OnOk result ((files : Files) → Obeys files number
-            (asked_of.refuel inst.now fuel) self.old.script_host (string_bytes self.old.text)
+            (action_of inst.now action) self.old.script_host (string_bytes self.old.text)
             self.new.script_host (string_bytes self.new.text)) }
         ensures config { self.new.config ≡ self.old.config }
         ensures device { self.new.script_host.host.device ≡ self.old.script_host.host.device }
@@ -196,40 +166,8 @@ impl<
         let Some(instance) = self.script_host.instance_number(inst) else {
             return self.complain(LineError::NoName, number);
         };
-        let reply = self.script_host.refuel(instance, inst, fuel);
-        self.reply(reply)
-    }
-
-    /// `cancel INST`.
-    fn cancel(&mut self, inst: &str, number: u64) -> Result<(), RunFault>
-        ensures obeys { OnOk result ((files : Files) → Obeys files number (asked_of.cancel inst.now)
-            self.old.script_host (string_bytes self.old.text) self.new.script_host
-            (string_bytes self.new.text)) }
-        ensures config { self.new.config ≡ self.old.config }
-        ensures device { self.new.script_host.host.device ≡ self.old.script_host.host.device }
-        ensures err { IfErr result (λ e. e ≡ RunFault.Memory) }
-    {
-        let Some(instance) = self.script_host.instance_number(inst) else {
-            return self.complain(LineError::NoName, number);
-        };
-        let reply = self.script_host.cancel(instance, inst);
-        self.reply(reply)
-    }
-
-    /// `retry INST`.
-    fn retry(&mut self, inst: &str, number: u64) -> Result<(), RunFault>
-        ensures obeys { OnOk result ((files : Files) → Obeys files number (asked_of.retry inst.now)
-            self.old.script_host (string_bytes self.old.text) self.new.script_host
-            (string_bytes self.new.text)) }
-        ensures config { self.new.config ≡ self.old.config }
-        ensures device { self.new.script_host.host.device ≡ self.old.script_host.host.device }
-        ensures err { IfErr result (λ e. e ≡ RunFault.Memory) }
-    {
-        let Some(instance) = self.script_host.instance_number(inst) else {
-            return self.complain(LineError::NoName, number);
-        };
-        let reply = self.script_host.retry(instance, inst);
-        self.reply(reply)
+        let answer = self.script_host.ask(instance, action);
+        self.reply(reply_to(inst, action, answer))
     }
 
     /// `scan`.
@@ -310,5 +248,26 @@ impl<
         ensures err { IfErr result (λ e. e ≡ RunFault.Memory) }
     {
         write_released(self.alloc, &mut self.text, inst, output).map_err(|_| RunFault::Memory)
+    }
+}
+
+// The reply to what was asked of the present call of `inst`.
+fn reply_to<'a>(inst: &'a str, action: CallAction, answer: Result<(), HostError>) -> Reply<'a>
+    ensures { reply_of result ≡ reply_to_action inst.now action answer }
+{
+    match answer {
+        Ok(()) => match action {
+            CallAction::Refuel { .. } => Reply::RefuelOk { inst },
+            CallAction::Cancel => Reply::CancelOk { inst },
+            CallAction::Retry => Reply::RetryOk { inst },
+        },
+        Err(error) => {
+            let fault = error.number();
+            match action {
+                CallAction::Refuel { .. } => Reply::RefuelRefused { inst, fault },
+                CallAction::Cancel => Reply::CancelRefused { inst, fault },
+                CallAction::Retry => Reply::RetryRefused { inst, fault },
+            }
+        }
     }
 }

@@ -68,9 +68,13 @@ impl Memory {
         Got::Value
     }
 
-    // Writes bytes as `store` does, and looks at all that may be in the way.
+    /// Writes bytes to the memory of the instance at this place, from this one on. Their pages get frames of their own
+    /// (copy-on-write), and are marked as touched.
+    ///
+    /// Returns `Trap` if they aren't all in its memory, and `NotReady` if a page of them is in a slot or on the way
+    /// from one, or no frame is free for it. Then nothing is done. Allocates nothing.
     #[inline(never)]
-    fn store_slowly(&mut self, place: usize, at: u64, given: &[u8]) -> Got
+    pub fn store(&mut self, place: usize, at: u64, given: &[u8]) -> Got
         requires few { length given.now ≤ 4096 }
         ensures stores { Stores (Ready self.old place) (view self.old place)
             at given.now result (view self.new place) }
@@ -98,24 +102,6 @@ impl Memory {
                 writes: true,
             })
         }
-    }
-
-    /// Writes bytes to the memory of the instance at this place, from this one on. Their pages get frames of their own
-    /// (copy-on-write), and are marked as touched.
-    ///
-    /// Returns `Trap` if they aren't all in its memory, and `NotReady` if a page of them is in a slot or on the way
-    /// from one, or no frame is free for it. Then nothing is done. Allocates nothing.
-    #[inline(always)]
-    pub fn store(&mut self, place: usize, at: u64, given: &[u8]) -> Got
-        requires few { length given.now ≤ 4096 }
-        ensures stores { Stores (Ready self.old place) (view self.old place)
-            at given.now result (view self.new place) }
-        ensures leaves { LeavesStore self.old place at given.now result self.new }
-    {
-        if self.quick_store(place, at, given) {
-            return Got::Value;
-        }
-        self.store_slowly(place, at, given)
     }
 
     /// Writes bytes as `store` does, where they go to one page that has a frame of its own and was touched in this epoch. Where

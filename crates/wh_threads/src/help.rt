@@ -15,8 +15,8 @@ use std::thread;
 use std::thread::{Promise, PromisedHandle, Threads};
 use std::time::Duration;
 
-// How long a helper that waits sleeps at most, in seconds, though it isn't notified.
-const LONGEST_SLEEP_SECONDS: u64 = 1;
+/// How long who waits to be notified sleeps at most, in seconds, before it looks by itself.
+pub const LONGEST_SLEEP_SECONDS: u64 = 1;
 
 /// What came of what a scanner or a reclaimer was to do.
 #[derive(Clone, Copy, Debug, PartialEq, Eq)]

@@ -32,7 +32,7 @@ pub use channel::{
 };
 pub use count::Count;
 pub use gate::{Gate, Sign, SignReceiver, SignSender, SignSlip};
-pub use help::{Help, HelpOutcome, Helped, Helps, start_helper};
+pub use help::{Help, HelpOutcome, Helped, Helps, LONGEST_SLEEP_SECONDS, start_helper};
 pub use helper::Helper;
 pub use known::AgreedValue;
 pub use lender::ThreadCounts;

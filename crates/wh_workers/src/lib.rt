@@ -10,5 +10,5 @@ mod sweeping;
 
 pub use crew::{ServeError, Served};
 pub use feed::{Next, Supply};
-pub use serving::{Jobs, WorkerSetup, serve, serve_on};
+pub use serving::{Jobs, TURNS_FOR_AN_OFFER, WorkerSetup, serve, serve_on};
 pub use sweeping::serve_sweep;

@@ -20,8 +20,8 @@ use wh_threads::{Help, MessagePass, Shares, ThreadCounts, Turns, left_over, open
 // How many messages the channel holds: room for all last signs.
 const CAPACITY: usize = 128;
 
-// For how many turns a page is to be offered.
-const TURNS_FOR_AN_OFFER: u64 = 64;
+/// For how many turns a page is to be offered.
+pub const TURNS_FOR_AN_OFFER: u64 = 64;
 
 /// Who runs the turns of a call of `serve`.
 #[derive(Clone, Copy, Debug, PartialEq, Eq)]

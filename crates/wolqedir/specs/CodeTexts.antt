@@ -5,7 +5,7 @@ use Rattle.wolqedir.specs.Rooms.{laid_in}
 
 -- how many numbers a family has, the first of which is 1
 abbrev pub most_number : ℕ → ℕ
-most_number family = get_or (0 ∷ 13 ∷ 11 ∷ 3 ∷ 2 ∷ 9 ∷ 8 ∷ 10 ∷ 3 ∷ []) family 0
+most_number family = get_or (0 ∷ 13 ∷ 11 ∷ 3 ∷ 2 ∷ 9 ∷ 8 ∷ 10 ∷ 3 ∷ 4 ∷ []) family 0
 
 -- it is one of the library's own, or a family with one of its numbers
 abbrev pub IsLibraryCode : ℕ → Type 0

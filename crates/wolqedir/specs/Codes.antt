@@ -1,5 +1,5 @@
 -- The codes that C gets: 0 where it was done; else a number of the library's own, or 256 times a family and the number that
--- scripts show after the family's letter: D 1, V 2, L 3, M 4, A 5, H 6, T 7, S 8.
+-- scripts show after the family's letter: D 1, V 2, L 3, M 4, A 5, H 6, T 7, S 8; F 9, which no script shows.
 use Rattle.std.specs.Prelude.{ℕ, ◌+◌, Result, Ok, Err}
 use Rattle.wh_model.specs.declared.Trap.{Trap}
 use Rattle.wh_model.specs.Format.Numbering.{fault_number, valid_number, import_number, trap_number}
@@ -9,8 +9,12 @@ use Rattle.wh_imports.specs.declared.error.LinkError.{LinkError}
 use Rattle.wh_imports.specs.declared.error.LinkError.TheVariants as links
 use Rattle.wh_load.specs.declared.error.LoadError.TheVariants.{Decode, Valid, Link}
 use Rattle.wh_admit.specs.declared.error.AdmitError.{AdmitError}
+use Rattle.wh_admit.specs.declared.error.AdmitError.TheVariants as admits
+use Rattle.wh_admit.specs.declared.fork_error.ForkError.{ForkError}
+use Rattle.wh_admit.specs.declared.fork_error.ForkError.TheVariants as forks
 use Rattle.wh_admit.specs.AdmitErrors.{admit_number}
 use Rattle.wh_host.specs.declared.error.HostError.{HostError}
+use Rattle.wh_host.specs.declared.error.HostError.TheVariants as asks
 use Rattle.wh_host.specs.CallRequests.{host_number}
 use Rattle.wh_host.specs.declared.error.ModuleError.{ModuleError}
 use Rattle.wh_host.specs.declared.error.ModuleError.TheVariants.{Bytes, ModulesFull, Memory}
@@ -58,6 +62,17 @@ admit_error_code e = 1280 + admit_number e
 -- why a host doesn't do what is asked of it
 abbrev pub host_error_code : HostError → ℕ
 host_error_code e = 1536 + host_number e
+
+-- Why an instance isn't copied: as where something else is asked of one that isn't there; as where one with the quota isn't
+-- admitted, memory that is refused among it; or by a number of its own family.
+abbrev pub fork_error_code : ForkError → ℕ
+fork_error_code forks.NoInstance = host_error_code asks.NoInstance
+fork_error_code forks.CallOpen = 2305
+fork_error_code forks.StartFailed = 2306
+fork_error_code (forks.NotAdmitted e) = admit_error_code e
+fork_error_code forks.OtherLimit = 2307
+fork_error_code forks.PageAway = 2308
+fork_error_code forks.Memory = admit_error_code admits.Memory
 
 -- why a call has trapped
 abbrev pub trap_code : Trap → ℕ

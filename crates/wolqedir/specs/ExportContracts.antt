@@ -2,13 +2,15 @@
 use Rattle.std.specs.Prelude.{◌≡◌, ◌≢◌, ◌⊎◌, ℕ, ℤ, List, length, map, option_map, Option, Some, None, Result, Ok, Err, IfOk, IfErr, OnOk, OnErr, IfSome, IfNone, IsSome, IsUtf8, ◌+◌}
 use Rattle.wh_space_model.specs.declared.plain.InstId.{InstId}
 use Rattle.wh_space_model.specs.Hash.{fnv64}
-use Rattle.wh_host_model.specs.Owners.{Params}
+use Rattle.wh_host_model.specs.Owners.{Params, Quota}
 use Rattle.wh_host_model.specs.Host.Worlds.{World, promised}
 use Rattle.wh_host_model.specs.Host.Happens.{CallAnswer}
+use Rattle.wh_space_model.specs.Forks.{Copies}
 use Rattle.wh_space_model.specs.Places.{Enters, Exits}
 use Rattle.wh_space_model.specs.Scanning.{IsDistinct}
 use Rattle.wh_space_model.specs.Stores.{Epochs}
 use Rattle.wh_admit.specs.declared.error.AdmitError.{AdmitError}
+use Rattle.wh_admit.specs.declared.fork_error.ForkError.{ForkError}
 use Rattle.wh_instance.specs.declared.stages.CallStatus.{CallStatus}
 use Rattle.wh_reclaim.specs.Whole.{IsAsWhole}
 use Rattle.wh_scan.specs.Pass.{HasSoManyPages, MayPass, PassesOverAll, ScansAll}
@@ -19,6 +21,7 @@ use Rattle.wh_host.specs.declared.parts.ModuleId.{ModuleId}
 use Rattle.wh_host.specs.Admitting.{AnswersAdmit}
 use Rattle.wh_host.specs.CallRequests.{AnswersCall, AnswersInvoke}
 use Rattle.wh_host.specs.Backing.{KeepsBacking}
+use Rattle.wh_host.specs.ForkAnswers.{AnswersFork, claim_by}
 use Rattle.wh_host.specs.Loading.{AnswersLoad}
 use Rattle.wh_host.specs.Paging.{MovesOnly}
 use Rattle.wh_host.specs.Reporting.{ReportState, ReportsHost}
@@ -33,7 +36,7 @@ use Rattle.wolqedir.specs.declared.shapes.Progress.{Progress}
 use Rattle.wolqedir.specs.declared.shapes.RawStatus.{RawStatus}
 use Rattle.wolqedir.specs.declared.shapes.RawReport.{RawReport}
 use Rattle.wolqedir.specs.declared.shapes.RawInstanceReport.{RawInstanceReport}
-use Rattle.wolqedir.specs.Codes.{admit_error_code, code_by, host_error_code, large_code, memory_code, module_error_code, name_code, none_code, unknown_code}
+use Rattle.wolqedir.specs.Codes.{admit_error_code, code_by, fork_error_code, host_error_code, large_code, memory_code, module_error_code, name_code, none_code, unknown_code}
 use Rattle.wolqedir.specs.Rooms.{laid_in}
 use Rattle.wolqedir.specs.Shapes.{instance_of, progress_as, raw_report_of, raw_row_of, shown_status}
 
@@ -87,6 +90,16 @@ pub record ExportAdmits (of : ℕ) (p : Params) (instance instance2 : RawInstanc
   pub err : OnErr answer (h2 ≡ h)
   pub backing : KeepsBacking h.host.space h2.host.space
   pub memory : IfOk answer (λ id. (size : ℕ) × Enters h.host.space id.place (promised id.number p) size h2.host.space)
+  pub output : h2.output ≡ h.output
+  pub told : TellsCaller instance_of answer instance instance2
+
+pub record ExportForks (id : InstId) (q : Quota) (instance instance2 : RawInstance) (code : ℕ) (h h2 : HandState) : Type 0 where
+  pub answer : Result InstId ForkError
+  pub answered : code ≡ code_by fork_error_code answer
+  pub forks : AnswersFork h.host id q answer h2.host
+  pub err : OnErr answer (h2 ≡ h)
+  pub backing : KeepsBacking h.host.space h2.host.space
+  pub memory : IfOk answer (λ copy. Copies h.host.space id.place copy.place (claim_by copy.number q) h2.host.space)
   pub output : h2.output ≡ h.output
   pub told : TellsCaller instance_of answer instance instance2
 

@@ -13,6 +13,7 @@ use Rattle.wh_host.specs.Reporting.{ReportRow, ReportState}
 use Rattle.wh_hand.specs.declared.running.Ran.{Ran}
 use Rattle.wolqedir.specs.declared.shapes.RawInstance.{RawInstance}
 use Rattle.wolqedir.specs.declared.shapes.RawParams.{RawParams}
+use Rattle.wolqedir.specs.declared.shapes.RawQuota.{RawQuota}
 use Rattle.wolqedir.specs.declared.shapes.Progress.{Progress}
 use Rattle.wolqedir.specs.declared.shapes.RawStatus.{RawStatus}
 use Rattle.wolqedir.specs.declared.shapes.RawReport.{RawReport}
@@ -37,6 +38,10 @@ given_by p inputs = record {
   salt = p.salt;
   inputs = inputs;
 }
+
+-- how much of a host's memory a copy may have
+abbrev pub quota_by : RawQuota → owners.Quota
+quota_by q = record { shares = q.shares; min = q.min; max = q.max }
 
 -- the outcome of a run
 abbrev pub flag : Bool → ℕ

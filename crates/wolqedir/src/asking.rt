@@ -11,7 +11,7 @@ use crate::handle::Handle;
 use crate::shapes::{RawInstance, named};
 use std::alloc::{AllocError, Global};
 use std::str;
-use wh_hand::HostError;
+use wh_hand::{Cancel, HostError, Invoke, Refuel, Retry};
 
 // The code of what was answered.
 fn code_of(answer: Result<(), HostError>) -> u32
@@ -93,7 +93,13 @@ pub extern "C" fn wq_invoke(
     let Some(mut hand) = handle.take(alloc) else {
         return NONE;
     };
-    let answer = hand.invoke(alloc, named(instance), name, &args, fuel);
+    let answer = hand.ask(Invoke {
+        alloc,
+        id: named(instance),
+        name,
+        given: &args,
+        fuel,
+    });
     handle.put(hand);
     tell_place(answer, call)
 }
@@ -116,7 +122,8 @@ pub extern "C" fn wq_refuel(
     let Some(mut hand) = handle.take(alloc) else {
         return NONE;
     };
-    let answer = hand.refuel(named(instance), fuel);
+    let id = named(instance);
+    let answer = hand.ask(Refuel { id, fuel });
     handle.put(hand);
     code_of(answer)
 }
@@ -134,7 +141,8 @@ pub extern "C" fn wq_retry(alloc: Global, handle: &mut Handle, instance: &RawIns
     let Some(mut hand) = handle.take(alloc) else {
         return NONE;
     };
-    let answer = hand.retry(named(instance));
+    let id = named(instance);
+    let answer = hand.ask(Retry { id });
     handle.put(hand);
     code_of(answer)
 }
@@ -152,7 +160,8 @@ pub extern "C" fn wq_cancel(alloc: Global, handle: &mut Handle, instance: &RawIn
     let Some(mut hand) = handle.take(alloc) else {
         return NONE;
     };
-    let answer = hand.cancel(named(instance));
+    let id = named(instance);
+    let answer = hand.ask(Cancel { id });
     handle.put(hand);
     code_of(answer)
 }

@@ -2,9 +2,9 @@
 //! steps of 256 and the number that scripts show after the family's letter.
 
 ghost use Rattle.std.specs.Prelude.{◌≡◌};
-ghost use Rattle.wolqedir.specs.Codes.{admit_error_code, host_error_code, link_error_code, module_error_code, swap_code, trap_code};
+ghost use Rattle.wolqedir.specs.Codes.{admit_error_code, fork_error_code, host_error_code, link_error_code, module_error_code, swap_code, trap_code};
 
-use wh_hand::{AdmitError, HostError, ModuleError};
+use wh_hand::{AdmitError, ForkError, HostError, ModuleError};
 use wh_imports::LinkError;
 use wh_load::LoadError;
 use wh_model::Trap;
@@ -62,6 +62,22 @@ pub fn of_host(error: HostError) -> u32
     ensures { result ≡ host_error_code error }
 {
     0x600 + u32::from(error.number())
+}
+
+/// Returns the code for why an instance isn't copied: that of F and the number of its fault; that of H for an instance that
+/// isn't there; that of A for a quota with which none is admitted, and for memory that is refused.
+pub fn of_fork(error: ForkError) -> u32
+    ensures { result ≡ fork_error_code error }
+{
+    match error {
+        ForkError::NoInstance => of_host(HostError::NoInstance),
+        ForkError::CallOpen => 0x901,
+        ForkError::StartFailed => 0x902,
+        ForkError::NotAdmitted(error) => of_admit(error),
+        ForkError::OtherLimit => 0x903,
+        ForkError::PageAway => 0x904,
+        ForkError::Memory => of_admit(AdmitError::Memory),
+    }
 }
 
 /// Returns the code for why a call has trapped: that of T and its number.

@@ -1,16 +1,16 @@
 //! How modules and instances come to a host.
 
 ghost use Rattle.std.specs.Prelude.{◌≡◌, IfOk, OnErr, Result};
-ghost use Rattle.wh_params.specs.View.{view_params};
-ghost use Rattle.wolqedir.specs.Codes.{code_by, admit_error_code, module_error_code};
-ghost use Rattle.wolqedir.specs.ExportContracts.{ExportAdmits, ExportLoads, ServesHandle, ServesWithRoom, TellsCaller};
-ghost use Rattle.wolqedir.specs.Shapes.{given_by, instance_of};
+ghost use Rattle.wh_params.specs.View.{view_params, view_quota};
+ghost use Rattle.wolqedir.specs.Codes.{code_by, admit_error_code, fork_error_code, module_error_code};
+ghost use Rattle.wolqedir.specs.ExportContracts.{ExportAdmits, ExportForks, ExportLoads, ServesHandle, ServesWithRoom, TellsCaller};
+ghost use Rattle.wolqedir.specs.Shapes.{given_by, id_of, instance_of, quota_by};
 
-use crate::codes::{DONE, MEMORY, NONE, of_admit, of_module};
+use crate::codes::{DONE, MEMORY, NONE, of_admit, of_fork, of_module};
 use crate::handle::Handle;
-use crate::shapes::{RawInstance, RawParams, name_of};
+use crate::shapes::{RawInstance, RawParams, RawQuota, name_of, named};
 use std::alloc::{AllocError, Global};
-use wh_hand::{AdmitError, InstId, ModuleError, ModuleId};
+use wh_hand::{AdmitError, ForkError, InstId, ModuleError, ModuleId, Quota};
 
 // What its owner gives an instance, with a copy of these words as its input.
 fn given(alloc: Global, params: &RawParams, inputs: &[u64]) -> Result<wh_hand::Params, AllocError>
@@ -53,6 +53,31 @@ fn tell_instance(answer: Result<InstId, AdmitError>, instance: &mut RawInstance)
             DONE
         }
         Err(error) => of_admit(error),
+    }
+}
+
+// Tells the name of a copy that was made, or says why none was.
+fn tell_copy(answer: Result<InstId, ForkError>, instance: &mut RawInstance) -> u32
+    ensures code { result ≡ code_by fork_error_code answer }
+    ensures told { TellsCaller instance_of answer instance.old instance.new }
+{
+    match answer {
+        Ok(id) => {
+            *instance = name_of(id);
+            DONE
+        }
+        Err(error) => of_fork(error),
+    }
+}
+
+// Converts a quota from C.
+fn quota_of(quota: &RawQuota) -> Quota
+    ensures { view_quota result ≡ quota_by quota.now }
+{
+    Quota {
+        shares: quota.shares,
+        min_frames: quota.min,
+        max_frames: quota.max,
     }
 }
 
@@ -104,4 +129,31 @@ pub extern "C" fn wq_admit(
     let answer = hand.admit(alloc, ModuleId { number: of }, params);
     handle.put(hand);
     tell_instance(answer, instance)
+}
+
+/// Copies an instance without an open call: the copy begins as the instance is, with its memory, globals, table, output and
+/// ended calls, and has this quota. No frame is taken, and no byte copied.
+///
+/// It answers NONE; H1 where no such instance is there; F1 where a call of it is open; F2 where its start has failed; A2 to A7
+/// where an instance with this quota isn't admitted; F3 where the memory of the copy could not grow just as far, or has more
+/// pages than the quota's `max`; F4 where a page of it is in swap or on its way; the first of them that holds. Where none does:
+/// A9 where room is refused, where frames and slots are 2^32 together or more, or where 2^64 - 1 instances were admitted.
+#[unsafe(no_mangle)]
+pub extern "C" fn wq_fork(
+    alloc: Global,
+    handle: &mut Handle,
+    of: &RawInstance,
+    quota: &RawQuota,
+    instance: &mut RawInstance,
+) -> u32
+    ensures { ServesHandle handle.old.slot.held
+        (ExportForks (id_of of.now) (quota_by quota.now) instance.old instance.new result) result
+        handle.new.slot.held (instance.new ≡ instance.old) }
+{
+    let Some(mut hand) = handle.take(alloc) else {
+        return NONE;
+    };
+    let answer = hand.fork(alloc, named(of), quota_of(quota));
+    handle.put(hand);
+    tell_copy(answer, instance)
 }

@@ -37,6 +37,18 @@ pub struct RawParams {
     pub base: u32,
 }
 
+/// How much of the host's memory a copy may have.
+#[repr(C)]
+#[derive(Drop)]
+pub struct RawQuota {
+    /// Its shares of memory, 1 to 1000000.
+    pub shares: u64,
+    /// How many frames of 4096 bytes it may keep in any case; 2 to `max`.
+    pub min: u64,
+    /// To how many frames of 4096 bytes its memory may come, up to 65536.
+    pub max: u64,
+}
+
 /// The outcome of a run.
 #[repr(C)]
 #[derive(Drop)]

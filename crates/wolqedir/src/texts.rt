@@ -103,6 +103,14 @@ const SWAP: [&str; 3] = [
     "other bytes were read than were written",
 ];
 
+// Why an instance isn't copied: F1 to F4.
+const FORK: [&str; 4] = [
+    "a call of it is open",
+    "its start has failed",
+    "the copy's memory could not grow just as far, or has more pages than MAX",
+    "a page of it is in swap, or on its way",
+];
+
 // The sentences of a family, by its number.
 fn sentences(family: u32) -> &'static [&'static str]
     ensures { length result.now ≡ most_number family }
@@ -116,6 +124,7 @@ fn sentences(family: u32) -> &'static [&'static str]
         6 => &ASK,
         7 => &TRAP,
         8 => &SWAP,
+        9 => &FORK,
         _ => &[],
     }
 }

@@ -1,6 +1,4 @@
 use Rattle.std.proofs.Common.{refl}
-use Rattle.wh_script_model.specs.{admit}
-use Rattle.wh_params.specs.View.{view_params}
 use Rattle.wh_commands.proofs.Asking.{one_more}
 use Rattle.wh_commands.proofs.reading.admit.Goals as goal
 
@@ -8,9 +6,5 @@ pub returns-clause-ok : goal.returns-clause-ok
 returns-clause-ok c =
     let inst = c.in_ok-inst.ensures.ok in
     let of = c.in_ok-module.ensures.ok in
-    let are = c.in_ok-given.ensures.ok in (
-      admit c.in_ok-inst.inst.now c.in_ok-module.module.now (view_params c.in_ok-given.given),
-      refl,
-      (_, one_more _ _ _ _ inst.0 of.0, inst.1, of.1, are),
-      (refl, refl, refl),
-    )
+    let are = c.in_ok-given.ensures.ok in
+    (refl, (_, one_more _ _ _ _ inst.0 of.0, inst.1, of.1, are))

@@ -1,5 +1,4 @@
 use Rattle.std.proofs.Common.{refl}
-use Rattle.wh_script_model.specs.{load}
 use Rattle.wh_commands.proofs.Asking.{two}
 use Rattle.wh_commands.proofs.reading.load.Goals as goal
 
@@ -7,4 +6,4 @@ pub returns-clause-ok : goal.returns-clause-ok
 returns-clause-ok c =
     let name = c.in_ok-name.ensures.ok in
     let path = c.in_ok-path.ensures.ok in
-    (load c.in_ok-name.name.now c.in_ok-path.path.now, refl, (two _ _ _ _ _ name.0 path.0 c.in_ok-end.ensures.ok, name.1, path.1), (refl, refl))
+    (refl, (two _ _ _ _ _ name.0 path.0 c.in_ok-end.ensures.ok, name.1, path.1))

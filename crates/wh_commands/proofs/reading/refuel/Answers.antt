@@ -1,5 +1,4 @@
 use Rattle.std.proofs.Common.{refl}
-use Rattle.wh_script_model.specs.{refuel}
 use Rattle.wh_commands.proofs.Asking.{two}
 use Rattle.wh_commands.proofs.reading.refuel.Goals as goal
 
@@ -7,4 +6,4 @@ pub returns-clause-ok : goal.returns-clause-ok
 returns-clause-ok c =
     let name = c.in_ok-inst.ensures.ok in
     let fuel = c.in_ok-fuel.ensures.ok in
-    (refuel c.in_ok-inst.inst.now c.in_ok-fuel.fuel, refl, (fuel.0, two _ _ _ _ _ name.0 fuel.1 c.in_ok-end.ensures.ok, name.1, fuel.2), (refl, refl))
+    (refl, (fuel.0, two _ _ _ _ _ name.0 fuel.1 c.in_ok-end.ensures.ok, name.1, fuel.2))

@@ -7,8 +7,7 @@ pub returns : goal.returns
 returns c =
     elim c.match-parse.branch [
       | in-Ok w ↦
-          let found = w.in-Ok.ensures.found in
-          rw w.result-is (found.0, found.1)
+          rw w.result-is (_, w.in-Ok.ensures.found)
       | in-Err-Syntax w ↦
           rw w.result-is (asks_none c.args.line.now _ w.in-Err-Syntax.field-0-is w.in-Err-Syntax.ensures.only)
       | in-Err-Memory w ↦ search rules

@@ -1,4 +1,4 @@
-use Rattle.std.proofs.Common.{◌∙◌, rules}
+use Rattle.std.proofs.Common.{rules}
 use Rattle.std.proofs.lemmas.Int.{to_z-of_z}
 use Rattle.wh_instance.proofs.Given.{word_pushed, words_done}
 use Rattle.wh_instance.proofs.numbers.words_for.Goals as goal

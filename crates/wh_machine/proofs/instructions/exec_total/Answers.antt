@@ -5,7 +5,7 @@ use Rattle.wh_control.specs.Next.{Next}
 use Rattle.wh_control.proofs.Constructs.{at_now}
 use Rattle.wh_control.specs.Parts.{funcs_in}
 use Rattle.wh_machine.specs.Executing.{calls_of}
-use Rattle.wh_machine.proofs.ExecutingLemmas.{here, place_fits, charged_words}
+use Rattle.wh_machine.proofs.ExecutingLemmas.{here, charged_words}
 use Rattle.wh_syntax.specs.declared.instr.Instr.TheVariants.{Binary}
 use Rattle.wh_model.specs.Format.{binary as binary_op}
 use Rattle.wh_machine.proofs.Straight.{binary_needs, binary_next}
@@ -19,13 +19,13 @@ binary-requires c =
     let o = binary_needs n c.args.width c.args.op (at_now n (binary_op c.args.width c.args.op) (here r)) in
     (o.y, o.x, _, o.words, o.y_fits, o.x_fits)
 
-pub advance-requires : goal.advance-requires
-advance-requires c = place_fits c.requires.next.1.ready
+pub advance_to-requires : goal.advance_to-requires
+advance_to-requires c = c.requires.place
 
 pub returns : goal.returns
 returns c code =
     let m = c.args.stack.now in
-    charged_words code m c.advance.new.stack c.binary.new.words (Binary c.args.width c.args.op) c.advance.ensures (λ p k flat most r cx inst out s a ws st.
+    charged_words code m c.advance_to.new.stack c.binary.new.words (Binary c.args.width c.args.op) c.advance_to.ensures (λ p k flat most r cx inst out s a ws st.
     let n = st.running in
     let o = binary_needs n c.args.width c.args.op (at_now n (binary_op c.args.width c.args.op) (here r)) in
     let u = c.in-Ok.ensures.ok o.y o.x _ o.words in

@@ -8,20 +8,20 @@ use Rattle.wolqedir.proofs.asking.wq_cancel.Goals as goal
 -- the host that was taken out and lent is the one that was held
 pub returns : goal.returns
 returns c = (
-  λ other. (same_held (c.in-Some.ensures.some ∙ ap Some (sym c.deref_mut.ensures.value)) c.put.ensures.held (left_at host_error_code c.cancel-answer.result c.code_of.ensures c.cancel-answer.ensures.err other), left_at host_error_code c.cancel-answer.result c.code_of.ensures (nothing c.cancel-answer.result) other),
+  λ other. (same_held (c.in-Some.ensures.some ∙ ap Some (sym c.deref_mut.ensures.value)) c.put.ensures.held (left_at host_error_code c.ask-answer.result c.code_of.ensures c.ask-answer.ensures.err other), left_at host_error_code c.ask-answer.result c.code_of.ensures (nothing c.ask-answer.result) other),
   inr (
     c.deref_mut.result.now,
     _,
     c.in-Some.ensures.some ∙ ap Some (sym c.deref_mut.ensures.value),
     c.put.ensures.held,
     c.put.ensures.sound,
-    subst (λ id. ExportAsks (λ w answer w2. IsCancel w id answer w2) c.code_of.result c.deref_mut.result.now c.cancel-answer.new.self) c.named.ensures (record {
-      answer = c.cancel-answer.result;
+    subst (λ id. ExportAsks (λ w answer w2. IsCancel w id answer w2) c.code_of.result c.deref_mut.result.now c.ask-answer.new.self) c.named-id.ensures (record {
+      answer = c.ask-answer.result;
       answered = c.code_of.ensures;
-      asks = c.cancel-answer.ensures.asks;
-      err = c.cancel-answer.ensures.err;
-      backing = c.cancel-answer.ensures.backing;
-      output = c.cancel-answer.ensures.output;
+      asks = c.ask-answer.ensures.asks.0;
+      err = c.ask-answer.ensures.err;
+      backing = c.ask-answer.ensures.backing;
+      output = c.ask-answer.ensures.output;
     }),
   ),
 )

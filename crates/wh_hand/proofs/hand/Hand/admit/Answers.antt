@@ -1,3 +1,4 @@
+use Rattle.wh_host_model.specs.Host.Events.{admit}
 use Rattle.wh_hand.specs.HandStates.{HandState}
 use Rattle.wh_host.specs.Admitting.{AnswersAdmit}
 use Rattle.std.specs.Prelude.{Ok, Err}
@@ -12,20 +13,20 @@ pub settle-requires-clause-settles : goal.settle-requires-clause-settles
 settle-requires-clause-settles c =
     let i = c.self.inside in
     let a = c.self.invariant in
-    comer_settles i.host c.admit.new.self c.args.of.number (view_params c.args.params) c.in-Ok.id i.line.items a.led a.lists
+    comer_settles i.host c.admit.new.self (admit c.args.of.number (view_params c.args.params)) c.in-Ok.id i.line.items a.led a.lists
     (admit_leads i.host c.admit.new.self c.args.of.number (view_params c.args.params) c.in-Ok.id c.admit.result c.in-Ok.is c.admit.ensures.admits)
 
 pub settle-requires-clause-few : goal.settle-requires-clause-few
 settle-requires-clause-few c =
     let i = c.self.inside in
-    comer_few i.host c.admit.new.self c.args.of.number (view_params c.args.params) c.in-Ok.id c.self.invariant.led
+    comer_few i.host c.admit.new.self (admit c.args.of.number (view_params c.args.params)) c.in-Ok.id c.self.invariant.led
     (admit_leads i.host c.admit.new.self c.args.of.number (view_params c.args.params) c.in-Ok.id c.admit.result c.in-Ok.is c.admit.ensures.admits)
 
 pub invariant_of-self-2 : goal.invariant_of-self-2
 invariant_of-self-2 c =
     let i = c.self.inside in
     let a = c.self.invariant in
-    comer_in_hand i.host c.admit.new.self c.args.of.number (view_params c.args.params) c.in-Ok.id (memory_held i.device) i.line.items c.settle.new.line.items (deque_capacity i.line) (deque_capacity c.settle.new.line) a
+    comer_in_hand i.host c.admit.new.self (admit c.args.of.number (view_params c.args.params)) c.in-Ok.id (memory_held i.device) i.line.items c.settle.new.line.items (deque_capacity i.line) (deque_capacity c.settle.new.line) a
     (admit_leads i.host c.admit.new.self c.args.of.number (view_params c.args.params) c.in-Ok.id c.admit.result c.in-Ok.is c.admit.ensures.admits)
     c.admit.ensures.backing c.settle.ensures.lists (subst (λ n. 4096 ≤ n) (sym c.settle.ensures.room) a.enough)
 

@@ -3,7 +3,6 @@ use Rattle.wh_hand.specs.ReleasedOutputs.{AnswersReleaseHere}
 use Rattle.std.specs.Prelude.{Ok, Err}
 use Rattle.std.proofs.Common.{◌≤◌, sym, subst}
 use Rattle.std.specs.VecDeque.{deque_capacity}
-use Rattle.wh_host_model.specs.Host.{release}
 use Rattle.wh_swap.specs.MemorySwaps.{memory_held}
 use Rattle.wh_hand.proofs.Asked.{asked_few, asked_in_hand, asked_settles, release_err, release_here, release_leads}
 use Rattle.wh_hand.proofs.hand.Hand.release.Goals as goal
@@ -12,21 +11,21 @@ pub settle-requires-clause-settles : goal.settle-requires-clause-settles
 settle-requires-clause-settles c =
     let i = c.self.inside in
     let a = c.self.invariant in
-    asked_settles i.host c.release.new.self (release c.args.id) c.args.id i.line.items c.can_go_on-stands.result a.led a.lists c.can_go_on-stands.ensures
+    asked_settles i.host c.release.new.self c.args.id i.line.items c.can_go_on-stands.result a.led a.lists c.can_go_on-stands.ensures
     (release_leads i.host c.release.new.self c.args.id c.release.result c.release.ensures.goes)
 
 pub settle-requires-clause-few : goal.settle-requires-clause-few
 settle-requires-clause-few c =
     let i = c.self.inside in
     let a = c.self.invariant in
-    asked_few i.host c.release.new.self (release c.args.id) c.args.id a.led a.few
+    asked_few i.host c.release.new.self c.args.id a.led a.few
     (release_leads i.host c.release.new.self c.args.id c.release.result c.release.ensures.goes)
 
 pub invariant_of-self-2 : goal.invariant_of-self-2
 invariant_of-self-2 c =
     let i = c.self.inside in
     let a = c.self.invariant in
-    asked_in_hand i.host c.release.new.self (release c.args.id) c.args.id (memory_held i.device) i.line.items c.settle.new.line.items (deque_capacity i.line) (deque_capacity c.settle.new.line) a
+    asked_in_hand i.host c.release.new.self c.args.id (memory_held i.device) i.line.items c.settle.new.line.items (deque_capacity i.line) (deque_capacity c.settle.new.line) a
     (release_leads i.host c.release.new.self c.args.id c.release.result c.release.ensures.goes)
     c.release.ensures.backing c.settle.ensures.lists (subst (λ n. 4096 ≤ n) (sym c.settle.ensures.room) a.enough)
 

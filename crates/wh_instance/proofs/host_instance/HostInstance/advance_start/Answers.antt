@@ -5,7 +5,7 @@ use Rattle.wh_machine.specs.CallStates.{setting_of}
 use Rattle.wh_host_model.specs.Host.{has_left}
 use Rattle.wh_instance.specs.Pieces.{pieces_left}
 use Rattle.wh_instance.specs.Tenancy.{HostInstanceState, IsWhere, RepresentsTenant}
-use Rattle.wh_instance.proofs.Advanced.{opened, present, has_present, is_writing, starting_as, advanced}
+use Rattle.wh_instance.proofs.Advanced.{opened, has_present, is_writing, starting_as, advanced}
 use Rattle.wh_instance.proofs.host_instance.HostInstance.advance_start.Goals as goal
 
 pub present-requires : goal.present-requires

@@ -1,6 +1,6 @@
 use Rattle.std.proofs.Common.{◌∙◌, ◌<◌, ◌≤◌, inr, [], length, true≢false, arith, subst, sym, string_bytes}
 use Rattle.wh_script.specs.Causes.{cause_number, line_error}
-use Rattle.wh_commands.specs.ParsedCommands.{FindsAsked}
+use Rattle.wh_commands.specs.ParsedCommands.{FindsAsked, asked_in, command_of, invoke_of}
 use Rattle.wh_script_model.specs.{longest_line, Command, AsksCommand, scan, report, error}
 use Rattle.wh_engine.proofs.Printings.{on_ok_then}
 use Rattle.wh_script.specs.Coming.{IsKind}
@@ -9,7 +9,7 @@ use Rattle.wh_script.specs.Answering.{Answers, Complains, EndsSaying}
 use Rattle.wh_script.proofs.Answered.{is_skipped_line, is_too_long, isnt_found, skips}
 use Rattle.wh_engine.proofs.Runs.{holds_same}
 use Rattle.wh_script.proofs.Devices.{holds_map}
-use Rattle.wh_script.proofs.OfHost.{is_report, is_scan, none_found}
+use Rattle.wh_script.proofs.OfHost.{is_report, is_scan, no_report, no_scan, none_found}
 use Rattle.wh_script.proofs.session.Session.answer.Goals as goal
 
 pub returns-in-End-clause-answers : goal.returns-in-End-clause-answers
@@ -32,18 +32,29 @@ returns-in-TooLong-clause-answers g c =
     is_too_long files c.args.number line [] text2 e e2 met k.0 k.1
     (subst (λ t. Complains (error 1 c.args.number) e t e2 text2 met) c.clear.ensures.bytes complains)))
 
-pub returns-in-Ok-clause-answers : goal.returns-in-Ok-clause-answers
-returns-in-Ok-clause-answers g c =
+pub returns-in-Ok-Invoke-clause-answers : goal.returns-in-Ok-Invoke-clause-answers
+returns-in-Ok-Invoke-clause-answers g c =
+    let files = g.S.Source.files c.args.source.now in
+    let e = c.args.self.now.script_host in
+    let e2 = c.invoke.new.self.script_host in
+    let text2 = string_bytes c.invoke.new.self.text in
+    on_ok_then c.invoke.result c.invoke.ensures.answers
+    (holds_map g.D.SwapDev.keeps g.D.SwapDev.honest g.D.SwapDev.faults e.host.device e2.host.device _ _ (λ met answers line is.
+    let k = subst (λ k. IsKind k c.args.held.now line) c.in-Kept.is is in
+    subst (λ t. Answers files c.args.number line e t e2 text2 met) c.clear.ensures.bytes
+    (answers files line (k.1, k.2) (subst (λ xs. AsksCommand xs (invoke_of c.in-Ok-Invoke.call)) k.0 (subst (λ parsed. AsksCommand c.args.held.now (asked_in parsed)) c.in-Ok-Invoke.field-0-is c.in-Ok-Invoke.ensures.found)))))
+
+pub returns-in-Ok-Command-clause-answers : goal.returns-in-Ok-Command-clause-answers
+returns-in-Ok-Command-clause-answers g c =
     let files = g.S.Source.files c.args.source.now in
     let e = c.args.self.now.script_host in
     let e2 = c.command.new.self.script_host in
     let text2 = string_bytes c.command.new.self.text in
-    let found = c.in-Ok.ensures.found in
     on_ok_then c.command.result c.command.ensures.answers
     (holds_map g.D.SwapDev.keeps g.D.SwapDev.honest g.D.SwapDev.faults e.host.device e2.host.device _ _ (λ met answers line is.
     let k = subst (λ k. IsKind k c.args.held.now line) c.in-Kept.is is in
     subst (λ t. Answers files c.args.number line e t e2 text2 met) c.clear.ensures.bytes
-    (answers found.0 found.2 line (k.1, k.2) (subst (λ xs. AsksCommand xs found.0) k.0 found.1))))
+    (answers line (k.1, k.2) (subst (λ xs. AsksCommand xs (command_of c.in-Ok-Command.command)) k.0 (subst (λ parsed. AsksCommand c.args.held.now (asked_in parsed)) c.in-Ok-Command.field-0-is c.in-Ok-Command.ensures.found)))))
 
 pub returns-in-Err-clause-answers : goal.returns-in-Err-clause-answers
 returns-in-Err-clause-answers g c =
@@ -71,12 +82,17 @@ returns-in-TooLong-clause-scans g c =
     let read : length line ≤ longest_line = asks.is_read.1 in
     absurd (omega (arith, long, read)))
 
-pub returns-in-Ok-clause-scans : goal.returns-in-Ok-clause-scans
-returns-in-Ok-clause-scans g c =
-    let found = c.in-Ok.ensures.found in
+pub returns-in-Ok-Invoke-clause-scans : goal.returns-in-Ok-Invoke-clause-scans
+returns-in-Ok-Invoke-clause-scans g c =
+    on_ok_then c.invoke.result c.invoke.ensures.answers (λ answers line is (asks : AsksScan line).
+    let k = subst (λ k. IsKind k c.args.held.now line) c.in-Kept.is is in
+    absurd (no_scan c.args.held.now c.in-Ok-Invoke.call (subst (λ parsed. AsksCommand c.args.held.now (asked_in parsed)) c.in-Ok-Invoke.field-0-is c.in-Ok-Invoke.ensures.found) (subst (λ xs. AsksCommand xs scan) (sym k.0) asks.asks)))
+
+pub returns-in-Ok-Command-clause-scans : goal.returns-in-Ok-Command-clause-scans
+returns-in-Ok-Command-clause-scans g c =
     on_ok_then c.command.result c.command.ensures.scans (λ does line is (asks : AsksScan line).
     let k = subst (λ k. IsKind k c.args.held.now line) c.in-Kept.is is in
-    inr (does (is_scan c.args.held.now c.in-Ok.command found.0 found.1 found.2 (subst (λ xs. AsksCommand xs scan) (sym k.0) asks.asks))))
+    inr (does (is_scan c.args.held.now c.in-Ok-Command.command (subst (λ parsed. AsksCommand c.args.held.now (asked_in parsed)) c.in-Ok-Command.field-0-is c.in-Ok-Command.ensures.found) (subst (λ xs. AsksCommand xs scan) (sym k.0) asks.asks))))
 
 pub returns-in-Err-clause-scans : goal.returns-in-Err-clause-scans
 returns-in-Err-clause-scans g c =
@@ -99,12 +115,17 @@ returns-in-TooLong-clause-shows g c =
     let read : length line ≤ longest_line = asks.is_read.1 in
     absurd (omega (arith, long, read)))
 
-pub returns-in-Ok-clause-shows : goal.returns-in-Ok-clause-shows
-returns-in-Ok-clause-shows g c =
-    let found = c.in-Ok.ensures.found in
+pub returns-in-Ok-Invoke-clause-shows : goal.returns-in-Ok-Invoke-clause-shows
+returns-in-Ok-Invoke-clause-shows g c =
+    on_ok_then c.invoke.result c.invoke.ensures.answers (λ answers line is (asks : AsksReport line).
+    let k = subst (λ k. IsKind k c.args.held.now line) c.in-Kept.is is in
+    absurd (no_report c.args.held.now c.in-Ok-Invoke.call (subst (λ parsed. AsksCommand c.args.held.now (asked_in parsed)) c.in-Ok-Invoke.field-0-is c.in-Ok-Invoke.ensures.found) (subst (λ xs. AsksCommand xs report) (sym k.0) asks.asks)))
+
+pub returns-in-Ok-Command-clause-shows : goal.returns-in-Ok-Command-clause-shows
+returns-in-Ok-Command-clause-shows g c =
     on_ok_then c.command.result c.command.ensures.shows (λ does line is (asks : AsksReport line).
     let k = subst (λ k. IsKind k c.args.held.now line) c.in-Kept.is is in
-    inr (does (is_report c.args.held.now c.in-Ok.command found.0 found.1 found.2 (subst (λ xs. AsksCommand xs report) (sym k.0) asks.asks))))
+    inr (does (is_report c.args.held.now c.in-Ok-Command.command (subst (λ parsed. AsksCommand c.args.held.now (asked_in parsed)) c.in-Ok-Command.field-0-is c.in-Ok-Command.ensures.found) (subst (λ xs. AsksCommand xs report) (sym k.0) asks.asks))))
 
 pub returns-in-Err-clause-shows : goal.returns-in-Err-clause-shows
 returns-in-Err-clause-shows g c =
