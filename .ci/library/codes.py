@@ -36,7 +36,7 @@ def sentences():
 def codes():
     """All codes that there are, by the header."""
     families = enumerate([0, 13, 11, 3, 2, 9, 8, 10, 3, 4])
-    return [*range(8), *(256 * family + number for family, most in families for number in range(1, most + 1))]
+    return [*range(9), *(256 * family + number for family, most in families for number in range(1, most + 1))]
 
 
 def texts():
@@ -77,6 +77,27 @@ def of_modules():
         for _ in range(1024):
             host.load(pool("empty"))
         yield code_of(lambda: host.load(pool("empty")))
+
+
+def not_unloaded(host, wanted, module):
+    """The code by which a module isn't let go. The host is as it was."""
+    before = host.report()
+    found = code_of(lambda: host.unload(module))
+    assert found == wanted and host.report() == before, (wanted, found)
+    return found
+
+
+def of_unloads():
+    """The codes of modules that go."""
+    with Host() as host:
+        seven = host.load(pool("seven"))
+        yield not_unloaded(host, "A1", seven + 1)
+        a = host.admit(seven, max=16)
+        yield not_unloaded(host, "8", seven)
+        host.release(a)
+        host.unload(seven)
+        yield not_unloaded(host, "A1", seven)
+        yield code_of(lambda: host.admit(seven, max=16))
 
 
 def of_admissions():
@@ -209,4 +230,4 @@ def of_handles():
 
 def met():
     """The codes that come."""
-    return {code for part in (of_modules, of_admissions, of_requests, of_forks, of_traps, of_handles) for code in part()}
+    return {code for part in (of_modules, of_unloads, of_admissions, of_requests, of_forks, of_traps, of_handles) for code in part()}

@@ -203,7 +203,7 @@ def kinds():
 def same():
     """How many exports there are, and how many places of structs. All declare the same."""
     wanted, shapes = exports(), structs()
-    assert len(wanted) == 19 and len(shapes) == len(STRUCTS), (len(wanted), len(shapes))
+    assert len(wanted) == 20 and len(shapes) == len(STRUCTS), (len(wanted), len(shapes))
     for where, found, told in (
         ("bindings/c/wolqedir.h", of_header(), wanted),
         ("bindings/rust/src/sys.rs", of_crate(), wanted),

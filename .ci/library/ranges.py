@@ -73,6 +73,7 @@ def of_host():
 def of_admission():
     for at, name in enumerate(("shares", "min", "max", "fuel")):
         yield lambda host, value, name=name: host.admit(0, **{name: value}), "wq_admit", lambda got, at=at: got[2][at], U64, as_is
+    yield lambda host, value: host.unload(value), "wq_unload", lambda got: got[1], U64, as_is
     yield lambda host, value: host.admit(value), "wq_admit", lambda got: got[1], U64, as_is
     yield lambda host, value: host.admit(0, salt=value), "wq_admit", lambda got: got[2][4], I64, unsigned(64)
     yield lambda host, value: host.admit(0, base=value), "wq_admit", lambda got: got[2][5], I32, unsigned(32)

@@ -113,5 +113,6 @@ def all_refused():
     watched.tried("transcript", lambda: host.transcript(wide))
     watched.instances.remove(hosted)
     assert watched.tried("release", lambda: host.release(hosted)) == bytes([7, 0, 0, 0, 0, 0, 0, 0])
+    watched.tried("unload", lambda: host.unload(numbers[0]))
     host.close()
     return count + watched.count, watched.spared, kinds | watched.kinds

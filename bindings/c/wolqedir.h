@@ -26,14 +26,14 @@
  * handler, nor in the child of a fork of a process with threads.
  *
  * Memory. malloc and realloc align blocks to 16 bytes, and may answer NULL: the call then answers a code, and the host is as
- * it was. wq_run, wq_scan, wq_epoch, wq_status_of, wq_taken, wq_refuel, wq_retry, wq_cancel and wq_release take no memory. A
- * host takes room for all its frames and slots when it is made. Of that 63 bytes a frame and 20 a slot are memory at once; 4096
- * more of each are addresses until it is first used.
+ * it was. wq_run, wq_scan, wq_epoch, wq_status_of, wq_taken, wq_refuel, wq_retry, wq_cancel, wq_release and wq_unload take no
+ * memory. A host takes room for all its frames and slots when it is made. Of that 63 bytes a frame and 20 a slot are memory at
+ * once; 4096 more of each are addresses until it is first used.
  *
- * Life. A host keeps 1024 modules, and lets none go before itself (M1). It has 4096 instances at once (A6). An instance has 65535
- * calls beside its start (H6), 1024 of them open at once (H4); each takes 100 to 260 bytes until the instance is released. It puts
- * out 65536 bytes at most (T9), which wq_taken has when it is released, and not before. A copy counts the calls and the bytes that
- * it was copied with. None can go to another host.
+ * Life. A host has 1024 modules at once (M1), and 4096 instances (A6). An instance has 65535 calls beside its start (H6), 1024 of
+ * them open at once (H4); each takes 100 to 260 bytes until the instance is released. It puts out 65536 bytes at most (T9), which
+ * wq_taken has when it is released, and not before. A copy counts the calls and the bytes that it was copied with. None can go to
+ * another host.
  */
 #ifndef WOLQEDIR_H
 #define WOLQEDIR_H
@@ -51,7 +51,7 @@ extern "C" {
 typedef struct wq_host { uint32_t full; void *at; } wq_host;
 #define WQ_HOST_NONE {0, NULL}
 
-/* 0; or one of the first eight; or a family, and in the low byte the number that scripts show behind the family's letter, as
+/* 0; or one of the first nine; or a family, and in the low byte the number that scripts show behind the family's letter, as
  * docs/guide/script.md lists them. */
 typedef uint32_t wq_code;
 #define WQ_DONE    0u      /* it was done */
@@ -62,11 +62,12 @@ typedef uint32_t wq_code;
 #define WQ_NAME    5u      /* the name isn't UTF-8 */
 #define WQ_UNKNOWN 6u      /* no such instance or call; of wq_code_text, no such code */
 #define WQ_LARGE   7u      /* frames and slots are 2^32 together or more: no scan */
+#define WQ_IN_USE  8u      /* an instance of the module is there */
 #define WQ_D       0x100u  /* D1 to D13: the bytes aren't a module, or pass a limit of the format */
 #define WQ_V       0x200u  /* V1 to V11: the module isn't valid, or passes a limit of the validator */
 #define WQ_L       0x300u  /* L1 to L3: an import that the host doesn't offer */
 #define WQ_M       0x400u  /* M1, M2: no room for a module */
-#define WQ_A       0x500u  /* A1 to A9: the instance isn't admitted; A1 is that no module has the number */
+#define WQ_A       0x500u  /* A1 to A9: the instance isn't admitted; A1, of wq_unload too, is that no module has the number */
 #define WQ_H       0x600u  /* H1 to H8: the host doesn't do what is asked of an instance */
 #define WQ_T       0x700u  /* T1 to T10: a call has trapped; in a status */
 #define WQ_S       0x800u  /* S1 to S3: the swap device has failed; in a status, and never of a device in memory */
@@ -140,6 +141,10 @@ void wq_host_free(wq_host *host);
 /* Keeps the module that these bytes spell: its number, counted from 0. It may import the three functions and two globals of `host`
  * that docs/guide/compiling-c.md lists; a program can add none. D, V, L, M. */
 wq_code wq_load(wq_host *host, const uint8_t *bytes, size_t len, size_t *module);
+
+/* Lets a module go that no instance is of, admitted or copied: its memory is given back, and its number never given again. A1 where
+ * no module has the number; WQ_IN_USE. */
+wq_code wq_unload(wq_host *host, size_t module);
 
 /* Admits an instance of a module, with the n words of its input. Its start runs by wq_run, before its calls. WQ_MEMORY, A. */
 wq_code wq_admit(wq_host *host, size_t module, const wq_params *params, const uint64_t *inputs, size_t n,

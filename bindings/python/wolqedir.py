@@ -8,8 +8,8 @@ ctypes. WOLQEDIR_SO names the shared library, which docs/guide/library.md says h
         host.run(1000000)
         print(host.status(instance, call))
 
-A host keeps 1024 modules, and lets none go before itself; an instance has 65535 calls beside its start, and puts out 65536 bytes
-at most, which come when it is released.
+A host has 1024 modules at once; an instance has 65535 calls beside its start, and puts out 65536 bytes at most, which come when it
+is released.
 
 What the library refuses raises Refused, with the code and its sentence. A number beyond its range raises OverflowError, what is no
 integer TypeError, an instance of another host ValueError; the library isn't asked then. The host is as it was at each of these."""
@@ -176,6 +176,7 @@ EXPORTS = {
     "wq_host_new": [HOST, c_uint32, c_uint32, c_uint32, c_uint32],
     "wq_host_free": [HOST],
     "wq_load": [HOST, BYTES, c_size_t, LENGTH],
+    "wq_unload": [HOST, c_size_t],
     "wq_admit": [HOST, c_size_t, POINTER(Params), POINTER(c_uint64), c_size_t, IT],
     "wq_fork": [HOST, IT, POINTER(Quota), IT],
     "wq_invoke": [HOST, IT, BYTES, c_size_t, POINTER(c_int64), c_size_t, c_uint64, POINTER(c_uint32)],
@@ -318,10 +319,15 @@ class Host:
 
     @alone
     def load(self, data):
-        """Keeps the module of these bytes, or whatever else has a buffer: its number."""
+        """Keeps the module of these bytes, or whatever else has a buffer: its number, which is never given again."""
         (room, length), number = octets(data), c_size_t()
         must(lib.wq_load(self.handle, room, length, byref(number)))
         return number.value
+
+    @alone
+    def unload(self, module):
+        """Lets the module of this number, 0 to 2^64 - 1, go, if no instance is of it: its memory is given back."""
+        must(lib.wq_unload(self.handle, u64("module", module)))
 
     @alone
     def admit(self, module, shares=100, min=2, max=64, fuel=0, salt=0, base=0, inputs=()):

@@ -17,6 +17,8 @@ pub enum Error {
     OtherHost,
     /// Frames and slots are 2^32 together or more.
     Large,
+    /// An instance of the module is there.
+    InUse,
     /// D: the bytes aren't a module.
     Decode(u8),
     /// V: the module isn't valid.
@@ -25,7 +27,7 @@ pub enum Error {
     Link(u8),
     /// M: no room for a module.
     Module(u8),
-    /// A: the instance isn't admitted.
+    /// A: the instance isn't admitted. 1 is that the module isn't there.
     Admit(u8),
     /// H: the host doesn't do what is asked of an instance.
     Ask(u8),
@@ -43,6 +45,7 @@ impl Error {
             Error::Tax => 4,
             Error::Unknown | Error::OtherHost => 6,
             Error::Large => 7,
+            Error::InUse => 8,
             Error::Decode(number) => 0x100 + u32::from(number),
             Error::Valid(number) => 0x200 + u32::from(number),
             Error::Link(number) => 0x300 + u32::from(number),
@@ -64,6 +67,7 @@ pub(crate) fn answer(code: u32) -> Result<(), Error> {
         (0, 4) => Error::Tax,
         (0, 6) => Error::Unknown,
         (0, 7) => Error::Large,
+        (0, 8) => Error::InUse,
         (1, _) => Error::Decode(number),
         (2, _) => Error::Valid(number),
         (3, _) => Error::Link(number),

@@ -3,8 +3,8 @@
 //! Safe words for the library `wolqedir`, whose exports are proved (`docs/guide/library.md`); this crate isn't. Set
 //! `WOLQEDIR_LIB` to a folder with `libwolqedir.a` and `liblibc_c.a`; they want Linux and a processor of x86-64-v2.
 //!
-//! A host keeps 1024 modules, and lets none go before itself; an instance has 65535 calls beside its start, and puts out 65536
-//! bytes at most, which come when it is released.
+//! A host has 1024 modules at once; an instance has 65535 calls beside its start, and puts out 65536 bytes at most, which come when
+//! it is released.
 mod error;
 mod sys;
 
@@ -33,7 +33,7 @@ impl Instance {
     }
 }
 
-/// A module of one host.
+/// A module of one host. Its number is never given again there.
 #[derive(Clone, Copy, Debug, PartialEq, Eq, Hash)]
 pub struct Module {
     host: u64,
@@ -268,6 +268,18 @@ impl Host {
         // SAFETY: here and below, the handle is ours alone, slices are as long as they say, and the rest can be read and written.
         answer(unsafe { sys::wq_load(&mut self.handle, bytes.as_ptr(), bytes.len(), &mut number) })?;
         Ok(Module { host: self.serial, number })
+    }
+
+    /// Lets a module go that no instance is of: its memory is given back.
+    ///
+    /// # Errors
+    /// `OtherHost`; `Admit(1)` if it is gone; `InUse`.
+    pub fn unload(&mut self, module: Module) -> Result<(), Error> {
+        if module.host != self.serial {
+            return Err(Error::OtherHost);
+        }
+        // SAFETY: as in `load`.
+        answer(unsafe { sys::wq_unload(&mut self.handle, module.number) })
     }
 
     /// Admits an instance of a module.

@@ -82,6 +82,7 @@ extern "C" {
     pub fn wq_host_new(host: *mut Handle, frames: u32, slots: u32, tax_num: u32, tax_den: u32) -> u32;
     pub fn wq_host_free(host: *mut Handle);
     pub fn wq_load(host: *mut Handle, bytes: *const u8, len: usize, module: *mut usize) -> u32;
+    pub fn wq_unload(host: *mut Handle, module: usize) -> u32;
     pub fn wq_admit(
         host: *mut Handle,
         module: usize,

@@ -1,4 +1,4 @@
-//! Two hosts of one process: what is of one is refused by the other, which stays as it was.
+//! Two hosts of one process: what is of one is refused by the other, which stays as it was; copies, and modules that go.
 use std::collections::HashSet;
 use wolqedir::{Error, Host, Instance, Module, Params, Quota, Settings, State};
 
@@ -45,7 +45,26 @@ fn a_module_of_another_host_is_refused() -> Result<(), Error> {
     let (_, module, _) = hosted()?;
     let (mut other, _, _) = hosted()?;
     assert_eq!(other.admit(module, PARAMS), Err(Error::OtherHost));
+    assert_eq!(other.unload(module), Err(Error::OtherHost));
     assert_eq!(other.report()?.instances.len(), 1);
+    Ok(())
+}
+
+#[test]
+fn a_module_goes_behind_its_last_instance() -> Result<(), Error> {
+    let (mut host, module, template) = hosted()?;
+    host.run(1000);
+    let copy = host.fork(template, QUOTA)?;
+    host.release(template)?;
+    assert_eq!(host.unload(module), Err(Error::InUse));
+    host.release(copy)?;
+    host.unload(module)?;
+    assert_eq!(host.unload(module), Err(Error::Admit(1)));
+    assert_eq!(host.admit(module, PARAMS), Err(Error::Admit(1)));
+    let next = host.load(include_bytes!("../../../examples/hello.wasm"))?;
+    assert_ne!(next, module);
+    host.admit(next, PARAMS)?;
+    assert_eq!((Error::InUse.code(), Error::InUse.to_string()), (8, "an instance of the module is there (code 0x8)".to_string()));
     Ok(())
 }
 

@@ -1,8 +1,10 @@
-//! Tests of a desk: what it replies to an operator and to tenants, and what to a stranger, by one thread and by several.
+//! Tests of a desk: what it replies to an operator and to tenants, of copies too, and what to a stranger, by one thread and by several.
 #![tactic(auto)]
 
 #[cfg(test)]
 mod begun;
+#[cfg(test)]
+mod copies;
 #[cfg(test)]
 mod strangers;
 #[cfg(test)]

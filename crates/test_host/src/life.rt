@@ -6,6 +6,7 @@ use anyhow::{Context, Result, ensure};
 use std::alloc::Global;
 use wh_host::{
     AdmitError, CallStatus, CallValue, ForkError, HostError, ModuleId, Quota, Suspension,
+    UnloadError,
 };
 use wh_host_model::TurnEnd;
 use wh_kernels::{ConstantHash, FnvHash};
@@ -18,6 +19,8 @@ use wh_space_model::{EvictEnd, FetchEnd, InstId, Offer, SwapError, Tax};
 pub enum Step {
     /// A module is loaded: its number, if its bytes are accepted.
     Load(&'static [u8], Option<usize>),
+    /// A module is let go.
+    Unload(usize, Result<(), UnloadError>),
     /// An instance of a module is admitted, with these frames at least and pages at most, and fuel for its start: its place
     /// and its number.
     Admit(usize, (u64, u64), u64, Result<(usize, u64), u8>),
@@ -276,6 +279,7 @@ impl Step {
         let id = admitted.get(at).copied().unwrap_or(nobody);
         Ok(match self {
             Step::Load(bytes, want) => rig.load(alloc, bytes).ok().map(|id| id.number) == want,
+            Step::Unload(number, want) => rig.unload(ModuleId { number }) == want,
             Step::Admit(number, (min, max), fuel, want) => {
                 let answer = rig.admit_of(alloc, ModuleId { number }, min, max, fuel);
                 is_admitted(answer, want, admitted)?

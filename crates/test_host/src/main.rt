@@ -19,6 +19,7 @@ mod store;
 mod streams;
 mod tickets;
 mod trial;
+mod unloads;
 mod views;
 
 use anyhow::{Context, Result, ensure};
@@ -33,6 +34,7 @@ use rig::Rig;
 use std::alloc::Global;
 use streams::run_streams;
 use trial::{Counts, Trial};
+use unloads::{SESSIONS, UNLOADS, load_and_unload, load_most, run_sessions};
 use wh_kernels::{ConstantHash, FnvHash, PageHash};
 use wh_space_model::Tax;
 
@@ -149,14 +151,24 @@ fn look_at(counts: &Counts) -> Result<()> {
 
 fn main(rt: HostRuntime) -> Result<()> {
     let alloc = rt.alloc();
-    for life in LIVES.iter().chain(&PAGING).chain(&CHARGING).chain(&FORKS) {
+    for life in LIVES
+        .iter()
+        .chain(&PAGING)
+        .chain(&CHARGING)
+        .chain(&FORKS)
+        .chain(&UNLOADS)
+    {
         live(alloc, life)?;
     }
-    let lives = LIVES.len() + PAGING.len() + CHARGING.len() + FORKS.len();
+    let lives = LIVES.len() + PAGING.len() + CHARGING.len() + FORKS.len() + UNLOADS.len();
     println!(rt; "lives: {lives}")?;
     open_most(alloc)?;
     enroll(alloc)?;
     println!(rt; "calls that are open, and a roll: 2")?;
+    load_most(alloc)?;
+    load_and_unload(alloc)?;
+    run_sessions(alloc)?;
+    println!(rt; "random sessions with modules that go: {SESSIONS}")?;
     let steps = run_streams(alloc)?;
     println!(rt; "steps of a device over a stream: {steps}")?;
     run_lists(&rt, &FnvHash, "FNV-1a")?;

@@ -13,7 +13,7 @@ use std::cell::Cell;
 use std::rc::Rc;
 use wh_host::{
     AdmitError, CallStatus, Eviction, Fetch, ForkError, Host, HostError, ModuleError, ModuleId,
-    Params, Quota,
+    Params, Quota, UnloadError,
 };
 use wh_host_model::TurnEnd;
 use wh_kernels::PageHash;
@@ -65,6 +65,11 @@ impl Rig {
     /// Loads another module.
     pub fn load(&mut self, alloc: Global, bytes: &[u8]) -> Result<ModuleId, ModuleError> {
         self.host.load(alloc, bytes)
+    }
+
+    /// Lets a module go.
+    pub fn unload(&mut self, id: ModuleId) -> Result<(), UnloadError> {
+        self.host.unload(id)
     }
 
     /// Admits an instance of a module with 100 shares, this minimum and maximum of frames, and fuel for its start.

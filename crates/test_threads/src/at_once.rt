@@ -4,7 +4,7 @@ ghost use Rattle.std.specs.Prelude.{◌≡◌, ◌+◌, ◌<◌, ◌≤◌};
 ghost use Rattle.crossbeam_channel.specs.Claims.{view, IsSeatAt};
 ghost use Rattle.crossbeam_channel.specs.Ends.{sends_on};
 ghost use Rattle.wh_threads.specs.Blanks.{IsBlankOf};
-ghost use Rattle.wh_threads.specs.Counting.{LenderState};
+ghost use Rattle.wh_threads.specs.Counting.{ThreadCountsState};
 ghost use Rattle.wh_threads.specs.Handover.{all_parts};
 
 use crate::workers::{count_all, series};

@@ -12,7 +12,7 @@ use wh_script::{FileError, Source};
 
 /// How many bytes of a module's file are read: one more than a module may have, so that a longer one is refused for its
 /// length.
-const MOST_MODULE_BYTES: u64 = 1_048_577;
+const MOST_BYTES_READ: u64 = 1_048_577;
 
 /// Files by their paths, as a command line names them.
 pub trait Folder {
@@ -86,7 +86,7 @@ impl<F: Files> Source for SystemFiles<'_, F> {
     ghost files = { λ system path bytes. true };
 
     fn read(&self, alloc: Global, path: &str) -> Result<Vec<u8>, FileError> {
-        match read_regular(alloc, self, path, MOST_MODULE_BYTES) {
+        match read_regular(alloc, self, path, MOST_BYTES_READ) {
             Ok(bytes) => Ok(bytes),
             Err(error) if error.kind() == ErrorKind::OutOfMemory => Err(FileError::Memory),
             Err(_) => Err(FileError::Unreadable),

@@ -59,6 +59,7 @@ abbrev pub no_host : {D : Type 0} → LeftState D
 no_host = record {
   host = record {
     modules = [];
+    module_refs = [];
     entries = [];
     live = 0;
     space = empty_space 0 0 (record { num = 0; den = 1; below_one = le_refl 1; den_within = leb-true 1 1000 refl });

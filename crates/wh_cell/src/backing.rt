@@ -4,7 +4,7 @@ ghost use Rattle.std.specs.Prelude.{◌≡◌, Some};
 ghost use Rattle.wh_cell.specs.Knowing.{NoneOut, known_of};
 
 use crate::agreements::CellAgreements;
-use crate::keeper::TicketRecord;
+use crate::ticket_record::TicketRecord;
 use std::marker::Model;
 use wh_reclaim::Buf;
 use wh_swap::SwapDev;

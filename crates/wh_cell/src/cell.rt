@@ -14,10 +14,10 @@ ghost use Rattle.wh_cell.specs.declared.moving.Moved.TheVariants.{Ready};
 
 use crate::agreements::CellAgreements;
 use crate::backing::Backing;
-use crate::keeper::AgreedDevice;
 use crate::locked::{Locked, Parts};
 use crate::moving::Moved;
 use crate::owner::{AgreedHost, Owner};
+use crate::ticket_record::AgreedDevice;
 use std::alloc::{AllocError, Global};
 use std::sync::atomic::{AtomicU64, Ordering};
 use std::sync::ledger::{Blank, Ledger};

@@ -4,7 +4,6 @@
 mod agreements;
 mod backing;
 mod cell;
-mod keeper;
 mod locked;
 mod moving;
 mod own_work;
@@ -13,11 +12,12 @@ mod requests;
 mod rounding;
 mod showing;
 mod taken;
+mod ticket_record;
 
 pub use agreements::{CellAgreements, ToDevice, ToOwner};
 pub use backing::Backing;
 pub use cell::{CellParts, HostCell};
-pub use keeper::{AgreedDevice, TicketRecord};
 pub use locked::{Locked, Parts};
 pub use moving::Moved;
 pub use owner::{AgreedHost, Owner};
+pub use ticket_record::{AgreedDevice, TicketRecord};

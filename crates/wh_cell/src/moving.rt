@@ -10,8 +10,8 @@ ghost use Rattle.wh_cell.specs.declared.moving.Moved.TheVariants.{Ready};
 
 use crate::agreements::CellAgreements;
 use crate::backing::Backing;
-use crate::keeper::TicketRecord;
 use crate::locked::{Locked, count_evictions};
+use crate::ticket_record::TicketRecord;
 use std::sync::ledger::Ledger;
 use std::sync::{Mutex, Wait};
 use wh_host::{Eviction, Fetch};
@@ -96,7 +96,7 @@ impl<D: SwapDev, T: Ledger, C: Ledger, O: Ledger, E: Ledger, B: CellAgreements> 
 > {
     // Begins to fetch the first swapped page of the next step of an instance, if its present call is blocked on a
     // frame; else the buffer is back.
-    fn begin_fetch(
+    fn fetch_begin(
         &mut self,
         keeper: &mut TicketRecord<D, B>,
         id: InstId,
@@ -123,7 +123,7 @@ impl<D: SwapDev, T: Ledger, C: Ledger, O: Ledger, E: Ledger, B: CellAgreements> 
 
     // A page begins to leave for the next step of an instance, where its present call waits for a frame and lacks one; or the
     // buffer is back.
-    fn begin_eviction(
+    fn evict_begin(
         &mut self,
         keeper: &mut TicketRecord<D, B>,
         id: InstId,
@@ -152,18 +152,18 @@ impl<D: SwapDev, T: Ledger, C: Ledger, O: Ledger, E: Ledger, B: CellAgreements> 
         ensures { HasBegun D.held keeper.old result keeper.new }
     {
         keeper.agree(&mut self.known);
-        let buf = match self.begin_fetch(keeper, id, buf) {
+        let buf = match self.fetch_begin(keeper, id, buf) {
             Ok(fetched) => return Begun::Coming(fetched),
             Err(buf) => buf,
         };
-        match self.begin_eviction(keeper, id, buf) {
+        match self.evict_begin(keeper, id, buf) {
             Ok(eviction) => Begun::Leaving(eviction),
             Err(buf) => Begun::Neither(buf),
         }
     }
 
     // A page that was coming: the device has answered to its read.
-    fn end_fetch(
+    fn fetch_commit(
         &mut self,
         device: &D,
         keeper: &mut TicketRecord<D, B>,
@@ -183,7 +183,7 @@ impl<D: SwapDev, T: Ledger, C: Ledger, O: Ledger, E: Ledger, B: CellAgreements> 
     }
 
     // A page that was leaving: the device has answered to its write. Where the page has left, reclaimer and books count it.
-    fn end_eviction(
+    fn evict_commit(
         &mut self,
         device: &D,
         keeper: &mut TicketRecord<D, B>,
@@ -241,7 +241,7 @@ fn fetch<D: SwapDev, T: Ledger, C: Ledger, O: Ledger, E: Ledger, B: CellAgreemen
     let mut fetched = fetched;
     let answer = read(device, &mut fetched.ticket);
     let mut host = locked.lock(rt);
-    let (end, buf) = host.end_fetch(device, keeper, fetched, answer);
+    let (end, buf) = host.fetch_commit(device, keeper, fetched, answer);
     (moved_by_fetch(end), buf)
 }
 
@@ -264,7 +264,7 @@ fn evict<D: SwapDev, T: Ledger, C: Ledger, O: Ledger, E: Ledger, B: CellAgreemen
 {
     let answer = write(device, &eviction.ticket);
     let mut host = locked.lock(rt);
-    let (end, buf) = host.end_eviction(device, keeper, eviction, answer, reclaimer);
+    let (end, buf) = host.evict_commit(device, keeper, eviction, answer, reclaimer);
     (moved_by_eviction(end), buf)
 }
 

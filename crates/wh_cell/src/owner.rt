@@ -4,7 +4,7 @@ ghost use Rattle.std.specs.Prelude.{◌≡◌};
 ghost use Rattle.wh_cell.specs.LeftByOwner.{LeftState};
 
 use crate::agreements::{CellAgreements, ToOwner};
-use crate::keeper::DeviceHalf;
+use crate::ticket_record::DeviceHalf;
 use std::marker::{Model, PhantomData};
 use std::snapshot::Snapshot;
 use wh_host::Host;

@@ -1,18 +1,22 @@
 -- What a host replies where there is no such instance, and no such module.
-use Rattle.std.proofs.Common.{◌<◌, None, refl, subst, sym, arith}
+use Rattle.std.proofs.Common.{◌≡◌, ◌<◌, None, refl, subst, sym, arith}
 use Rattle.wh_space_model.specs.declared.plain.InstId.{InstId}
-use Rattle.wh_host_model.specs.Host.{World, NoInstance, has_no_instance, invoke_no_instance, no_one_to_refuel, no_one_to_cancel, no_one_to_retry, no_one_to_release, call_no_instance, isnt_admitted, admit_refused}
+use Rattle.wh_host_model.specs.Host.{World, NoInstance, has_no_instance, invoke_no_instance, no_one_to_refuel, no_one_to_cancel, no_one_to_retry, no_one_to_release, call_no_instance, isnt_admitted, admit_refused, fork_no_instance, no_one_to_fork, unload_no_module, no_module_to_unload, loaded_of}
 use Rattle.wh_host_model.specs.{AdmitFault, no_module, shares, min_max, frames, swap, instances, memory, segments, admit_rank}
 use Rattle.wh_host.specs.Hosting.{HostState, IsHost}
+use Rattle.wh_host.specs.declared.parts.ModuleId.{ModuleId}
 use Rattle.wh_desk.specs.declared.trace.Question.{Question}
-use Rattle.wh_desk.specs.declared.trace.Question.TheVariants.{Load, Admit, Invoke, Refuel, Cancel, Retry, Release, BeginEpoch, Status, Report, Transcript}
+use Rattle.wh_desk.specs.declared.trace.Question.TheVariants.{Load, Unload, Admit, Fork, Invoke, Refuel, Cancel, Retry, Release, BeginEpoch, Status, Report, Transcript}
 use Rattle.wh_desk.specs.AsNone.{InstancesAsNone, ModulesAsNone, IsAbout}
 use Rattle.wh_desk.specs.Permits.{refusal}
 use Rattle.wh_desk.specs.Replying.{HostReplies}
 
 of_this : (h : HostState) (question : Question) (id : InstId) → IsAbout question id → ((w : World) → IsHost h w → NoInstance w id) → HostReplies h question (refusal question) h
 of_this h (Load bytes) id about none = absurd about
+of_this h (Unload of) id about none = absurd about
 of_this h (Admit of params) id about none = absurd about
+of_this h (Fork asked quota) id about none =
+    (_, refl, (λ w is. (fork_no_instance, w, refl, no_one_to_fork (subst (NoInstance w) (sym about) (none w is)), is)), tt, refl)
 of_this h (Invoke asked name given fuel) id about none =
     (_, refl, (λ w is. (invoke_no_instance, w, refl, has_no_instance (subst (NoInstance w) (sym about) (none w is)), is)), refl)
 of_this h (Refuel asked fuel) id about none =
@@ -42,6 +46,22 @@ one_at_least instances less = absurd (omega (arith, less))
 one_at_least memory less = absurd (omega (arith, less))
 one_at_least segments less = absurd (omega (arith, less))
 
+absent : (w : World) (asked of : ModuleId) → asked ≡ of → loaded_of w of.number ≡ None → loaded_of w asked.number ≡ None
+absent w asked of same none = subst (λ (z : ModuleId). loaded_of w z.number ≡ None) (sym same) none
+
 pub modules_as_none : ModulesAsNone
-modules_as_none h of params none =
-    (_, refl, (λ w is. (admit_refused no_module, w, refl, isnt_admitted (none w is, λ other less meets. absurd (one_at_least other less)), is)), tt, refl)
+modules_as_none h of (Load bytes) about none = absurd about
+modules_as_none h of (Unload asked) about none =
+    (_, refl, (λ w is. (unload_no_module, w, refl, no_module_to_unload (absent w asked of about (none w is)), is)), refl, refl)
+modules_as_none h of (Admit asked params) about none =
+    (_, refl, (λ w is. (admit_refused no_module, w, refl, isnt_admitted (absent w asked of about (none w is), λ other less meets. absurd (one_at_least other less)), is)), tt, refl)
+modules_as_none h of (Fork asked quota) about none = absurd about
+modules_as_none h of (Invoke asked name given fuel) about none = absurd about
+modules_as_none h of (Refuel asked fuel) about none = absurd about
+modules_as_none h of (Cancel asked) about none = absurd about
+modules_as_none h of (Retry asked) about none = absurd about
+modules_as_none h of (Release asked) about none = absurd about
+modules_as_none h of BeginEpoch about none = absurd about
+modules_as_none h of (Status asked at) about none = absurd about
+modules_as_none h of Report about none = absurd about
+modules_as_none h of (Transcript asked) about none = absurd about

@@ -3,21 +3,24 @@ use Rattle.std.proofs.Common.{◌≡◌, ◌≢◌, ⊎_elim, ℕ, ℤ, zero, su
 use Rattle.std.proofs.lemmas.List.{get_or-set_other}
 use Rattle.wh_space_model.specs.declared.plain.InstId.{InstId}
 use Rattle.wh_space_model.specs.{Space, view}
-use Rattle.wh_host_model.specs.{Params}
-use Rattle.wh_host_model.specs.Host.{Tenant as Instance, World, tenant, with_tenant, IsLive, IsInvoke, InvokeAnswer, is_invoked, has_no_instance, isnt_invoked, no_memory_to_invoke, CallAnswer, IsRefuel, is_refueled, no_one_to_refuel, no_call_to_refuel, IsCancel, is_cancelled, no_one_to_cancel, no_call_to_cancel, IsRetry, is_retried, no_one_to_retry, no_fault_to_retry, IsRelease, is_released, no_one_to_release, IsLoad, LoadAnswer, is_loaded, isnt_loaded, no_memory_to_load, IsAdmit, AdmitAnswer, is_admitted, isnt_admitted, no_memory_to_admit, ComesAbout, Cancels}
+use Rattle.wh_host_model.specs.{Params, Quota, with_quota}
+use Rattle.wh_host_model.specs.Host.{Tenant as Instance, Loaded, World, loaded_of, promised, tenant, with_tenant, IsLive, IsInvoke, InvokeAnswer, is_invoked, has_no_instance, isnt_invoked, no_memory_to_invoke, CallAnswer, IsRefuel, is_refueled, no_one_to_refuel, no_call_to_refuel, IsCancel, is_cancelled, no_one_to_cancel, no_call_to_cancel, IsRetry, is_retried, no_one_to_retry, no_fault_to_retry, IsRelease, is_released, no_one_to_release, IsLoad, LoadAnswer, is_loaded, isnt_loaded, no_memory_to_load, IsAdmit, AdmitAnswer, is_admitted, isnt_admitted, no_memory_to_admit, IsFork, ForkAnswer, is_forked, no_one_to_fork, isnt_forked, no_memory_to_fork, IsUnload, UnloadAnswer, is_unloaded, no_module_to_unload, is_in_use, ComesAbout, Cancels}
 use Rattle.wh_host_model.specs.Host.OwnerCalls.{ends}
-use Rattle.wh_params.specs.View.{view_params}
+use Rattle.wh_host_model.proofs.Host.Arriving.{copies_arrive}
+use Rattle.wh_host_model.proofs.Host.Lasting.{memory_stays_sound}
+use Rattle.wh_params.specs.View.{view_params, view_quota}
 use Rattle.wh_host.specs.Hosting.{HostState, IsHost}
+use Rattle.wh_host.specs.declared.parts.ModuleId.{ModuleId}
 use Rattle.wh_host.proofs.Hosts.{one_value, places, same_or_not, some_within}
 use Rattle.wh_cell.specs.LeftByOwner.{LeftState}
 use Rattle.wh_desk.specs.declared.principal.Principal.{Principal}
 use Rattle.wh_desk.specs.declared.principal.Principal.TheVariants.{Operator, Tenant}
 use Rattle.wh_desk.specs.declared.request.DeskReply.{DeskReply}
 use Rattle.wh_desk.specs.declared.trace.Question.{Question}
-use Rattle.wh_desk.specs.declared.trace.Question.TheVariants.{Load, Admit, Invoke, Refuel, Cancel, Retry, Release, BeginEpoch, Status, Report, Transcript}
+use Rattle.wh_desk.specs.declared.trace.Question.TheVariants.{Load, Unload, Admit, Fork, Invoke, Refuel, Cancel, Retry, Release, BeginEpoch, Status, Report, Transcript}
 use Rattle.wh_desk.specs.declared.trace.TraceEntry.{TraceEntry}
 use Rattle.wh_desk.specs.Others.{KeepsOthers, KeepsOthersOf}
-use Rattle.wh_desk.specs.Permits.{IsTenants, MayAsk, OwnershipState, Permits}
+use Rattle.wh_desk.specs.Permits.{IsModuleOf, IsTenants, MayAsk, OwnershipState, Permits}
 use Rattle.wh_desk.specs.Replying.{HostReplies, IsRight, by_host, by_refusal}
 
 -- ---- one instance
@@ -31,19 +34,23 @@ id_is a b place number =
 abbrev Stays : World → InstId → Instance → World → Type 0
 Stays w other x w2 = IsLive w2 other x × (view w2.space other.place ≡ view w.space other.place)
 
--- so is each but one
+-- each module is as it was
+abbrev ModulesStay : World → World → Type 0
+ModulesStay w w2 = (k : ℕ) (l : Loaded) → loaded_of w k ≡ Some l → loaded_of w2 k ≡ Some l
+
+-- so is each instance but one
 abbrev pub OthersStay : World → InstId → World → Type 0
-OthersStay w id w2 = (other : InstId) (x : Instance) → other ≢ id → IsLive w other x → Stays w other x w2
+OthersStay w id w2 = ((other : InstId) (x : Instance) → other ≢ id → IsLive w other x → Stays w other x w2) × ModulesStay w w2
 
 -- all are
 abbrev pub AllStay : World → World → Type 0
-AllStay w w2 = (other : InstId) (x : Instance) → IsLive w other x → Stays w other x w2
+AllStay w w2 = ((other : InstId) (x : Instance) → IsLive w other x → Stays w other x w2) × ModulesStay w w2
 
 pub as_it_was : (w : World) → AllStay w w
-as_it_was w other x live = (live, refl)
+as_it_was w = (λ other x live. (live, refl), λ k l there. there)
 
 but_one : (w w2 : World) (id : InstId) → AllStay w w2 → OthersStay w id w2
-but_one w w2 id all other x _ live = all other x live
+but_one w w2 id all = (λ other x _ live. all.0 other x live, all.1)
 
 -- another's number is another one
 numbered : (w : World) (id other : InstId) (t x : Instance) → other ≢ id → IsLive w id t → IsLive w other x → other.number ≢ id.number
@@ -53,9 +60,12 @@ numbered w id other t x differs live there same =
 
 -- the instance is replaced, over a memory of which the others see what they saw
 replaced : (w : World) (id : InstId) (t : Instance) (o : Option Instance) (s2 : Space) → IsLive w id t → ((other : InstId) (x : Instance) → other ≢ id → IsLive w other x → view s2 other.place ≡ view w.space other.place) → OthersStay w id (with_tenant w id.number o s2)
-replaced w id t o s2 live sees other x differs there = (
-  (get_or-set_other w.tenants id.number other.number o None (numbered w id other t x differs live there) ∙ there.0, there.1),
-  sees other x differs there,
+replaced w id t o s2 live sees = (
+  λ other x differs there. (
+    (get_or-set_other w.tenants id.number other.number o None (numbered w id other t x differs live there) ∙ there.0, there.1),
+    sees other x differs there,
+  ),
+  λ k l loaded. loaded,
 )
 
 -- ---- requests
@@ -104,7 +114,7 @@ get_or-append (y ∷ xs) ys zero x e = e
 get_or-append (y ∷ xs) ys (suc i) x e = get_or-append xs ys i x e
 
 pub loaded : (w w2 : World) (bytes : List ℕ) (answer : LoadAnswer) → IsLoad w bytes answer w2 → AllStay w w2
-loaded w w2 bytes answer (is_loaded loads) = subst (AllStay w) (sym loads.after) (λ other x live. (live, refl))
+loaded w w2 bytes answer (is_loaded loads) = subst (AllStay w) (sym loads.after) (λ other x live. (live, refl), λ k l there. get_or-append w.modules _ k l there)
 loaded w w2 bytes answer (isnt_loaded fault) = as_it_was w
 loaded w w2 bytes answer (no_memory_to_load want) = as_it_was w
 
@@ -114,21 +124,49 @@ last_there (x ∷ xs) o = last_there xs o
 
 -- somebody comes under the next number, to a place where nobody is
 comes_after : (w w2 : World) (t : Instance) (s : Space) (number : ℕ) → ComesAbout w2 → w2 ≡ record w { tenants = w.tenants ++ Some t ∷ []; space = s } → number ≡ length w.tenants → ((place : ℕ) → place ≢ t.place → view s place ≡ view w.space place) → AllStay w w2
-comes_after w w2 t s number comes after next sees other x live =
-    let now : tenant w2 other.number ≡ Some x = ap (λ (z : World). tenant z other.number) after ∙ get_or-append w.tenants (Some t ∷ []) other.number x live.0 in
-    let new : tenant w2 number ≡ Some t = ap (λ (z : World). tenant z number) after ∙ ap (λ (n : ℕ). get_or (w.tenants ++ Some t ∷ []) n None) next ∙ last_there w.tenants (Some t) in
-    let less = some_within w.tenants other.number x live.0 in (
-      (now, live.1),
-      ap (λ (z : World). view z.space other.place) after
-          ∙ sees other.place
-          (λ same. let one = (places w2 comes).apart other.number number x t now new (live.1 ∙ same) in absurd (omega (arith, one, next, less))),
-    )
+comes_after w w2 t s number comes after next sees = (beside, λ k l there. ap (λ (z : World). loaded_of z k) after ∙ there) where
+  beside : (other : InstId) (x : Instance) → IsLive w other x → Stays w other x w2
+  beside other x live =
+      let now : tenant w2 other.number ≡ Some x = ap (λ (z : World). tenant z other.number) after ∙ get_or-append w.tenants (Some t ∷ []) other.number x live.0 in
+      let new : tenant w2 number ≡ Some t = ap (λ (z : World). tenant z number) after ∙ ap (λ (n : ℕ). get_or (w.tenants ++ Some t ∷ []) n None) next ∙ last_there w.tenants (Some t) in
+      let less = some_within w.tenants other.number x live.0 in (
+        (now, live.1),
+        ap (λ (z : World). view z.space other.place) after
+            ∙ sees other.place
+            (λ same. let one = (places w2 comes).apart other.number number x t now new (live.1 ∙ same) in absurd (omega (arith, one, next, less))),
+      )
 
 pub admitted : (w w2 : World) (k : ℕ) (p : Params) (answer : AdmitAnswer) → ComesAbout w2 → IsAdmit w k p answer w2 → AllStay w w2
 admitted w w2 k p answer comes (is_admitted {id = id} lets) =
     comes_after w w2 _ lets.space id.number comes lets.after lets.next (λ place differs. (lets.arrives.others place differs).view)
 admitted w w2 k p answer comes (isnt_admitted fault) = as_it_was w
 admitted w w2 k p answer comes (no_memory_to_admit none) = as_it_was w
+
+pub forked : (w w2 : World) (id : InstId) (q : Quota) (answer : ForkAnswer) → ComesAbout w → ComesAbout w2 → IsFork w id q answer w2 → AllStay w w2
+forked w w2 id q answer before comes (is_forked {t = t} {new = new} live f) =
+    let arrives = copies_arrive w.space t.place new.place (promised new.number (with_quota t.params q)) f.space (memory_stays_sound w before) f.copies in
+    comes_after w w2 _ f.space new.number comes f.after f.next (λ place differs. (arrives.others place differs).view)
+forked w w2 id q answer before comes (no_one_to_fork none) = as_it_was w
+forked w w2 id q answer before comes (isnt_forked live first) = as_it_was w
+forked w w2 id q answer before comes (no_memory_to_fork live none) = as_it_was w
+
+-- ---- a module goes
+
+-- all instances stay, and all modules but one
+abbrev AllStayBut : World → ℕ → World → Type 0
+AllStayBut w k w2 =
+    ((other : InstId) (x : Instance) → IsLive w other x → Stays w other x w2)
+    × ((j : ℕ) (l : Loaded) → j ≢ k → loaded_of w j ≡ Some l → loaded_of w2 j ≡ Some l)
+
+nothing_but : (w : World) (k : ℕ) → AllStayBut w k w
+nothing_but w k = (λ other x live. (live, refl), λ j l differs there. there)
+
+pub unloaded : (w w2 : World) (k : ℕ) (answer : UnloadAnswer) → IsUnload w k answer w2 → AllStayBut w k w2
+unloaded w w2 k answer (is_unloaded goes) =
+    subst (AllStayBut w k) (sym goes.after)
+    (λ other x live. (live, refl), λ j l differs there. get_or-set_other w.modules k j None None differs ∙ there)
+unloaded w w2 k answer (no_module_to_unload none) = nothing_but w k
+unloaded w w2 k answer (is_in_use i loaded there of) = nothing_but w k
 
 -- ---- what is asked of a host
 
@@ -140,17 +178,39 @@ HostStaysWhole h h2 = (w : World) → IsHost h w → (w2 : World) × IsHost h2 w
 
 others_keep : (owned : OwnershipState) (t : ℕ) (id : InstId) (h h2 : HostState) → IsTenants owned t id → HostStays h id h2 → KeepsOthers owned t h h2
 others_keep owned t id h h2 own stays w is =
-    let x = stays w is in (x.0, x.1, λ other u not_own live. x.2 other u (λ same. not_own (subst (IsTenants owned t) (sym same) own)) live)
+    let x = stays w is in (
+      x.0,
+      x.1,
+      λ other u not_own live. x.2.0 other u (λ same. not_own (subst (IsTenants owned t) (sym same) own)) live,
+      λ of l not_own there. x.2.1 of.number l there,
+    )
 
 all_keep : (owned : OwnershipState) (t : ℕ) (h h2 : HostState) → HostStaysWhole h h2 → KeepsOthers owned t h h2
-all_keep owned t h h2 stays w is = let x = stays w is in (x.0, x.1, λ other u not_own live. x.2 other u live)
+all_keep owned t h h2 stays w is = let x = stays w is in (x.0, x.1, λ other u not_own live. x.2.0 other u live, λ of l not_own there. x.2.1 of.number l there)
 
 nothing_done : (owned : OwnershipState) (t : ℕ) (h h2 : HostState) → h2 ≡ h → KeepsOthers owned t h h2
-nothing_done owned t h h2 same w is = (w, subst (λ z. IsHost z w) (sym same) is, λ id x not_own live. as_it_was w id x live)
+nothing_done owned t h h2 same w is = (w, subst (λ z. IsHost z w) (sym same) is, λ id x not_own live. (live, refl), λ of l not_own there. there)
+
+module_is : (a b : ModuleId) → a.number ≡ b.number → a ≡ b
+module_is a b same = ap (λ (n : ℕ). (let z : ModuleId = record { number = n } in z)) same
+
+unload_keeps : (owned : OwnershipState) (t : ℕ) (of : ModuleId) (h h2 : HostState) → IsModuleOf owned (Tenant t) of
+    → ((w : World) → IsHost h w → (w2 : World) × IsHost h2 w2 × AllStayBut w of.number w2) → KeepsOthers owned t h h2
+unload_keeps owned t of h h2 own stays w is =
+    let x = stays w is in (
+      x.0,
+      x.1,
+      λ other u not_own live. x.2.0 other u live,
+      λ other l not_own there. x.2.1 other.number l (λ same. not_own (subst (IsModuleOf owned (Tenant t)) (sym (module_is other of same)) own)) there,
+    )
 
 -- What a tenant may ask leaves what isn't its own.
 asked : (owned : OwnershipState) (t : ℕ) (question : Question) (reply : DeskReply) (h h2 : HostState) → MayAsk owned t question → HostReplies h question reply h2 → KeepsOthers owned t h h2
 asked owned t (Load bytes) reply h h2 may a = all_keep owned t h h2 (λ w is. let x = a.2 w is in (x.1, x.4, loaded w x.1 bytes x.0 x.3))
+asked owned t (Unload of) reply h h2 may a =
+    unload_keeps owned t of h h2 may (λ w is. let x = a.2 w is in (x.1, x.4, unloaded w x.1 of.number x.0 x.3))
+asked owned t (Fork id quota) reply h h2 may a =
+    all_keep owned t h h2 (λ w is. let x = a.2 w is in (x.1, x.4, forked w x.1 id (view_quota quota) x.0 is.comes x.4.comes x.3))
 asked owned t (Admit of params) reply h h2 may a =
     all_keep owned t h h2 (λ w is. let x = a.2 w is in (x.1, x.4, admitted w x.1 of.number (view_params params) x.0 x.4.comes x.3))
 asked owned t (Invoke id name given fuel) reply h h2 may a =

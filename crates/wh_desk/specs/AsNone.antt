@@ -5,16 +5,17 @@ use Rattle.wh_host_model.specs.Host.Worlds.{World, loaded_of}
 use Rattle.wh_host_model.specs.Host.Happens.{NoInstance}
 use Rattle.wh_host.specs.declared.parts.ModuleId.{ModuleId}
 use Rattle.wh_host.specs.Hosting.{HostState, IsHost}
-use Rattle.wh_params.specs.declared.Params.{Params}
 use Rattle.wh_desk.specs.declared.trace.Question.{Question}
-use Rattle.wh_desk.specs.declared.trace.Question.TheVariants.{Load, Admit, Invoke, Refuel, Cancel, Retry, Release, BeginEpoch, Status, Report, Transcript}
+use Rattle.wh_desk.specs.declared.trace.Question.TheVariants.{Load, Unload, Admit, Fork, Invoke, Refuel, Cancel, Retry, Release, BeginEpoch, Status, Report, Transcript}
 use Rattle.wh_desk.specs.Permits.{refusal}
 use Rattle.wh_desk.specs.Replying.{HostReplies}
 
 -- the question is about this instance
 abbrev pub IsAbout : Question → InstId → Type 0
 IsAbout (Load bytes) id = ⊥
+IsAbout (Unload of) id = ⊥
 IsAbout (Admit of params) id = ⊥
+IsAbout (Fork asked quota) id = asked ≡ id
 IsAbout (Invoke asked name given fuel) id = asked ≡ id
 IsAbout (Refuel asked fuel) id = asked ≡ id
 IsAbout (Cancel asked) id = asked ≡ id
@@ -25,6 +26,12 @@ IsAbout (Status asked at) id = asked ≡ id
 IsAbout Report id = ⊥
 IsAbout (Transcript asked) id = asked ≡ id
 
+-- the question is for this module
+abbrev pub IsForModule : Question → ModuleId → Type 0
+IsForModule (Unload asked) of = asked ≡ of
+IsForModule (Admit asked params) of = asked ≡ of
+IsForModule question of = ⊥
+
 -- Where there is no such instance, a host replies what a desk replies to who may not ask about it.
 abbrev pub InstancesAsNone : Type 0
 InstancesAsNone =
@@ -34,5 +41,5 @@ InstancesAsNone =
 -- And where there is no such module.
 abbrev pub ModulesAsNone : Type 0
 ModulesAsNone =
-    (h : HostState) (of : ModuleId) (params : Params) → ((w : World) → IsHost h w → loaded_of w of.number ≡ None)
-    → HostReplies h (Admit of params) (refusal (Admit of params)) h
+    (h : HostState) (of : ModuleId) (question : Question) → IsForModule question of
+    → ((w : World) → IsHost h w → loaded_of w of.number ≡ None) → HostReplies h question (refusal question) h

@@ -1,21 +1,25 @@
 -- What a host replies to a question, and what a desk does.
 use Rattle.std.specs.Prelude.{◌≡◌, ℕ, Option, Result, IfErr, IfOk, OnErr, OnOk}
 use Rattle.std.specs.Global.{Vec}
-use Rattle.wh_params.specs.View.{view_params}
+use Rattle.wh_params.specs.View.{view_params, view_quota}
 use Rattle.wh_space_model.specs.declared.plain.InstId.{InstId}
+use Rattle.wh_space_model.specs.Forks.{Copies}
 use Rattle.wh_space_model.specs.Places.{Enters, Exits}
 use Rattle.wh_space_model.specs.Stores.{Epochs, ended}
 use Rattle.wh_host_model.specs.Host.Worlds.{promised}
 use Rattle.wh_host_model.specs.Host.Happens.{IsCancel, IsRefuel, IsRetry}
 use Rattle.wh_admit.specs.declared.error.AdmitError.{AdmitError}
+use Rattle.wh_admit.specs.declared.fork_error.ForkError.{ForkError}
 use Rattle.wh_instance.specs.declared.stages.CallStatus.{CallStatus}
 use Rattle.wh_transcript.specs.Transcripts.{TranscriptState}
 use Rattle.wh_host.specs.declared.error.HostError.{HostError}
 use Rattle.wh_host.specs.declared.error.HostError.TheVariants as hosting
 use Rattle.wh_host.specs.declared.error.ModuleError.{ModuleError}
+use Rattle.wh_host.specs.declared.error.UnloadError.{UnloadError}
 use Rattle.wh_host.specs.declared.parts.ModuleId.{ModuleId}
 use Rattle.wh_host.specs.Admitting.{AnswersAdmit}
 use Rattle.wh_host.specs.CallRequests.{AnswersCall, AnswersInvoke}
+use Rattle.wh_host.specs.ForkAnswers.{AnswersFork, claim_by}
 use Rattle.wh_host.specs.Hosting.{HostState}
 use Rattle.wh_host.specs.Loading.{AnswersLoad}
 use Rattle.wh_host.specs.Paging.{MovesOnly}
@@ -24,8 +28,9 @@ use Rattle.wh_host.specs.Reporting.{ReportsHost, view_report}
 use Rattle.wh_host.specs.declared.report.Report as told
 use Rattle.wh_host.specs.Showing.{ShowsInstance}
 use Rattle.wh_host.specs.Telling.{TellsOf}
+use Rattle.wh_host.specs.Unloading.{AnswersUnload}
 use Rattle.wh_desk.specs.declared.trace.Question.{Question}
-use Rattle.wh_desk.specs.declared.trace.Question.TheVariants.{Load, Admit, Invoke, Refuel, Cancel, Retry, Release, BeginEpoch, Status, Report, Transcript}
+use Rattle.wh_desk.specs.declared.trace.Question.TheVariants.{Load, Unload, Admit, Fork, Invoke, Refuel, Cancel, Retry, Release, BeginEpoch, Status, Report, Transcript}
 use Rattle.wh_desk.specs.declared.trace.TraceEntry.{TraceEntry}
 use Rattle.wh_desk.specs.declared.request.DeskReply.{DeskReply}
 use Rattle.wh_desk.specs.declared.request.DeskReply.TheVariants as says
@@ -36,9 +41,16 @@ abbrev pub HostReplies : HostState → Question → DeskReply → HostState → 
 HostReplies h (Load bytes) reply h2 =
     (r : Result ModuleId ModuleError) × (reply ≡ says.Loaded r) × AnswersLoad h bytes r h2
     × OnErr r (h2 ≡ h)
+HostReplies h (Unload of) reply h2 =
+    (r : Result Unit UnloadError) × (reply ≡ says.Unloaded r) × AnswersUnload h of.number r h2
+    × (h2.space ≡ h.space) × OnErr r (h2 ≡ h)
 HostReplies h (Admit of params) reply h2 =
     (r : Result InstId AdmitError) × (reply ≡ says.Admitted r) × AnswersAdmit h of.number (view_params params) r h2
     × IfOk r (λ id. (size : ℕ) × Enters h.space id.place (promised id.number (view_params params)) size h2.space)
+    × OnErr r (h2 ≡ h)
+HostReplies h (Fork id quota) reply h2 =
+    (r : Result InstId ForkError) × (reply ≡ says.Forked r) × AnswersFork h id (view_quota quota) r h2
+    × IfOk r (λ copy. Copies h.space id.place copy.place (claim_by copy.number (view_quota quota)) h2.space)
     × OnErr r (h2 ≡ h)
 HostReplies h (Invoke id name given fuel) reply h2 =
     (r : Result ℕ HostError) × (reply ≡ says.Invoked r) × AnswersInvoke h id name given fuel r h2

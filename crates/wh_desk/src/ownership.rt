@@ -3,17 +3,17 @@
 ghost use Rattle.std.specs.Prelude.{◌≡◌, IfOk};
 ghost use Rattle.std.specs.Bool.{MatchBool};
 ghost use Rattle.wh_desk.specs.Bounded.{HasRoomToOwn};
-ghost use Rattle.wh_desk.specs.Permits.{IsTenants, MayAdmit, MayAsk, Permits, nothing_owned, ownership_of, refusal};
+ghost use Rattle.wh_desk.specs.Permits.{IsModuleOf, IsTenants, MayAdmit, MayAsk, Permits, nothing_owned, owner_of, ownership_of, refusal};
 ghost use Rattle.wh_desk.specs.Questions.{question_of};
 
 use crate::principal::Principal;
 use crate::request::{DeskReply, DeskRequest};
 use std::alloc::{AllocError, Global};
 use wh_admit::MOST_INSTANCES;
-use wh_host::{AdmitError, HostError, MOST_MODULES, ModuleId};
+use wh_host::{AdmitError, ForkError, HostError, MOST_MODULES, ModuleId, UnloadError};
 use wh_space_model::InstId;
 
-/// A module that was loaded, and whose it is: whoever's asked for it.
+/// A module that is there, and whose it is: whoever's asked for it.
 #[derive(Clone, Copy, Debug, PartialEq, Eq)]
 pub struct OwnedModule {
     /// The module.
@@ -22,7 +22,7 @@ pub struct OwnedModule {
     pub owner: Principal,
 }
 
-/// An instance that is there, and whose it is: whoever's asked for it.
+/// An instance that is there, and whose it is: whoever's asked for it; or, of a copy, whose the instance is that was copied.
 #[derive(Clone, Copy, Debug, PartialEq, Eq)]
 pub struct OwnedInstance {
     /// The instance.
@@ -61,19 +61,18 @@ impl Ownership {
         self.instances.contains(&OwnedInstance { id, owner })
     }
 
+    // Whether a module is whoever's this is.
+    fn is_module_of(&self, who: Principal, of: ModuleId) -> bool
+        ensures { MatchBool result (IsModuleOf (ownership_of self.now) who of) (¬ (IsModuleOf (ownership_of self.now) who of)) }
+    {
+        self.modules.contains(&OwnedModule { id: of, owner: who })
+    }
+
     // Whether a tenant may ask for instances of a module.
     fn may_admit(&self, t: u32, of: ModuleId) -> bool
         ensures { MatchBool result (MayAdmit (ownership_of self.now) t of) (¬ (MayAdmit (ownership_of self.now) t of)) }
     {
-        let own = OwnedModule {
-            id: of,
-            owner: Principal::Tenant(t),
-        };
-        let common = OwnedModule {
-            id: of,
-            owner: Principal::Operator,
-        };
-        self.modules.contains(&own) || self.modules.contains(&common)
+        self.is_module_of(Principal::Tenant(t), of) || self.is_module_of(Principal::Operator, of)
     }
 
     // Whether a tenant may ask this.
@@ -83,7 +82,9 @@ impl Ownership {
     {
         match request {
             DeskRequest::Load { .. } => true,
+            DeskRequest::Unload { of } => self.is_module_of(Principal::Tenant(t), *of),
             DeskRequest::Admit { of, .. } => self.may_admit(t, *of),
+            DeskRequest::Fork { id, .. } => self.is_tenants(t, *id),
             DeskRequest::Invoke { id, .. } => self.is_tenants(t, *id),
             DeskRequest::Refuel { id, .. } => self.is_tenants(t, *id),
             DeskRequest::Cancel { id } => self.is_tenants(t, *id),
@@ -106,6 +107,18 @@ impl Ownership {
             Principal::Tenant(t) => self.may_ask(t, request),
         }
     }
+
+    /// Returns whose an instance is; the operator, where it is nobody's.
+    pub fn owner_of(&self, id: InstId) -> Principal
+        ensures { result ≡ owner_of id (ownership_of self.now).instances }
+    {
+        for owned in self.instances.iter() {
+            if owned.id.number == id.number {
+                return owned.owner;
+            }
+        }
+        Principal::Operator
+    }
 }
 
 /// Returns what is replied to who may not ask this.
@@ -117,7 +130,9 @@ pub fn refuse(request: &DeskRequest<'_>) -> DeskReply
         DeskRequest::Load { .. } | DeskRequest::BeginEpoch | DeskRequest::Report => {
             DeskReply::NotAllowed
         }
+        DeskRequest::Unload { .. } => DeskReply::Unloaded(Err(UnloadError::NoModule)),
         DeskRequest::Admit { .. } => DeskReply::Admitted(Err(AdmitError::NoModule)),
+        DeskRequest::Fork { .. } => DeskReply::Forked(Err(ForkError::NoInstance)),
         DeskRequest::Invoke { .. } => DeskReply::Invoked(Err(none)),
         DeskRequest::Refuel { .. } => DeskReply::Done(Err(none)),
         DeskRequest::Cancel { .. } | DeskRequest::Retry { .. } => DeskReply::Done(Err(none)),

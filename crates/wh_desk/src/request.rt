@@ -2,7 +2,8 @@
 
 use std::alloc::Global;
 use wh_host::{
-    AdmitError, CallStatus, HostError, ModuleError, ModuleId, Params, Report, Transcript,
+    AdmitError, CallStatus, ForkError, HostError, ModuleError, ModuleId, Params, Quota, Report,
+    Transcript, UnloadError,
 };
 use wh_space_model::InstId;
 
@@ -13,10 +14,20 @@ pub enum DeskRequest<'a> {
     Load {
         bytes: &'a [u8],
     },
+    /// Asks for a module to be let go that no instance is of.
+    Unload {
+        of: ModuleId,
+    },
     /// Asks for an instance of a module to be admitted, which is whoever's asks for it.
     Admit {
         of: ModuleId,
         params: Params,
+    },
+    /// Asks for an instance without an open call to be copied, with a quota of its own. The copy is whose the instance is, whoever
+    /// asks.
+    Fork {
+        id: InstId,
+        quota: Quota,
     },
     /// Asks for a call of the function that an instance's module exports as `name`, with these arguments and as many charges at
     /// most.
@@ -63,8 +74,12 @@ pub enum DeskRequest<'a> {
 pub enum DeskReply {
     /// To `Load`: the module's number, or why it isn't kept.
     Loaded(Result<ModuleId, ModuleError>),
+    /// To `Unload`: that it is gone, or why it isn't.
+    Unloaded(Result<(), UnloadError>),
     /// To `Admit`: the instance, or why it isn't admitted.
     Admitted(Result<InstId, AdmitError>),
+    /// To `Fork`: the copy, or why there is none.
+    Forked(Result<InstId, ForkError>),
     /// To `Invoke`: the call's place in the journal, or why it isn't taken.
     Invoked(Result<u32, HostError>),
     /// To `Refuel`, `Cancel` and `Retry`: that it is done, or why it isn't.

@@ -7,7 +7,7 @@ ghost use Rattle.wh_desk.specs.Permits.{Permits, owned_after, ownership_of};
 ghost use Rattle.wh_desk.specs.Questions.{question_of};
 ghost use Rattle.wh_desk.specs.Replying.{IsRight};
 ghost use Rattle.wh_desk.specs.Tracing.{entry};
-ghost use Rattle.wh_desk.specs.declared.request.DeskReply.TheVariants.{Admitted, Loaded, Released};
+ghost use Rattle.wh_desk.specs.declared.request.DeskReply.TheVariants.{Admitted, Forked, Loaded, Released, Unloaded};
 ghost use Rattle.wh_desk.specs.declared.trace.Question.TheVariants as asked;
 
 use crate::ownership::{OwnedInstance, OwnedModule, Ownership, refuse};
@@ -17,8 +17,8 @@ use std::alloc::Global;
 use std::sync::ledger::Ledger;
 use wh_cell::{CellAgreements, Locked, Owner};
 use wh_host::{
-    Admit, AdmitError, BeginEpoch, Cancel, HostError, Invoke, Load, ModuleError, ModuleId, Refuel,
-    Release, Request, Retry,
+    Admit, AdmitError, BeginEpoch, Cancel, Fork, ForkError, HostError, Invoke, Load, ModuleError,
+    ModuleId, Refuel, Release, Request, Retry, Unload, UnloadError,
 };
 use wh_space_model::InstId;
 use wh_swap::SwapDev;
@@ -63,6 +63,29 @@ fn load<D: SwapDev, T: Ledger, C: Ledger, O: Ledger, E: Ledger, B: CellAgreement
     Ok(id)
 }
 
+// Has the host let a module go, which is then nobody's.
+fn unload<D: SwapDev, T: Ledger, C: Ledger, O: Ledger, E: Ledger, B: CellAgreements>(
+    locked: &mut Locked<D, T, C, O, E, B>,
+    owner: &mut Owner<D, B>,
+    ownership: &mut Ownership,
+    who: Principal,
+    request: Unload,
+) -> Result<(), UnloadError>
+    requires known { owner.old ≡ now_of locked.old }
+    requires room { HasRoomToOwn ownership.old }
+    requires permitted { Permits (ownership_of ownership.old) who (asked.Unload request.id) }
+    ensures right { IsRight (ownership_of ownership.old)
+        (entry who (asked.Unload request.id) (Unloaded result) owner.old owner.new) }
+    ensures owned { ownership_of ownership.new ≡ owned_after who (asked.Unload request.id)
+        (Unloaded result) (ownership_of ownership.old) }
+    ensures room { HasRoomToOwn ownership.new }
+{
+    let of = request.id;
+    ask(locked, owner, request)?;
+    ownership.modules.retain(|x| x.id.number != of.number);
+    Ok(())
+}
+
 // Has the host admit an instance, which is then whoever's asks.
 fn admit<D: SwapDev, T: Ledger, C: Ledger, O: Ledger, E: Ledger, B: CellAgreements>(
     locked: &mut Locked<D, T, C, O, E, B>,
@@ -86,6 +109,33 @@ fn admit<D: SwapDev, T: Ledger, C: Ledger, O: Ledger, E: Ledger, B: CellAgreemen
     ownership
         .instances
         .push_reserved(OwnedInstance { id, owner: who });
+    Ok(id)
+}
+
+// Has the host copy an instance. The copy is whose the instance is, whoever asks.
+fn fork<D: SwapDev, T: Ledger, C: Ledger, O: Ledger, E: Ledger, B: CellAgreements>(
+    locked: &mut Locked<D, T, C, O, E, B>,
+    owner: &mut Owner<D, B>,
+    ownership: &mut Ownership,
+    who: Principal,
+    request: Fork,
+) -> Result<InstId, ForkError>
+    requires known { owner.old ≡ now_of locked.old }
+    requires owns { OwnsAll (ownership_of ownership.old) owner.old.host }
+    requires room { HasRoomToOwn ownership.old }
+    requires permitted { Permits (ownership_of ownership.old) who
+        (asked.Fork request.id request.quota) }
+    ensures right { IsRight (ownership_of ownership.old)
+        (entry who (asked.Fork request.id request.quota) (Forked result) owner.old owner.new) }
+    ensures owned { ownership_of ownership.new ≡ owned_after who
+        (asked.Fork request.id request.quota) (Forked result) (ownership_of ownership.old) }
+    ensures room { HasRoomToOwn ownership.new }
+{
+    let whose = ownership.owner_of(request.id);
+    let id = ask(locked, owner, request)?;
+    ownership
+        .instances
+        .push_reserved(OwnedInstance { id, owner: whose });
     Ok(id)
 }
 
@@ -139,9 +189,17 @@ pub fn respond<D: SwapDev, T: Ledger, C: Ledger, O: Ledger, E: Ledger, B: CellAg
             let request = Load { alloc, bytes };
             DeskReply::Loaded(load(locked, owner, ownership, who, request))
         }
+        DeskRequest::Unload { of } => {
+            let request = Unload { id: of };
+            DeskReply::Unloaded(unload(locked, owner, ownership, who, request))
+        }
         DeskRequest::Admit { of, params } => {
             let request = Admit { alloc, of, params };
             DeskReply::Admitted(admit(locked, owner, ownership, who, request))
+        }
+        DeskRequest::Fork { id, quota } => {
+            let request = Fork { alloc, id, quota };
+            DeskReply::Forked(fork(locked, owner, ownership, who, request))
         }
         DeskRequest::Invoke {
             id,

@@ -4,7 +4,7 @@ use crate::principal::Principal;
 use crate::request::DeskReply;
 use std::collections::LinkedList;
 use wh_cell::AgreedHost;
-use wh_host::{ModuleId, Params};
+use wh_host::{ModuleId, Params, Quota};
 use wh_space_model::InstId;
 use wh_threads::AgreedValue;
 
@@ -13,9 +13,16 @@ pub enum Question {
     Load {
         bytes: LinkedList<u8>,
     },
+    Unload {
+        of: ModuleId,
+    },
     Admit {
         of: ModuleId,
         params: Params,
+    },
+    Fork {
+        id: InstId,
+        quota: Quota,
     },
     Invoke {
         id: InstId,

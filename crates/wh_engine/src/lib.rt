@@ -1,8 +1,8 @@
 //! What a script has made on a host: one command after the other, and runs of all calls between them.
 #![tactic(auto)]
 
+mod asked_instances;
 mod asking;
-mod awake;
 mod ending;
 mod fault;
 mod finding;

@@ -7,7 +7,7 @@ ghost use Rattle.wh_script_model.specs.Settings.{Settings};
 ghost use Rattle.wh_host.specs.Hosting.{IsNewHost};
 ghost use Rattle.wh_engine.specs.RepresentedScript.{RepresentsScript};
 
-use crate::awake::AskedInstances;
+use crate::asked_instances::AskedInstances;
 use crate::parts::{Invoked, NamedInstance};
 use std::alloc::Global;
 use std::marker::Model;

@@ -3,7 +3,7 @@ use Rattle.std.proofs.Common.{◌≡◌, ◌≤◌, ◌<◌, ℕ, ℤ, List, [],
 use Rattle.std.specs.Global.{Vec}
 use Rattle.wh_space_model.specs.declared.plain.InstId.{InstId}
 use Rattle.wh_space_model.specs.{Space}
-use Rattle.wh_host_model.specs.Host.{Rest, Tenant, World, with_tenant, live_count, LetsIn, MeetsFault, rest_of, Closes, faces_next, is_dead, Cancels, Refuels, has_more, Retries, may_try, Event, load, admit, invoke, refuel, cancel, retry, release, fork, IsLive, IsFork, fork_ok, is_forked, LoadAnswer, InvokeAnswer, CallAnswer, IsLoad, IsAdmit, IsInvoke, IsRefuel, IsCancel, IsRetry, IsRelease, is_loaded, isnt_loaded, no_memory_to_load, is_admitted, admit_ok, is_invoked, has_no_instance, isnt_invoked, no_memory_to_invoke, is_refueled, no_one_to_refuel, no_call_to_refuel, is_cancelled, no_one_to_cancel, no_call_to_cancel, is_retried, no_one_to_retry, no_fault_to_retry, is_released, no_one_to_release}
+use Rattle.wh_host_model.specs.Host.{Rest, Tenant, World, with_tenant, live_count, LetsIn, MeetsFault, rest_of, Closes, faces_next, is_dead, Cancels, Refuels, has_more, Retries, may_try, Event, load, admit, invoke, refuel, cancel, retry, release, fork, unload, IsLive, IsFork, fork_ok, is_forked, LoadAnswer, UnloadAnswer, IsUnload, is_in_use, is_unloaded, no_module_to_unload, InvokeAnswer, CallAnswer, IsLoad, IsAdmit, IsInvoke, IsRefuel, IsCancel, IsRetry, IsRelease, is_loaded, isnt_loaded, no_memory_to_load, is_admitted, admit_ok, is_invoked, has_no_instance, isnt_invoked, no_memory_to_invoke, is_refueled, no_one_to_refuel, no_call_to_refuel, is_cancelled, no_one_to_cancel, no_call_to_cancel, is_retried, no_one_to_retry, no_fault_to_retry, is_released, no_one_to_release}
 use Rattle.wh_host_model.specs.{Entry, Params, instances, most_instances}
 use Rattle.wh_host_model.specs.Owners.{Quota, not_admitted, with_quota}
 use Rattle.wh_host_model.specs.Host.OwnerCalls.{ends}
@@ -22,6 +22,8 @@ use Rattle.wh_host.specs.ForkAnswers.{AnswersFork}
 use Rattle.wh_host.specs.Requests.{IsCallRequest, LeadsByCallRequest}
 use Rattle.wh_host.specs.Backing.{KeepsBacking}
 use Rattle.wh_host.specs.Loading.{AnswersLoad}
+use Rattle.wh_host.specs.Unloading.{AnswersUnload}
+use Rattle.wh_host.specs.declared.error.UnloadError.{UnloadError}
 use Rattle.wh_host.specs.Paging.{IsGoing, Tells}
 use Rattle.wh_host.specs.Releasing.{AnswersRelease}
 use Rattle.wh_hand.specs.HandStates.{IsInOneHand}
@@ -178,6 +180,18 @@ forked_comes w w2 id copy q (is_forked {t = t} live forks) =
     one_comes w w2 (fork id q) copy (copy_of t q copy.place) forks.space (fork_ok copy, is_forked live forks)
     (few_before w t.of (with_quota t.params q) (forks.no_fault (not_admitted instances))) forks.next refl forks.after
 
+pub unloaded_asked : (w w2 : World) (k : ℕ) (answer : UnloadAnswer) (id : InstId) → IsUnload w k answer w2 → Asked id w w2
+unloaded_asked w w2 k answer id (is_unloaded goes) =
+    let same : w2.tenants ≡ w.tenants = ap (λ (z : World). z.tenants) goes.after in
+    record {
+      event = unload k;
+      happens = (answer, is_unloaded goes);
+      others = others_of_all id w w2 (same_all w w2 same);
+      live = (let e = ap live_count same in omega (arith, e));
+    }
+unloaded_asked w w2 k answer id (no_module_to_unload none) = nothing_asked (unload k) id w (answer, no_module_to_unload none)
+unloaded_asked w w2 k answer id (is_in_use i there live of) = nothing_asked (unload k) id w (answer, is_in_use i there live of)
+
 -- ---- what the code represents
 
 led_on : (h h2 : HostState) (R : World → World → Type 0) → ((w w2 : World) → R w w2 → (e : Event) × Happens w e w2)
@@ -191,6 +205,10 @@ led_on h h2 R happens leads led =
 pub load_leads : (h h2 : HostState) (bytes : List ℕ) (result : Result ModuleId ModuleError) (id : InstId) → AnswersLoad h bytes result h2
     → Leads h (Asked id) h2
 load_leads h h2 bytes result id answers w st = let x = answers w st in (x.1, loaded_asked w x.1 bytes x.0 id x.3, x.4)
+
+pub unload_leads : (h h2 : HostState) (k : ℕ) (result : Result Unit UnloadError) (id : InstId) → AnswersUnload h k result h2
+    → Leads h (Asked id) h2
+unload_leads h h2 k result id answers w st = let x = answers w st in (x.1, unloaded_asked w x.1 k x.0 id x.3, x.4)
 
 pub call_leads : (h h2 : HostState) (id : InstId) → LeadsByCallRequest h id h2 → Leads h (Asked id) h2
 call_leads h h2 id leads w st = let x = leads w st in (x.1, call_asked w x.1 id x.0 x.2 x.3, x.4)
@@ -278,6 +296,27 @@ loaded_in_hand h h2 bytes result held line room a answers keeps =
       together = together_on h.space h2.space held keeps a.together;
       lists = lists_on h h2 line
           (keeps_all h h2 (a.led.0, a.led.1) (λ w st. (let x = answers w st in (x.1, loaded_all w x.1 bytes x.0 x.3, x.4)))) a.lists;
+      few = asked_few h h2 none a.led a.few leads;
+      enough = a.enough;
+    }
+
+-- ---- a module goes
+
+unloaded_all : (w w2 : World) (k : ℕ) (answer : UnloadAnswer) → IsUnload w k answer w2 → SameAll w w2
+unloaded_all w w2 k answer (is_unloaded goes) = same_all w w2 (ap (λ (z : World). z.tenants) goes.after)
+unloaded_all w w2 k answer (no_module_to_unload none) = same_all w w refl
+unloaded_all w w2 k answer (is_in_use i there live of) = same_all w w refl
+
+pub unloaded_in_hand : (h h2 : HostState) (k : ℕ) (result : Result Unit UnloadError) (held : List (List ℕ)) (line : List InstId) (room : ℕ)
+    → IsInOneHand h held line room → AnswersUnload h k result h2 → KeepsBacking h.space h2.space → IsInOneHand h2 held line room
+unloaded_in_hand h h2 k result held line room a answers keeps =
+    let none : InstId = record { place = 0; number = 0 } in
+    let leads = unload_leads h h2 k result none answers in
+    record {
+      led = led_on h h2 (Asked none) (λ w w2 x. (x.event, x.happens)) leads a.led;
+      together = together_on h.space h2.space held keeps a.together;
+      lists = lists_on h h2 line
+          (keeps_all h h2 (a.led.0, a.led.1) (λ w st. (let x = answers w st in (x.1, unloaded_all w x.1 k x.0 x.3, x.4)))) a.lists;
       few = asked_few h h2 none a.led a.few leads;
       enough = a.enough;
     }

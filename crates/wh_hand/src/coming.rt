@@ -1,4 +1,4 @@
-//! How modules and instances come to a hand.
+//! How modules and instances come to a hand, and how modules go.
 
 ghost use Rattle.std.specs.Prelude.{◌≡◌, ℕ, IfOk, OnErr};
 ghost use Rattle.wh_params.specs.View.{view_params, view_quota};
@@ -9,11 +9,12 @@ ghost use Rattle.wh_host.specs.Admitting.{AnswersAdmit};
 ghost use Rattle.wh_host.specs.Backing.{KeepsBacking};
 ghost use Rattle.wh_host.specs.ForkAnswers.{AnswersFork, claim_by};
 ghost use Rattle.wh_host.specs.Loading.{AnswersLoad};
+ghost use Rattle.wh_host.specs.Unloading.{AnswersUnload};
 
 use crate::hand::Hand;
 use crate::line::settle;
 use std::alloc::Global;
-use wh_host::{AdmitError, ForkError, ModuleError, ModuleId, Params, Quota};
+use wh_host::{AdmitError, ForkError, ModuleError, ModuleId, Params, Quota, UnloadError};
 use wh_space_model::InstId;
 
 impl Hand {
@@ -30,6 +31,20 @@ impl Hand {
         ensures output { self.new.output ≡ self.old.output }
     {
         self.host.load(alloc, bytes)
+    }
+
+    /// Lets a module go that no instance is of: its memory is free, and its number never used again.
+    ///
+    /// # Errors
+    /// Those of `Host::unload`: `NoModule`; `InUse` if an instance of it is there. Nothing is done then.
+    pub fn unload(&mut self, id: ModuleId) -> Result<(), UnloadError>
+        ensures unloads { AnswersUnload self.old.host id.number result self.new.host }
+        ensures err { OnErr result (self.new ≡ self.old) }
+        ensures backing { KeepsBacking self.old.host.space self.new.host.space }
+        ensures memory { self.new.host.space ≡ self.old.host.space }
+        ensures output { self.new.output ≡ self.old.output }
+    {
+        self.host.unload(id)
     }
 
     /// Admits an instance of a module, with what its owner gives it. All that it will ever need is reserved now. Its start runs

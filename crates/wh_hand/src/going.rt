@@ -14,7 +14,7 @@ ghost use Rattle.wh_hand.specs.Moved.{IsMoved};
 ghost use Rattle.wh_hand.specs.RunParts.{RunsPart, quantum};
 
 use crate::line::settle;
-use crate::pace::OfferPace;
+use crate::offer_pace::OfferPace;
 use std::collections::VecDeque;
 use wh_host::Host;
 use wh_kernels::{FnvHash, PageHash};

@@ -4,11 +4,11 @@ ghost use Rattle.std.specs.Prelude.{◌≡◌, [], IfOk};
 ghost use Rattle.wh_host.specs.Hosting.{IsNewHost};
 ghost use Rattle.wh_hand.specs.HandStates.{IsSoundByEvents};
 
-use crate::line::MOST_INSTANCES;
-use crate::pace::OfferPace;
+use crate::offer_pace::OfferPace;
 use std::alloc::{AllocError, Global};
 use std::collections::VecDeque;
 use std::marker::Model;
+use wh_admit::MOST_INSTANCES;
 use wh_host::Host;
 use wh_reclaim::Buf;
 use wh_space_model::{InstId, Tax};

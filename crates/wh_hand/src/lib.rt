@@ -10,7 +10,7 @@ mod coming;
 mod going;
 mod hand;
 mod line;
-mod pace;
+mod offer_pace;
 mod releasing;
 mod running;
 mod sharing;
@@ -21,5 +21,6 @@ pub use running::Ran;
 pub use wh_host::{
     AdmitError, CallRequest, CallStatus, CallValue, Cancel, ForkError, HostError, InstanceReport,
     Invoke, ModuleError, ModuleId, Params, Quota, Refuel, Report, Retry, Suspension, Transcript,
+    UnloadError,
 };
 pub use wh_space_model::{InstId, Tax};

@@ -8,9 +8,6 @@ use std::collections::VecDeque;
 use wh_host::Host;
 use wh_space_model::InstId;
 
-/// How many instances a host has at most, and so how many can go on.
-pub const MOST_INSTANCES: usize = 4096;
-
 // Takes an instance out of the line.
 fn leave(line: &mut VecDeque<InstId>, id: InstId)
     ensures items { line.new.items ≡ filter (differs id) line.old.items }

@@ -26,7 +26,7 @@ use Rattle.wh_host_model.specs.declared.plain.TurnEnd.{TurnEnd}
 use Rattle.wh_host_model.specs.declared.plain.TurnEnd.TheVariants as turn_answer
 use Rattle.wh_host.specs.Series.{IsWholeOrCut}
 use Rattle.wh_instance.proofs.Finished.{finishes, may_finish}
-use Rattle.wh_overlay.specs.LaidPages.{UpperState, with_upper}
+use Rattle.wh_overlay.specs.LaidPages.{OverlayPagesState, with_upper}
 use Rattle.wh_overlay.specs.LaidBack.{ComesThere, IsLaid, LooksSame, ProceedsThere}
 use Rattle.wh_overlay.specs.Over.{IsOverSame, IsReadyOver, IsWholeOver, OverlayState, sees}
 use Rattle.wh_overlay.proofs.LaidTakes.{Laying, proceeds_laid, proceeds_none, whole_there}
@@ -104,10 +104,10 @@ can_from s i came.Fuel n q answer2 q2 x still (same, many) again = absurd (let b
 -- ---- one that has run
 
 -- nothing is written yet
-none_whole : (s : Space) (i : ℕ) (first u : UpperState) → first.pages ≡ [] → first.reads ≡ [] → first.grown ≡ 0 → first.taken ≡ 0 → IsWholeOver s i u → IsWholeOver s i first
+none_whole : (s : Space) (i : ℕ) (first u : OverlayPagesState) → first.pages ≡ [] → first.reads ≡ [] → first.grown ≡ 0 → first.taken ≡ 0 → IsWholeOver s i u → IsWholeOver s i first
 none_whole s i first u none unread same taken (over, whole) = search rules
 
-pub none_seen : (s : Space) (i : ℕ) (first : UpperState) → first.pages ≡ [] → first.reads ≡ [] → first.grown ≡ 0 → with_upper (view s i) first ≡ view s i
+pub none_seen : (s : Space) (i : ℕ) (first : OverlayPagesState) → first.pages ≡ [] → first.reads ≡ [] → first.grown ≡ 0 → with_upper (view s i) first ≡ view s i
 none_seen s i first none unread same = sym (none_laid s i first none unread same).sees
 
 abbrev pub most_of : ℕ → Space → ℕ → ℕ
@@ -117,18 +117,18 @@ most_is : (l : LinkedState) (limit : ℕ) (s0 s : Space) (place : ℕ) (x : Host
 most_is l limit s0 s place x t looks lies = min-eq_left (subst (λ (c : Option Claimed). limit ≤ limit_by c) looks.claim lies.within)
 
 -- it is the instance that lies in the memory
-pub over_none : (l : LinkedState) (limit : ℕ) (s0 s : Space) (place : ℕ) (x : HostInstanceState) (t : Tenant) (first : UpperState) → LooksSame place s0 s → LiesAt l limit x s place t → first.pages ≡ [] → first.reads ≡ [] → first.grown ≡ 0
+pub over_none : (l : LinkedState) (limit : ℕ) (s0 s : Space) (place : ℕ) (x : HostInstanceState) (t : Tenant) (first : OverlayPagesState) → LooksSame place s0 s → LiesAt l limit x s place t → first.pages ≡ [] → first.reads ≡ [] → first.grown ≡ 0
     → RepresentsTenant (beside_setting l limit s0 place) x (memory_with s0 place limit first) t
 over_none l limit s0 s place x t first looks lies none unread same = search (rules, none_seen, represents_over, most_is)
 
 pub looks_itself : (i : ℕ) (s : Space) → LooksSame i s s
 looks_itself i s = record { table = refl; sees = refl; claim = refl }
 
-parts_of : (o : OverlayState) (s : Space) (i l : ℕ) (u : UpperState) → o.lower ≡ s → o.place ≡ i → o.page_limit ≡ l → o.upper ≡ u → o ≡ memory_with s i l u
+parts_of : (o : OverlayState) (s : Space) (i l : ℕ) (u : OverlayPagesState) → o.lower ≡ s → o.place ≡ i → o.page_limit ≡ l → o.upper ≡ u → o ≡ memory_with s i l u
 parts_of o s i l u a b c d = rw (← a, ← b, ← c, ← d) refl
 
 -- what is known of one that has run over it
-pub ran_beside : (l : LinkedState) (limit q : ℕ) (s : Space) (place : ℕ) (x : HostInstanceState) (t : Tenant) (o o2 : OverlayState) (answer : TurnOutcome) (k n : ℕ) (x1 : HostInstanceState) (first u : UpperState) → IsAtTerm t → LiesAt l limit x s place t → o ≡ memory_with s place limit first → first.pages ≡ [] → first.grown ≡ 0 → first.taken ≡ 0 → first.reads ≡ []
+pub ran_beside : (l : LinkedState) (limit q : ℕ) (s : Space) (place : ℕ) (x : HostInstanceState) (t : Tenant) (o o2 : OverlayState) (answer : TurnOutcome) (k n : ℕ) (x1 : HostInstanceState) (first u : OverlayPagesState) → IsAtTerm t → LiesAt l limit x s place t → o ≡ memory_with s place limit first → first.pages ≡ [] → first.grown ≡ 0 → first.taken ≡ 0 → first.reads ≡ []
     → IsOverSame o o2 → u ≡ o2.upper → IsWholeOver o2.lower o2.place u → StaysBut x x1 → AdvancesAny (setting_of l sees IsReadyOver IsOverSame (min o.page_limit (page_limit o.lower o.place))) q x o answer k n x1 o2 → RunsBeside l limit q s place x t answer k n x1 u
 ran_beside l limit q s place x t o o2 answer k n x1 first u computes lies is none same taken unread keeps upper whole stays advances =
     let keeps2 = subst (λ (z : OverlayState). IsOverSame z o2) is keeps in
@@ -141,7 +141,7 @@ ran_beside l limit q s place x t o o2 answer k n x1 first u computes lies is non
       not_grown = same;
       none_taken = taken;
       no_reads = unread;
-      lent = ap (λ (z : UpperState). z.lent) upper ∙ keeps2.lent;
+      lent = ap (λ (z : OverlayPagesState). z.lent) upper ∙ keeps2.lent;
       whole = subst (λ (z : OverlayState). IsWholeOver z.lower z.place u) is2 whole;
       stays = stays;
       advances = λ e es is_open. subst (λ z. AdvancesTenant (beside_setting l limit s place) q (memory_with s place limit first) t e es answer k n x1 z) is2
@@ -149,7 +149,7 @@ ran_beside l limit q s place x t o o2 answer k n x1 first u computes lies is non
     }
 
 -- it can begin there
-pub may_run : (l : LinkedState) (limit : ℕ) (s : Space) (place : ℕ) (x : HostInstanceState) (t : Tenant) (o : OverlayState) (first : UpperState) → IsAtTerm t → LiesAt l limit x s place t → o ≡ memory_with s place limit first → first.pages ≡ [] → first.grown ≡ 0 → first.reads ≡ []
+pub may_run : (l : LinkedState) (limit : ℕ) (s : Space) (place : ℕ) (x : HostInstanceState) (t : Tenant) (o : OverlayState) (first : OverlayPagesState) → IsAtTerm t → LiesAt l limit x s place t → o ≡ memory_with s place limit first → first.pages ≡ [] → first.grown ≡ 0 → first.reads ≡ []
     → HasOpenCall (setting_of l sees IsReadyOver IsOverSame (min o.page_limit (page_limit o.lower o.place))) x o
 may_run l limit s place x t o first computes lies is none same unread = (
   t,
@@ -157,7 +157,7 @@ may_run l limit s place x t o first computes lies is none same unread = (
   subst (λ (z : OverlayState). RepresentsTenant (setting_of l sees IsReadyOver IsOverSame (min z.page_limit (page_limit z.lower z.place))) x z t) (sym is) (over_none l limit s s place x t first (looks_itself place s) lies none unread same),
 )
 
-module _ (l : LinkedState) (limit q : ℕ) (s0 s : Space) (place : ℕ) (x : HostInstanceState) (t : Tenant) (answer : TurnOutcome) (k n : ℕ) (x1 : HostInstanceState) (u : UpperState) (h : HasRun l limit q s0 s place x t answer k n x1 u) where
+module _ (l : LinkedState) (limit q : ℕ) (s0 s : Space) (place : ℕ) (x : HostInstanceState) (t : Tenant) (answer : TurnOutcome) (k n : ℕ) (x1 : HostInstanceState) (u : OverlayPagesState) (h : HasRun l limit q s0 s place x t answer k n x1 u) where
   least : most_of limit s0 place ≡ limit
   least = most_is l limit s0 s place x t h.looks h.lies
 
@@ -178,7 +178,7 @@ module _ (l : LinkedState) (limit q : ℕ) (s0 s : Space) (place : ℕ) (x : Hos
       within_turn c.entry.call (h.runs.advances c.entry c.others c.calls).proceeds
 
 -- it is written back, and finished
-pub record Finishing (l : LinkedState) (limit q : ℕ) (s0 s : Space) (place : ℕ) (x : HostInstanceState) (t : Tenant) (answer : TurnOutcome) (k n : ℕ) (x1 : HostInstanceState) (u : UpperState) (s2 : Space) (answer2 : TurnOutcome) (q2 : ℕ) (made : TurnResult) (x3 : HostInstanceState) : Type 0 where
+pub record Finishing (l : LinkedState) (limit q : ℕ) (s0 s : Space) (place : ℕ) (x : HostInstanceState) (t : Tenant) (answer : TurnOutcome) (k n : ℕ) (x1 : HostInstanceState) (u : OverlayPagesState) (s2 : Space) (answer2 : TurnOutcome) (q2 : ℕ) (made : TurnResult) (x3 : HostInstanceState) : Type 0 where
   pub run : HasRun l limit q s0 s place x t answer k n x1 u
   pub sound : IsSound s
   pub laid : 1 ≤ n → IsLaid s place u s2
@@ -187,7 +187,7 @@ pub record Finishing (l : LinkedState) (limit q : ℕ) (s0 s : Space) (place : �
   pub there : CameThere s2 place answer n q answer2 q2
   pub is_finished : (c : JournalCallState) (cs : List JournalCallState) → x1.journal.open_calls ≡ c ∷ cs → IsFinished x1 answer2 k n c cs made x3
 
-module _ (l : LinkedState) (limit q : ℕ) (s0 s : Space) (place : ℕ) (x : HostInstanceState) (t : Tenant) (answer : TurnOutcome) (k n : ℕ) (x1 : HostInstanceState) (u : UpperState) (s2 : Space) (answer2 : TurnOutcome) (q2 : ℕ) (made : TurnResult) (x3 : HostInstanceState)
+module _ (l : LinkedState) (limit q : ℕ) (s0 s : Space) (place : ℕ) (x : HostInstanceState) (t : Tenant) (answer : TurnOutcome) (k n : ℕ) (x1 : HostInstanceState) (u : OverlayPagesState) (s2 : Space) (answer2 : TurnOutcome) (q2 : ℕ) (made : TurnResult) (x3 : HostInstanceState)
     (h : Finishing l limit q s0 s place x t answer k n x1 u s2 answer2 q2 made x3)
   where
     -- the setting of the whole
@@ -216,9 +216,9 @@ module _ (l : LinkedState) (limit q : ℕ) (s0 s : Space) (place : ℕ) (x : Hos
               let none : n ≡ 0 = omega (arith, most) in
               let goes = subst (λ d. Proceeds sees IsReadyOver IsOverSame t.inst q e.call (memory_with s0 place limit runs.first) t.rest d a.to k n (memory_with s0 place limit u) a.rest a.doing) doing a.proceeds in
               let same : u ≡ runs.first = ap (λ (o : OverlayState). o.upper) (proceeds_none none goes) in
-              let pages : u.pages ≡ [] = ap (λ (z : UpperState). z.pages) same ∙ runs.no_pages in
-              let reads : u.reads ≡ [] = ap (λ (z : UpperState). z.reads) same ∙ runs.no_reads in
-              let grown : u.grown ≡ 0 = ap (λ (z : UpperState). z.grown) same ∙ runs.not_grown in
+              let pages : u.pages ≡ [] = ap (λ (z : OverlayPagesState). z.pages) same ∙ runs.no_pages in
+              let reads : u.reads ≡ [] = ap (λ (z : OverlayPagesState). z.reads) same ∙ runs.no_reads in
+              let grown : u.grown ≡ 0 = ap (λ (z : OverlayPagesState). z.grown) same ∙ runs.not_grown in
               subst (IsLaid s place u) (sym (h.left none)) (none_laid s place u pages reads grown))
         ]
 

@@ -7,7 +7,7 @@ use Rattle.wh_model.specs.Format.Syntax.{Limits}
 use Rattle.wh_model.specs.Execution.{first_size, last_size, fragments}
 use Rattle.wh_space_model.specs.declared.plain.InstId.{InstId}
 use Rattle.wh_space_model.specs.{Space, minima, spreads, view, Enters, HasRoomFor}
-use Rattle.wh_host_model.specs.Host.{Arrives, Event, Tenant, World, promised, StartsAs, MeetsFault, LetsIn, rest_of, admit, admit_ok, admit_refused, IsAdmit, is_admitted, isnt_admitted, no_memory_to_admit}
+use Rattle.wh_host_model.specs.Host.{Arrives, Event, Tenant, World, loaded_of, promised, StartsAs, MeetsFault, LetsIn, rest_of, admit, admit_ok, admit_refused, IsAdmit, is_admitted, isnt_admitted, no_memory_to_admit}
 use Rattle.wh_host_model.specs.Host.Happens.{Happens}
 use Rattle.wh_host_model.specs.{Params, given_of, AdmitFault, no_module, shares, min_max, frames, swap, instances, memory, segments, admit_rank}
 use Rattle.wh_host_model.proofs.Host.Bridges.{entrants_arrive}
@@ -24,17 +24,19 @@ use Rattle.wh_instance.specs.Tenancy.{IsTenant}
 use Rattle.wh_space.specs.Arrivals.{claimed}
 use Rattle.wh_space.specs.declared.occupant_entry.Promise.{Promise}
 use Rattle.wh_host.specs.declared.parts.LoadedModule.{LoadedModule}
+use Rattle.wh_host.specs.declared.parts.ModuleRef.{ModuleRef}
+use Rattle.wh_host.specs.ModuleLists.{HasNoRef, Rise}
 use Rattle.wh_host.specs.declared.parts.InstanceEntry.{InstanceEntry}
 use Rattle.wh_host.specs.Admitting.{BeginsEntry, EntersNext, fault_answer}
-use Rattle.wh_host.specs.Hosting.{AreGivenAs, HostState, IsHost, IsEntryOf, loaded_as, entry_at}
+use Rattle.wh_host.specs.Hosting.{AreGivenAs, HostState, IsHost, IsEntryOf, loaded_as, entry_at, module_in}
 use Rattle.wh_host.proofs.Hosts.{moved_on, one_more, one_value, comes_on, same_or_not}
-use Rattle.wh_host.proofs.Requests.{module_there, no_module_there, sound_here}
+use Rattle.wh_host.proofs.Requests.{no_module_there, sound_here}
 
 -- ---- before it
 
-pub stands : (h : HostState) (w : World) (k : ℕ) (m : LoadedModule) (room : Room) → IsHost h w → slice_get h.modules k ≡ Some m → room.frames + minima h.space ≡ length h.space.pool.frames → room.slots + spreads h.space ≡ length h.space.slots.uses → room.live ≡ h.live → RepresentsHost w k (Some (view_linked m.linked)) room
+pub stands : (h : HostState) (w : World) (k : ℕ) (m : LoadedModule) (room : Room) → IsHost h w → loaded_of w k ≡ Some (loaded_as m) → room.frames + minima h.space ≡ length h.space.pool.frames → room.slots + spreads h.space ≡ length h.space.slots.uses → room.live ≡ h.live → RepresentsHost w k (Some (view_linked m.linked)) room
 stands h w k m room st is some_frames some_slots live = record {
-  is_module = (loaded_as m, module_there h w k m st is, refl);
+  is_module = (loaded_as m, is, refl);
   room_left = record {
     frames = subst (λ (s : Space). room.frames + minima s ≡ length s.pool.frames) st.space some_frames;
     slots = subst (λ (s : Space). room.slots + spreads s ≡ length s.slots.uses) st.space some_slots;
@@ -52,9 +54,9 @@ first_is_first instances lt = omega (arith, lt)
 first_is_first memory lt = omega (arith, lt)
 first_is_first segments lt = omega (arith, lt)
 
-pub no_module_is_there : (h : HostState) (w : World) (k : ℕ) (p : Params) → IsHost h w → slice_get h.modules k ≡ None → IsAdmit w k p (admit_refused no_module) w
-no_module_is_there h w k p st none =
-    isnt_admitted (no_module_there h w k st none, λ other lt. absurd (first_is_first other lt))
+pub no_module_is_there : (h : HostState) (w : World) (k : ℕ) (p : Params) {rs : List ModuleRef} → IsHost h w → rs ≡ h.module_refs → (Rise 0 rs → HasNoRef rs k) → IsAdmit w k p (admit_refused no_module) w
+no_module_is_there h w k p st same none =
+    isnt_admitted (no_module_there h w k st same none, λ other lt. absurd (first_is_first other lt))
 
 pub refused_as : (w : World) (k : ℕ) (p : Params) (m : Module) (room : Room) → RepresentsHost w k (Some m) room → (o : Option AdmitFault) → RefusesFor (Some m) room p o → IsAdmit w k p (fault_answer o) w
 refused_as w k p m room is (Some fault) first = isnt_admitted (first w k is)
@@ -70,9 +72,9 @@ length_mapped : {A B : Type 0} (f : A → B) (xs : List A) → length (map f xs)
 length_mapped f [] = refl
 length_mapped f (x ∷ xs) = ap suc (length_mapped f xs)
 
-pub module_is_small : (h : HostState) (w : World) (k : ℕ) (m : LoadedModule) → IsHost h w → slice_get h.modules k ≡ Some m → length m.linked.valid.decoded.segments.items ≤ most_segments
+pub module_is_small : (h : HostState) (w : World) (k : ℕ) (m : LoadedModule) → IsHost h w → loaded_of w k ≡ Some (loaded_as m) → length m.linked.valid.decoded.segments.items ≤ most_segments
 module_is_small h w k m st is =
-    let accepted = modules_stay_accepted w st.comes k (loaded_as m) (module_there h w k m st is) in
+    let accepted = modules_stay_accepted w st.comes k (loaded_as m) is in
     let same : length (map view_data m.linked.valid.decoded.segments.items) ≡ length m.linked.valid.decoded.segments.items = length_mapped view_data m.linked.valid.decoded.segments.items in
     omega (arith, few_segments (loaded_as m).bytes (view_linked m.linked) accepted.is_module.small, same)
 
@@ -163,11 +165,11 @@ size_is m n e = omega (arith, e)
 pub claim_is : (number : ℕ) (a : Admitted) (p : Params) → a.shares ≡ p.shares → a.min ≡ p.min → a.max ≡ p.max → claimed (promise_of number a) ≡ promised number p
 claim_is number a p part least most = rw (part, least, most) refl
 
-pub admitted_here : (h : HostState) (w : World) (k : ℕ) (p : Params) (m : LoadedModule) (a : Admitted) (x : InstanceEntry) (place : ℕ) (rs rs1 rs2 : Slab InstanceEntry) (s2 : Space) → (st : IsHost h w) → slice_get h.modules k ≡ Some m
-    → ((fault : AdmitFault) → ¬ (MeetsFault w k p fault)) → BeginsAs (view_linked m.linked) p a → BeginsEntry m.linked a h.next k (p.base, p.salt) x
+pub admitted_here : (h : HostState) (w : World) (k : ℕ) (of_module : ModuleRef) (p : Params) (m : LoadedModule) (a : Admitted) (x : InstanceEntry) (place : ℕ) (rs rs1 rs2 : Slab InstanceEntry) (s2 : Space) → (st : IsHost h w) → loaded_of w k ≡ Some (loaded_as m)
+    → ((fault : AdmitFault) → ¬ (MeetsFault w k p fault)) → BeginsAs (view_linked m.linked) p a → BeginsEntry m.linked a h.next of_module (p.base, p.salt) x → of_module.number ≡ k → module_in h.modules of_module.place ≡ Some m → m.number ≡ k
     → rs.slots ≡ h.entries → EntersNext rs h.space (promise_of h.next a) a.begun.pages place rs1 s2 → Updates rs1 rs2 place (Some x)
     → (w2 : World) × IsAdmit w k p (admit_ok (record { place = place; number = h.next })) w2 × IsHost (record h { entries = rs2.slots; live = h.live + 1; space = s2; next = h.next + 1 }) w2
-admitted_here h w k p m a x place rs rs1 rs2 s2 st is none b begins are enters updates =
+admitted_here h w k of_module p m a x place rs rs1 rs2 s2 st is none b begins which there numbered are enters updates =
     let i = b.instantiates in
     let wasm = view_linked m.linked in
     let s = first_store wasm (given_of p) i.globals i.elements in
@@ -197,7 +199,7 @@ admitted_here h w k p m a x place rs rs1 rs2 s2 st is none b begins are enters u
       can_count = b.can_count;
       given = b.given;
       loaded = loaded_as m;
-      is_loaded = module_there h w k m st is;
+      is_loaded = is;
       inst = i.inst;
       s = s;
       pieces = fragments i.segments;
@@ -218,9 +220,10 @@ admitted_here h w k p m a x place rs rs1 rs2 s2 st is none b begins are enters u
     let limits : x.page_limit ≡ last_size wasm.memories (p.max / 16) = begins.limit ∙ i.page_limit ∙ i.prepares.page_limit in
     let represents : IsEntryOf h.modules x s2 h.next t = record {
       number = begins.number;
-      of = begins.of;
+      of = begins.of ∙ which;
       loaded = m;
-      is_loaded = ap (slice_get h.modules) begins.of ∙ is;
+      is_loaded = ap (module_in h.modules) begins.module_place ∙ there;
+      numbered = numbered ∙ sym (begins.of ∙ which);
       given = subst (λ g. AreGivenAs g p) (sym begins.given) (record { shares = b.shares; min = b.min; max = b.max; fuel = b.fuel; base = refl; salt = refl });
       limit = omega (arith, limits, within_limit wasm.memories (p.max / 16));
       copied = begins.copied;

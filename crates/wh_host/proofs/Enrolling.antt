@@ -2,51 +2,49 @@
 use Rattle.std.proofs.Common.{◌≡◌, ℕ, zero, suc, ◌+◌, ◌<◌, ◌++◌, Option, Some, None, List, [], ◌∷◌, length, map, take, get_or, slice_get, refl, sym, ap, subst, ◌∙◌, arith, rules}
 use Rattle.std.proofs.lemmas.List.{append-nil, append_assoc, length-append, map-append}
 use Rattle.wh_space_model.specs.{tickets}
-use Rattle.wh_host_model.specs.Host.{Tenant, World, tenant}
+use Rattle.wh_host_model.specs.Host.{Loaded, Tenant, World, tenant}
 use Rattle.wh_host_model.specs.{Entry}
 use Rattle.wh_host_model.proofs.Host.Lasting.{inputs_stay}
 use Rattle.wh_journal.specs.Calls.{JournalCallState}
 use Rattle.wh_instance.specs.Tenancy.{RepresentsEach}
 use Rattle.wh_host.specs.declared.parts.LoadedModule.{LoadedModule}
+use Rattle.wh_host.specs.declared.parts.ModuleRef.{ModuleRef}
 use Rattle.wh_host.specs.declared.parts.InstanceEntry.{InstanceEntry}
 use Rattle.wh_host.specs.declared.parts.InstanceRef.{InstanceRef}
 use Rattle.wh_host.specs.declared.rolling.RollInstance.{RollInstance}
 use Rattle.wh_host.specs.declared.rolling.RollModule.{RollModule}
-use Rattle.wh_host.specs.Hosting.{HostState, IsHost, IsEntryOf, kept_as, entry_at}
-use Rattle.wh_host.specs.Rolls.{IsRollOf, Listed, ListedModule, RollState, all_listed, all_modules, listed_as, listed_by, listed_in, listed_refs, module_by, modules_from, view_listed, view_listed_module}
+use Rattle.wh_host.specs.Hosting.{HostState, IsHost, AreListed, IsEntryOf, entry_at, module_in}
+use Rattle.wh_host.specs.Rolls.{IsRollOf, Listed, ListedModule, RollState, all_listed, all_modules, listed_as, listed_by, listed_in, listed_module, listed_modules, listed_refs, view_listed, view_listed_module}
 use Rattle.wh_host.specs.InstanceRefs.{AreInstanceRefs, refs_by}
 use Rattle.wh_host.proofs.Showings.{inputs_are, params_by}
 
 -- ---- modules
 
-modules_as : (n : ℕ) (ms : List LoadedModule) → modules_from n ms ≡ all_modules n (map kept_as ms)
-modules_as n [] = refl
-modules_as n (m ∷ ms) = ap (λ more. module_by n m ∷ more) (modules_as (n + 1) ms)
+modules_as : (n : ℕ) (ms : List (Option LoadedModule)) (rs : List ModuleRef) (ls : List (Option Loaded)) → AreListed n ms rs ls → listed_modules ms rs ≡ all_modules n ls
+modules_as n ms rs [] are = ap (listed_modules ms) are
+modules_as n ms rs (None ∷ ls) are = modules_as (n + 1) ms rs ls are
+modules_as n ms rs (Some l ∷ ls) (place, rest, is, kept, more) =
+    let r : ModuleRef = record { number = n; place = place } in
+    let one : ListedModule = record { number = n; bytes = l.bytes } in
+    let first : listed_module r (module_in ms place) ≡ one ∷ [] = ap (listed_module r) kept.lies ∙ ap (λ (z : Loaded). let y : ListedModule = record { number = n; bytes = z.bytes } in y ∷ []) kept.loaded in
+    ap (listed_modules ms) is ∙ ap (λ (zs : List ListedModule). zs ++ listed_modules ms rest) first ∙ ap (λ (zs : List ListedModule). one ∷ zs) (modules_as (n + 1) ms rest ls more)
 
 -- one more of them
-one_more_module : (n : ℕ) (ms : List LoadedModule) (k : ℕ) (m : LoadedModule) → slice_get ms k ≡ Some m → modules_from n (take (suc k) ms) ≡ modules_from n (take k ms) ++ module_by (n + k) m ∷ []
-one_more_module n [] k m is = absurd (cc is)
-one_more_module n (z ∷ zs) zero m is = search rules
-one_more_module n (z ∷ zs) (suc k) m is =
-    let here : (n + 1) + k ≡ n + suc k = omega arith in
-    ap (λ more. module_by n z ∷ more) (one_more_module (n + 1) zs k m is ∙ ap (λ i. modules_from (n + 1) (take k zs) ++ module_by i m ∷ []) here)
+one_more_module : (ms : List (Option LoadedModule)) (rs : List ModuleRef) (k : ℕ) (r : ModuleRef) → slice_get rs k ≡ Some r → listed_modules ms (take (suc k) rs) ≡ listed_modules ms (take k rs) ++ listed_module r (module_in ms r.place)
+one_more_module ms [] k r is = absurd (let bad : None ≡ Some r = is in cc bad)
+one_more_module ms (z ∷ zs) zero r is = let same : z ≡ r = cc is in append-nil (listed_module z (module_in ms z.place)) ∙ ap (λ (u : ModuleRef). listed_module u (module_in ms u.place)) same
+one_more_module ms (z ∷ zs) (suc k) r is =
+    let first = listed_module z (module_in ms z.place) in
+    ap (λ more. first ++ more) (one_more_module ms zs k r is) ∙ sym (append_assoc first (listed_modules ms (take k zs)) (listed_module r (module_in ms r.place)))
 
--- what is found at an index lies there
-pub module_found : (ms : List LoadedModule) (k : ℕ) (m : LoadedModule) → k < length ms → slice_get ms k ≡ Some (get_or ms k m)
-module_found [] k m less = absurd (omega (arith, less))
-module_found (x ∷ ms) zero m less = refl
-module_found (x ∷ ms) (suc k) m less = module_found ms k m (omega (arith, less))
+pub pushed_module : (a b : List RollModule) (e : RollModule) (l : ListedModule) → b ≡ a ++ e ∷ [] → view_listed_module e ≡ l → map view_listed_module b ≡ map view_listed_module a ++ l ∷ []
+pushed_module a b e l is same = ap (map view_listed_module) is ∙ map-append view_listed_module a (e ∷ []) ∙ ap (λ (z : ListedModule). map view_listed_module a ++ z ∷ []) same
 
-pub module_step : (ms : List LoadedModule) (k : ℕ) (m : LoadedModule) (a b : List RollModule) (e : RollModule) → slice_get ms k ≡ Some m → map view_listed_module a ≡ modules_from 0 (take k ms) → b ≡ a ++ e ∷ [] → view_listed_module e ≡ module_by k m → map view_listed_module b ≡ modules_from 0 (take (k + 1) ms)
-module_step ms k m a b e at before is same =
+pub module_step : (ms : List (Option LoadedModule)) (rs : List ModuleRef) (k : ℕ) (r : ModuleRef) (a b : List ListedModule) → slice_get rs k ≡ Some r → a ≡ listed_modules ms (take k rs) → b ≡ a ++ listed_module r (module_in ms r.place) → b ≡ listed_modules ms (take (k + 1) rs)
+module_step ms rs k r a b at before more =
+    let here = listed_module r (module_in ms r.place) in
     let next : k + 1 ≡ suc k = omega arith in
-    let here : 0 + k ≡ k = omega arith in
-    ap (map view_listed_module) is
-    ∙ map-append view_listed_module a (e ∷ [])
-    ∙ ap (λ q. q ++ view_listed_module e ∷ []) before
-    ∙ ap (λ (l : ListedModule). modules_from 0 (take k ms) ++ l ∷ []) (same ∙ ap (λ i. module_by i m) (sym here))
-    ∙ sym (one_more_module 0 ms k m at)
-    ∙ ap (λ n. modules_from 0 (take n ms)) (sym next)
+    more ∙ ap (λ q. q ++ here) before ∙ sym (one_more_module ms rs k r at) ∙ ap (λ n. listed_modules ms (take n rs)) (sym next)
 
 -- ---- one instance
 
@@ -97,10 +95,10 @@ all_same rs i (Some t ∷ ts) has =
 
 -- ---- the whole
 
-pub roll_is : (h : HostState) (instance_refs : List InstanceRef) (modules : List ListedModule) (next out : ℕ) (instances : List Listed) → AreInstanceRefs h instance_refs → modules ≡ modules_from 0 h.modules → next ≡ h.next → out ≡ tickets h.space → instances ≡ listed_refs h.entries instance_refs
+pub roll_is : (h : HostState) (instance_refs : List InstanceRef) (modules : List ListedModule) (next out : ℕ) (instances : List Listed) → AreInstanceRefs h instance_refs → modules ≡ listed_modules h.modules h.module_refs → next ≡ h.next → out ≡ tickets h.space → instances ≡ listed_refs h.entries instance_refs
     → IsRollOf h (record { modules = modules; next = next; tickets_out = out; instances = instances })
 roll_is h instance_refs modules next out instances are e1 e2 e3 e4 w st =
-    let numbered : modules ≡ all_modules 0 w.modules = e1 ∙ modules_as 0 h.modules ∙ ap (all_modules 0) st.modules in
+    let numbered : modules ≡ all_modules 0 w.modules = e1 ∙ modules_as 0 h.modules h.module_refs w.modules (let keeps = st.modules in keeps.listed) in
     let many = e2 ∙ st.next in
     let tickets_out = e3 ∙ ap tickets st.space in
     let zeroth : (k : ℕ) → 0 + k ≡ k = λ k. omega arith in

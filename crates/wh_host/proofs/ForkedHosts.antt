@@ -29,7 +29,7 @@ use Rattle.wh_space.specs.declared.occupant_entry.Promise.{Promise}
 use Rattle.wh_host.specs.declared.parts.LoadedModule.{LoadedModule}
 use Rattle.wh_host.specs.declared.parts.InstanceEntry.{InstanceEntry}
 use Rattle.wh_host.specs.ForkAnswers.{CopiesEntry, CopiesNext, GrantsFork, GrantsInRoom, IsForkAnswer, IsLeftBy, MayFork, RefusesFork, claim_by}
-use Rattle.wh_host.specs.Hosting.{AreGivenAs, HostState, IsEntryOf, IsHost, entry_at, loaded_as}
+use Rattle.wh_host.specs.Hosting.{AreGivenAs, HostState, IsEntryOf, IsHost, entry_at, loaded_as, module_in}
 use Rattle.wh_host.proofs.Begun.{HasBegun, has_begun, in_bounds_still, too_many_at_first}
 use Rattle.wh_host.proofs.Comers.{joins, stands, within_limit}
 use Rattle.wh_host.proofs.Hosts.{found, module_is, one_value}
@@ -70,14 +70,16 @@ pub record Meant (h : HostState) (w : World) (id : InstId) (x : InstanceEntry) (
   live : IsLive w id t
   of : x.of ≡ t.of
   known : loaded_of w t.of ≡ Some (loaded_as m)
+  numbered : m.number ≡ x.of
   is : IsTenant m.linked x.page_limit x.tenant (view w.space t.place) t
   begun : HasBegun (view_linked m.linked) (given_of t.params) t.inst
   given : AreGivenAs x.given t.params
 
-meant : (h : HostState) (w : World) (id : InstId) (x : InstanceEntry) (m : LoadedModule) → IsHost h w → entry_at h.entries id.place ≡ Some x → x.number ≡ Some id.number → slice_get h.modules x.of ≡ Some m → Meant h w id x m
+meant : (h : HostState) (w : World) (id : InstId) (x : InstanceEntry) (m : LoadedModule) → IsHost h w → entry_at h.entries id.place ≡ Some x → x.number ≡ Some id.number → module_in h.modules x.module_place ≡ Some m → Meant h w id x m
 meant h w id x m st at number is =
     let f = found h w id.place id.number x st at number in
-    let known : loaded_of w f.t.of ≡ Some (loaded_as m) = ap (loaded_of w) (sym f.is.of) ∙ module_there h w x.of m st is in
+    let its = module_there h w id.place id.number x m st f is in
+    let known = its.0 in
     let first = has_begun w id.number f.t st.comes f.live in
     let same : first.0 ≡ loaded_as m = one_value first.0 (loaded_as m) (sym first.1 ∙ known) in
     record {
@@ -85,6 +87,7 @@ meant h w id x m st at number is =
       live = (f.live, f.at);
       of = f.is.of;
       known = known;
+      numbered = its.1;
       is = subst (λ (z : LoadedModule). IsTenant z.linked x.page_limit x.tenant (view w.space f.t.place) f.t) (module_is h w id.place id.number x m f is) f.is.is;
       begun = subst (λ z. HasBegun z.m (given_of f.t.params) f.t.inst) same first.2;
       given = f.is.given;
@@ -100,7 +103,7 @@ before w t q n a b c d e (not_admitted f) less = c f less
 before w t q n a b c d e other_limit less = d less
 before w t q n a b c d e page_away less = e less
 
-module _ (h : HostState) (w : World) (id : InstId) (x : InstanceEntry) (m : LoadedModule) (q : Quota) (st : IsHost h w) (is : slice_get h.modules x.of ≡ Some m) (f : Meant h w id x m) where
+module _ (h : HostState) (w : World) (id : InstId) (x : InstanceEntry) (m : LoadedModule) (q : Quota) (st : IsHost h w) (is : module_in h.modules x.module_place ≡ Some m) (f : Meant h w id x m) where
   limit_is : x.page_limit ≡ f.t.inst.page_limit
   limit_is = let has = f.is.store in has.1.store.limit
 
@@ -114,7 +117,7 @@ module _ (h : HostState) (w : World) (id : InstId) (x : InstanceEntry) (m : Load
   away_back away = subst (λ s. IsAway s id.place) (sym st.space) (subst (IsAway w.space) f.live.1 away)
 
   represents : (room : Room) → IsLeftBy h.space h.live room → RepresentsHost w f.t.of (Some (view_linked m.linked)) room
-  represents room left = subst (λ k. RepresentsHost w k (Some (view_linked m.linked)) room) f.of (stands h w x.of m room st is left.frames left.slots left.count)
+  represents room left = stands h w f.t.of m room st f.known left.frames left.slots left.count
 
   is_idle : MayFork x → ¬ (MeetsForkFault w f.t q call_open)
   is_idle may some = some (may.idle m.linked x.page_limit (view w.space f.t.place) f.t f.is)
@@ -180,18 +183,18 @@ module _ (h : HostState) (w : World) (id : InstId) (x : InstanceEntry) (m : Load
   )
   refuses_one Memory is_one = absurd is_one
 
-pub refused_fork : (h : HostState) (w : World) (id : InstId) (x : InstanceEntry) (m : LoadedModule) (q : Quota) (e : ForkError) → IsHost h w → entry_at h.entries id.place ≡ Some x → x.number ≡ Some id.number → slice_get h.modules x.of ≡ Some m
+pub refused_fork : (h : HostState) (w : World) (id : InstId) (x : InstanceEntry) (m : LoadedModule) (q : Quota) (e : ForkError) → IsHost h w → entry_at h.entries id.place ≡ Some x → x.number ≡ Some id.number → module_in h.modules x.module_place ≡ Some m
     → RefusesFork x m h.space h.live id.place q e → (answer : ForkAnswer) × IsForkAnswer (Err e) answer × IsFork w id q answer w
 refused_fork h w id x m q e st at number is refuses = refuses_one h w id x m q st is (meant h w id x m st at number is) e refuses
 
-pub no_memory_here : (h : HostState) (w : World) (id : InstId) (x : InstanceEntry) (m : LoadedModule) (q : Quota) (a : AdmittedQuota) → IsHost h w → entry_at h.entries id.place ≡ Some x → x.number ≡ Some id.number → slice_get h.modules x.of ≡ Some m
+pub no_memory_here : (h : HostState) (w : World) (id : InstId) (x : InstanceEntry) (m : LoadedModule) (q : Quota) (a : AdmittedQuota) → IsHost h w → entry_at h.entries id.place ≡ Some x → x.number ≡ Some id.number → module_in h.modules x.module_place ≡ Some m
     → GrantsFork x m h.space h.live id.place q a → IsFork w id q fork_out_of_memory w
 no_memory_here h w id x m q a st at number is grants =
     let f = meant h w id x m st at number is in
     no_memory_to_fork f.live (grants_all h w id x m q st is f a grants)
 
 -- the code has no open call either
-pub idle_there : (h : HostState) (w : World) (id : InstId) (x : InstanceEntry) (m : LoadedModule) → IsHost h w → entry_at h.entries id.place ≡ Some x → x.number ≡ Some id.number → slice_get h.modules x.of ≡ Some m
+pub idle_there : (h : HostState) (w : World) (id : InstId) (x : InstanceEntry) (m : LoadedModule) → IsHost h w → entry_at h.entries id.place ≡ Some x → x.number ≡ Some id.number → module_in h.modules x.module_place ≡ Some m
     → MayFork x → x.tenant.journal.open_calls ≡ []
 idle_there h w id x m st at number is may =
     let f = meant h w id x m st at number is in
@@ -205,7 +208,7 @@ promise_by number a = record { number = number; shares = a.shares; min = a.min_f
 pub claim_is_by : (number : ℕ) (a : AdmittedQuota) (q : Quota) → a.shares ≡ q.shares → a.min_frames ≡ q.min → a.max_frames ≡ q.max → claimed (promise_by number a) ≡ claim_by number q
 claim_is_by number a q part least most = rw (part, least, most) refl
 
-pub forked_here : (h : HostState) (w : World) (id : InstId) (x y : InstanceEntry) (m : LoadedModule) (q : Quota) (a : AdmittedQuota) (place : ℕ) (rs rs1 rs2 : Slab InstanceEntry) (s2 : Space) → (st : IsHost h w) → entry_at h.entries id.place ≡ Some x → x.number ≡ Some id.number → slice_get h.modules x.of ≡ Some m
+pub forked_here : (h : HostState) (w : World) (id : InstId) (x y : InstanceEntry) (m : LoadedModule) (q : Quota) (a : AdmittedQuota) (place : ℕ) (rs rs1 rs2 : Slab InstanceEntry) (s2 : Space) → (st : IsHost h w) → entry_at h.entries id.place ≡ Some x → x.number ≡ Some id.number → module_in h.modules x.module_place ≡ Some m
     → GrantsFork x m h.space h.live id.place q a → CopiesEntry x h.next a y → rs.slots ≡ h.entries → CopiesNext rs h.space id.place (promise_by h.next a) place rs1 s2 → Updates rs1 rs2 place (Some y)
     → (w2 : World) × IsFork w id q (fork_ok (record { place = place; number = h.next })) w2 × IsHost (record h { entries = rs2.slots; live = h.live + 1; space = s2; next = h.next + 1 }) w2
 forked_here h w id x y m q a place rs rs1 rs2 s2 st at number is grants copied are next updates =
@@ -241,7 +244,8 @@ forked_here h w id x y m q a place rs rs1 rs2 s2 st at number is grants copied a
       number = copied.number_is;
       of = copied.of ∙ f.of;
       loaded = m;
-      is_loaded = ap (slice_get h.modules) copied.of ∙ is;
+      is_loaded = ap (module_in h.modules) copied.module_place ∙ is;
+      numbered = f.numbered ∙ sym copied.of;
       given = given;
       limit = omega (arith, same_limit, far, most);
       copied = sym (copied.copied m.linked x.page_limit (view w.space f.t.place) f.t f.is);
@@ -250,7 +254,7 @@ forked_here h w id x y m q a place rs rs1 rs2 s2 st at number is grants copied a
     (w2, happens, joins h w (fork id q) t2 y place rs rs1 rs2 s2 st are next.vacant next.slots updates refl (λ j other. (arrives.others j other).view) represents (fork_ok new, happens))
 
 -- the same, by what the calls of the code ensure
-pub copied_here : (h : HostState) (w : World) (id : InstId) (x y : InstanceEntry) (m : LoadedModule) (q : Quota) (a : AdmittedQuota) (promise : Promise) (place key next : ℕ) (rs rs1 rs2 : Slab InstanceEntry) (s2 : Space) → (st : IsHost h w) → entry_at h.entries id.place ≡ Some x → x.number ≡ Some id.number → slice_get h.modules x.of ≡ Some m
+pub copied_here : (h : HostState) (w : World) (id : InstId) (x y : InstanceEntry) (m : LoadedModule) (q : Quota) (a : AdmittedQuota) (promise : Promise) (place key next : ℕ) (rs rs1 rs2 : Slab InstanceEntry) (s2 : Space) → (st : IsHost h w) → entry_at h.entries id.place ≡ Some x → x.number ≡ Some id.number → module_in h.modules x.module_place ≡ Some m
     → GrantsFork x m h.space h.live id.place q a → CopiesEntry x h.next a y → promise ≡ promise_by h.next a → rs.slots ≡ h.entries → CopiesNext rs h.space id.place promise place rs1 s2 → key ≡ rs1.vacant_key → Updates rs1 rs2 key (Some y) → next ≡ h.next + 1
     → (w2 : World) × IsFork w id q (fork_ok (record { place = place; number = h.next })) w2 × IsHost (record h { entries = rs2.slots; live = h.live + 1; space = s2; next = next }) w2
 copied_here h w id x y m q a promise place key next rs rs1 rs2 s2 st at number is grants copied by are copies at_key updates one_on =

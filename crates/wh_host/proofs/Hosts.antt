@@ -24,7 +24,7 @@ use Rattle.wh_host.specs.Series.{HasSpent, SeriesOf}
 use Rattle.wh_host.proofs.Splitting.{has_spent, series_of_turns}
 use Rattle.wh_host.specs.Lent.{TurnsTo}
 use Rattle.wh_host.specs.Entries.{OthersStay}
-use Rattle.wh_host.specs.Hosting.{AreGivenAs, HostState, IsHost, IsNewHost, IsReached, IsEntryOf, entry_at}
+use Rattle.wh_host.specs.Hosting.{AreGivenAs, HostState, IsHost, IsNewHost, IsReached, IsEntryOf, entry_at, module_in}
 
 -- ---- lists
 
@@ -155,12 +155,13 @@ lies_there h w place i x st f =
     }
 
 -- it is who it was where it sees what it saw
-pub moved_on : (modules : List LoadedModule) (x : InstanceEntry) (s s2 : Space) (i : ℕ) (t : Tenant) → IsEntryOf modules x s i t → view s2 t.place ≡ view s t.place → IsEntryOf modules x s2 i t
+pub moved_on : (modules : List (Option LoadedModule)) (x : InstanceEntry) (s s2 : Space) (i : ℕ) (t : Tenant) → IsEntryOf modules x s i t → view s2 t.place ≡ view s t.place → IsEntryOf modules x s2 i t
 moved_on modules x s s2 i t r sees = record {
   number = r.number;
   of = r.of;
   loaded = r.loaded;
   is_loaded = r.is_loaded;
+  numbered = r.numbered;
   given = r.given;
   limit = r.limit;
   copied = r.copied;
@@ -168,12 +169,13 @@ moved_on modules x s s2 i t r sees = record {
 }
 
 -- and another one of the same owner, over what that one sees
-pub same_owner : (modules : List LoadedModule) (x : InstanceEntry) (s s2 : Space) (i : ℕ) (t t2 : Tenant) (z : HostInstanceState) → (r : IsEntryOf modules x s i t) → t2.of ≡ t.of → t2.params ≡ t.params → t2.copied ≡ t.copied → IsTenant r.loaded.linked x.page_limit z (view s2 t2.place) t2 → IsEntryOf modules (record x { tenant = z }) s2 i t2
+pub same_owner : (modules : List (Option LoadedModule)) (x : InstanceEntry) (s s2 : Space) (i : ℕ) (t t2 : Tenant) (z : HostInstanceState) → (r : IsEntryOf modules x s i t) → t2.of ≡ t.of → t2.params ≡ t.params → t2.copied ≡ t.copied → IsTenant r.loaded.linked x.page_limit z (view s2 t2.place) t2 → IsEntryOf modules (record x { tenant = z }) s2 i t2
 same_owner modules x s s2 i t t2 z r of params copied is = record {
   number = r.number;
   of = r.of ∙ sym of;
   loaded = r.loaded;
   is_loaded = r.is_loaded;
+  numbered = r.numbered;
   given = subst (AreGivenAs x.given) (sym params) r.given;
   limit = subst (λ (p : Params). x.page_limit ≤ p.max / 16) (sym params) r.limit;
   copied = r.copied ∙ sym copied;
@@ -268,18 +270,18 @@ turned_host h w id q x z answer n s2 st at number f (few, t2, its_turn, spends, 
     (w2, happens, has_spent w id n f.t t2 s2 (f.live, f.at) spends, changed h w id.place id.number x (record x { tenant = z }) t2 s2 st at number lies2.place_is represents sees (comes_on w w2 (turn id q) st.comes (answer, happens)))
 
 -- the module of who is there
-pub module_is : (h : HostState) (w : World) (place i : ℕ) (x : InstanceEntry) (m : LoadedModule) → (f : Found h w place i x) → slice_get h.modules x.of ≡ Some m → f.is.loaded ≡ m
+pub module_is : (h : HostState) (w : World) (place i : ℕ) (x : InstanceEntry) (m : LoadedModule) → (f : Found h w place i x) → module_in h.modules x.module_place ≡ Some m → f.is.loaded ≡ m
 module_is h w place i x m f is = one_value f.is.loaded m (sym f.is.is_loaded ∙ is)
 
 -- who is there lies in the memory that the code has
-pub lies_here : (h : HostState) (w : World) (place i : ℕ) (x : InstanceEntry) (m : LoadedModule) → (st : IsHost h w) → entry_at h.entries place ≡ Some x → x.number ≡ Some i → slice_get h.modules x.of ≡ Some m → (t : Tenant) × (tenant w i ≡ Some t) × LiesAt m.linked x.page_limit x.tenant h.space place t
+pub lies_here : (h : HostState) (w : World) (place i : ℕ) (x : InstanceEntry) (m : LoadedModule) → (st : IsHost h w) → entry_at h.entries place ≡ Some x → x.number ≡ Some i → module_in h.modules x.module_place ≡ Some m → (t : Tenant) × (tenant w i ≡ Some t) × LiesAt m.linked x.page_limit x.tenant h.space place t
 lies_here h w place i x m st at number is =
     let f = found h w place i x st at number in
     let lies = lies_there h w place i x st f in
     let by_module = subst (λ (z : LoadedModule). LiesAt z.linked x.page_limit x.tenant w.space place f.t) (module_is h w place i x m f is) lies in
     (f.t, f.live, subst (λ s. LiesAt m.linked x.page_limit x.tenant s place f.t) (sym st.space) by_module)
 
-pub turned_here : (h : HostState) (w : World) (id : InstId) (q : ℕ) (x : InstanceEntry) (z : HostInstanceState) (m : LoadedModule) (answer : TurnEnd) (n : ℕ) (s2 : Space) → IsHost h w → entry_at h.entries id.place ≡ Some x → x.number ≡ Some id.number → slice_get h.modules x.of ≡ Some m
+pub turned_here : (h : HostState) (w : World) (id : InstId) (q : ℕ) (x : InstanceEntry) (z : HostInstanceState) (m : LoadedModule) (answer : TurnEnd) (n : ℕ) (s2 : Space) → IsHost h w → entry_at h.entries id.place ≡ Some x → x.number ≡ Some id.number → module_in h.modules x.module_place ≡ Some m
     → ((t : Tenant) → LiesAt m.linked x.page_limit x.tenant h.space id.place t → TurnsTo m.linked x.page_limit q h.space t answer n id.place z s2)
     → (w2 : World) × IsTurn w id q answer w2 × HasSpent w id n w2 × IsHost (record h { entries = slice_set h.entries id.place (Some (record x { tenant = z })); space = s2 }) w2
 turned_here h w id q x z m answer n s2 st at number is turns =
@@ -292,7 +294,7 @@ turned_here h w id q x z m answer n s2 st at number is turns =
     turned_host h w id q x z answer n s2 st at number f (subst (λ (l : LoadedModule). TurnsTo l.linked x.page_limit q w.space f.t answer n id.place z s2) (sym one) in_world)
 
 -- The turns of who is there, which came to that as one, are a series of turns.
-pub series_here : (h : HostState) (w : World) (id : InstId) (q turns n : ℕ) (x : InstanceEntry) (z : HostInstanceState) (m : LoadedModule) (end : TurnEnd) (s2 : Space) → IsHost h w → entry_at h.entries id.place ≡ Some x → x.number ≡ Some id.number → slice_get h.modules x.of ≡ Some m → AreUsed q turns n
+pub series_here : (h : HostState) (w : World) (id : InstId) (q turns n : ℕ) (x : InstanceEntry) (z : HostInstanceState) (m : LoadedModule) (end : TurnEnd) (s2 : Space) → IsHost h w → entry_at h.entries id.place ≡ Some x → x.number ≡ Some id.number → module_in h.modules x.module_place ≡ Some m → AreUsed q turns n
     → ((t : Tenant) → LiesAt m.linked x.page_limit x.tenant h.space id.place t → (t.open_calls ≢ []) × EndsTurn m.linked x.page_limit (turns * q) n h.space t end id.place z s2)
     → (w2 : World) × SeriesOf q id w turns n end w2 × IsHost (record h { entries = slice_set h.entries id.place (Some (record x { tenant = z })); space = s2 }) w2
 series_here h w id q turns n x z m end s2 st at number is used ends =
@@ -316,7 +318,7 @@ series_here h w id q turns n x z m end s2 st at number is used ends =
     )
 
 -- its module is there
-pub no_module_less : (h : HostState) (w : World) (place i : ℕ) (x : InstanceEntry) → IsHost h w → entry_at h.entries place ≡ Some x → x.number ≡ Some i → slice_get h.modules x.of ≡ None → ⊥
+pub no_module_less : (h : HostState) (w : World) (place i : ℕ) (x : InstanceEntry) → IsHost h w → entry_at h.entries place ≡ Some x → x.number ≡ Some i → module_in h.modules x.module_place ≡ None → ⊥
 no_module_less h w place i x st at number none = let f = found h w place i x st at number in absurd (let bad : None ≡ Some f.is.loaded = sym none ∙ f.is.is_loaded in cc bad)
 
 -- ---- what is asked of the present call
@@ -366,14 +368,19 @@ of_who_is_there h w id x P st at number asked =
 
 -- ---- a new host
 
-pub new_host : (h : HostState) (frames slots : ℕ) (tax : Tax) → h.modules ≡ [] → h.entries ≡ [] → h.live ≡ 0 → h.next ≡ 0 → h.next_module ≡ 0 → IsSound h.space → IsNew h.space frames slots tax → IsNewHost h frames slots tax
-new_host h frames slots tax modules entries live next next_module sound is =
+pub new_host : (h : HostState) (frames slots : ℕ) (tax : Tax) → h.modules ≡ [] → h.module_refs ≡ [] → h.entries ≡ [] → h.live ≡ 0 → h.next ≡ 0 → h.next_module ≡ 0 → IsSound h.space → IsNew h.space frames slots tax → IsNewHost h frames slots tax
+new_host h frames slots tax modules module_refs entries live next next_module sound is =
     let w : World = record { modules = []; tenants = []; space = h.space } in
     let same : (j : ℕ) → LeftAlone j (empty_space frames slots tax) h.space = λ j. rw is.is (record { view = refl; wants = refl; claim = refl; promise = inl refl }) in
     let reached : IsReached w = record { frames = frames; slots = slots; tax = tax; events = epoch ∷ []; happen = (w, (h.space, (same, sound), refl), refl) } in
+    let no_module : (place : ℕ) (m : LoadedModule) → module_in h.modules place ≡ Some m → ⊥ = λ place m e. (let bad : None ≡ Some m = sym (ap (λ (ms : List (Option LoadedModule)). module_in ms place) modules) ∙ e in absurd (cc bad)) in
     let st : IsHost h w = record {
       comes = record { frames = frames; slots = slots; tax = tax; steps = by_event epoch ∷ []; befall = (w, (h.space, (same, sound), refl), refl) };
-      modules = rw modules refl;
+      modules = record {
+        listed = module_refs;
+        all = λ place m e. absurd (no_module place m e);
+        once = λ p q m n e. absurd (no_module p m e);
+      };
       space = refl;
       live = live;
       next = next;

@@ -12,6 +12,7 @@ mod RunnerTurns
 mod Reaching
 pub mod Hosts
 mod Fields
+pub mod KeptModules
 mod Requests
 mod Comers
 mod Paged

@@ -115,12 +115,13 @@ keeps_fault x z fault false some none waits l limit bytes t is = absurd ((none r
 
 -- ---- other bytes come
 
-resident_on : (modules : List LoadedModule) (x : InstanceEntry) (s s2 : Space) (i : ℕ) (t : Tenant) → SeesAsMany t.place s s2 → IsEntryOf modules x s i t → IsEntryOf modules x s2 i t
+resident_on : (modules : List (Option LoadedModule)) (x : InstanceEntry) (s s2 : Space) (i : ℕ) (t : Tenant) → SeesAsMany t.place s s2 → IsEntryOf modules x s i t → IsEntryOf modules x s2 i t
 resident_on modules x s s2 i t alike r = record {
   number = r.number;
   of = r.of;
   loaded = r.loaded;
   is_loaded = r.is_loaded;
+  numbered = r.numbered;
   given = r.given;
   limit = r.limit;
   copied = r.copied;

@@ -13,7 +13,7 @@ use Rattle.wh_instance.specs.Turned.{IsCame}
 use Rattle.wh_instance.specs.declared.computing.TurnOutcome.{TurnOutcome}
 use Rattle.wh_instance.specs.declared.computing.TurnOutcome.TheVariants as came
 use Rattle.wh_imports.specs.LinkedState.{LinkedState}
-use Rattle.wh_overlay.specs.LaidPages.{UpperState}
+use Rattle.wh_overlay.specs.LaidPages.{OverlayPagesState}
 use Rattle.wh_overlay.specs.Over.{CanStepOver, IsOverSame, IsReadyOver, OverlayState, sees}
 use Rattle.wh_host.specs.declared.parts.InstanceEntry.{InstanceEntry}
 use Rattle.wh_host.specs.declared.rounds.Runner.{Runner}
@@ -75,10 +75,10 @@ stopped none some to (waits_to_write d w never) = absurd (cc d)
 
 -- ---- room in which nothing lies
 
-with_nothing_same : (u : UpperState) → u.pages ≡ [] → u.reads ≡ [] → u.grown ≡ 0 → u.taken ≡ 0 → with_nothing u ≡ u
+with_nothing_same : (u : OverlayPagesState) → u.pages ≡ [] → u.reads ≡ [] → u.grown ≡ 0 → u.taken ≡ 0 → with_nothing u ≡ u
 with_nothing_same u pages reads grown taken = search rules
 
-pub out_of_reach : (l : LinkedState) (limit q : ℕ) (s : Space) (place : ℕ) (x : HostInstanceState) (t : Tenant) (answer : TurnOutcome) (k n : ℕ) (x1 : HostInstanceState) (u : UpperState) → RunsBeside l limit q s place x t answer k n x1 u → t.place ≡ place → n ≡ 0 → 1 ≤ q → CanGoOnFrom answer
+pub out_of_reach : (l : LinkedState) (limit q : ℕ) (s : Space) (place : ℕ) (x : HostInstanceState) (t : Tenant) (answer : TurnOutcome) (k n : ℕ) (x1 : HostInstanceState) (u : OverlayPagesState) → RunsBeside l limit q s place x t answer k n x1 u → t.place ≡ place → n ≡ 0 → 1 ≤ q → CanGoOnFrom answer
     → IsOutOfReach s t (with_nothing u)
 out_of_reach l limit q s place x t answer k n x1 u runs at none some can =
     let c = runs.computes in
@@ -88,7 +88,7 @@ out_of_reach l limit q s place x t answer k n x1 u runs at none some can =
     let same : u ≡ runs.first = ap (λ (o : OverlayState). o.upper) z.same in
     let seen : sees (memory_with s place limit runs.first) ≡ view s place = none_seen s place runs.first runs.no_pages runs.no_reads runs.not_grown in
     let seen2 : sees (memory_with s place limit u) ≡ view s place = ap sees z.same ∙ seen in
-    let room : with_nothing u ≡ u = with_nothing_same u (ap (λ (v : UpperState). v.pages) same ∙ runs.no_pages) (ap (λ (v : UpperState). v.reads) same ∙ runs.no_reads) (ap (λ (v : UpperState). v.grown) same ∙ runs.not_grown) (ap (λ (v : UpperState). v.taken) same ∙ runs.none_taken) in
+    let room : with_nothing u ≡ u = with_nothing_same u (ap (λ (v : OverlayPagesState). v.pages) same ∙ runs.no_pages) (ap (λ (v : OverlayPagesState). v.reads) same ∙ runs.no_reads) (ap (λ (v : OverlayPagesState). v.grown) same ∙ runs.not_grown) (ap (λ (v : OverlayPagesState). v.taken) same ∙ runs.none_taken) in
     let here : (i : ℕ) → i ≡ place → view s i ≡ view s place = λ i e. ap (view s) e in
     record {
       term = c.term;
@@ -124,7 +124,7 @@ each_takes_some h w q most F m ys ys2 st some run answers k y2 there made t answ
     let a = answers k y2 there in
     ⊎_elim (λ sits. when_taken a.0 a.1 a.2 sits) (λ gone. absurd (let r = run.rest k a.0 a.1 gone in let bad = sym answered ∙ a.2.2 gone ∙ r.1 in cc bad)) (taken_or a.0)
   where
-    when_taken : (y : Runner) → slice_get ys k ≡ Some y → HasAnswer y y2 → y.taken ≡ true → (u : UpperState) × (y2.upper ≡ Some u) × IsOutOfReach w.space t u
+    when_taken : (y : Runner) → slice_get ys k ≡ Some y → HasAnswer y y2 → y.taken ≡ true → (u : OverlayPagesState) × (y2.upper ≡ Some u) × IsOutOfReach w.space t u
     when_taken y at has sits =
         let p = has.1 sits in
         let same : series_end y.ran p.0 ≡ made = one_series (series_end y.ran p.0) made (sym p.1 ∙ answered) in

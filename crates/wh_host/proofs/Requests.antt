@@ -18,7 +18,7 @@ use Rattle.wh_load.specs.Refusing.{RefusesBytes}
 use Rattle.wh_host.specs.Loading.{IsBytesAnswer, IsLinkAnswer, KeepsModule}
 use Rattle.wh_space_model.specs.declared.plain.InstId.{InstId}
 use Rattle.wh_space_model.specs.{Space, Occupant, claim, occupant_at, view, IsSound, Epochs, ended, Exits, HasNoPins}
-use Rattle.wh_host_model.specs.Host.{AllLeftAlone, Departs, OthersLeftAlone, WaitsAlone, Tenant, Loaded, World, tenant, with_tenant, promised, loaded_of, IsFirst, Meets, TakesCall, Cancels, LoadsModule, LetsGo, module_count, broken, invalid, unlinked, modules_full, decoder_out_of_memory, validator_out_of_memory, linker_out_of_memory, host_out_of_memory, epoch, invoke, cancel, load, release, IsLive, OnlyMoves, IsCancel, is_cancelled, IsInvoke, is_invoked, isnt_invoked, no_memory_to_invoke, invoke_ok, call_ok, LoadAnswer, load_refused, load_out_of_memory, IsLoad, is_loaded, isnt_loaded, no_memory_to_load, load_ok, IsRelease, is_released, ComesAbout}
+use Rattle.wh_host_model.specs.Host.{AllLeftAlone, Departs, OthersLeftAlone, WaitsAlone, Tenant, Loaded, World, tenant, with_tenant, promised, loaded_of, IsFirst, Meets, TakesCall, Cancels, IsUnused, LetsModuleGo, LoadsModule, LetsGo, module_count, IsUnload, is_in_use, is_unloaded, no_module_to_unload, unload, unload_in_use, unload_no_module, unload_ok, broken, invalid, unlinked, modules_full, decoder_out_of_memory, validator_out_of_memory, linker_out_of_memory, host_out_of_memory, epoch, invoke, cancel, load, release, IsLive, OnlyMoves, IsCancel, is_cancelled, IsInvoke, is_invoked, isnt_invoked, no_memory_to_invoke, invoke_ok, call_ok, LoadAnswer, load_refused, load_out_of_memory, IsLoad, is_loaded, isnt_loaded, no_memory_to_load, load_ok, IsRelease, is_released, ComesAbout}
 use Rattle.wh_host_model.specs.Host.OwnerCalls.{ends}
 use Rattle.wh_host_model.specs.{InvokeFault}
 use Rattle.wh_host_model.proofs.Host.Bridges.{ends_well, epochs_leave_all, exits_depart}
@@ -34,9 +34,13 @@ use Rattle.wh_host.specs.declared.parts.LoadedModule.{LoadedModule}
 use Rattle.wh_host.specs.declared.parts.InstanceEntry.{InstanceEntry}
 use Rattle.wh_host.specs.CallRequests.{refusal_answer}
 use Rattle.wh_host.specs.Entries.{PlaceIsLeft}
-use Rattle.wh_host.specs.Hosting.{HostState, IsHost, kept_as, loaded_as, entry_at}
+use Rattle.wh_host.specs.declared.parts.ModuleRef.{ModuleRef}
+use Rattle.wh_host.specs.ModuleLists.{HasNoRef, HasRef, HasRefAt, Rise}
+use Rattle.wh_host.specs.Unloading.{HasUser, LeavesModule}
+use Rattle.wh_host.specs.Hosting.{HostState, IsEntryOf, IsHost, loaded_as, entry_at, module_in}
 use Rattle.wh_host.proofs.Turns.{claimed_there}
-use Rattle.wh_host.proofs.Hosts.{SameTenant, asked_found, at_place, changed, closed_stays, found, length_set, module_is, moved_on, one_fewer, one_value, places, comes_on, same_or_not, same_owner, seat_set}
+use Rattle.wh_host.proofs.KeptModules.{as_many_listed, listed_has_place, listed_is_there, listed_module_is, none_listed, one_comes, one_goes}
+use Rattle.wh_host.proofs.Hosts.{Found, SameTenant, asked_found, at_place, changed, closed_stays, found, length_set, module_is, moved_on, one_fewer, one_value, places, comes_on, same_or_not, same_owner, seat_set}
 
 -- ---- what is known of a host
 
@@ -55,23 +59,26 @@ get_mapped f [] i x e = absurd (cc e)
 get_mapped f (y ∷ xs) zero x e = ap Some (ap f (one_value y x e))
 get_mapped f (y ∷ xs) (suc i) x e = get_mapped f xs i x e
 
-kept_there : (ms : List LoadedModule) (k : ℕ) (m : LoadedModule) → slice_get ms k ≡ Some m → get_or (map kept_as ms) k None ≡ Some (loaded_as m)
-kept_there [] k m e = absurd (cc e)
-kept_there (x ∷ ms) zero m e = ap kept_as (one_value x m e)
-kept_there (x ∷ ms) (suc k) m e = kept_there ms k m e
+-- the module of who is there
+pub module_there : (h : HostState) (w : World) (place i : ℕ) (x : InstanceEntry) (m : LoadedModule) → IsHost h w → (f : Found h w place i x) → module_in h.modules x.module_place ≡ Some m → (loaded_of w f.t.of ≡ Some (loaded_as m)) × (m.number ≡ x.of)
+module_there h w place i x m st f is =
+    let keeps = st.modules in
+    let number : m.number ≡ x.of = ap (λ (z : LoadedModule). z.number) (sym (module_is h w place i x m f is)) ∙ f.is.numbered in
+    (ap (loaded_of w) (sym (number ∙ f.is.of)) ∙ keeps.all x.module_place m is, number)
 
-none_kept : (ms : List LoadedModule) (k : ℕ) → slice_get ms k ≡ None → get_or (map kept_as ms) k None ≡ None
-none_kept [] k e = refl
-none_kept (x ∷ ms) zero e = absurd (cc e)
-none_kept (x ∷ ms) (suc k) e = none_kept ms k e
+-- that of a number
+pub module_meant : (h : HostState) (w : World) (k : ℕ) (r : ModuleRef) (m : LoadedModule) {rs : List ModuleRef} → IsHost h w → rs ≡ h.module_refs → HasRef rs k r → module_in h.modules r.place ≡ Some m → (loaded_of w k ≡ Some (loaded_as m)) × (m.number ≡ k) × (r.number ≡ k)
+module_meant h w k r m st same has is =
+    let its = listed_module_is h.modules h.module_refs w.modules k r m st.modules (subst (λ zs. HasRef zs k r) same has) is in
+    (its.0, its.1, has.2)
 
--- the module of a number
-pub module_there : (h : HostState) (w : World) (k : ℕ) (m : LoadedModule) → IsHost h w → slice_get h.modules k ≡ Some m → loaded_of w k ≡ Some (loaded_as m)
-module_there h w k m st is = ap (λ (ls : List (Option Loaded)). get_or ls k None) (sym st.modules) ∙ kept_there h.modules k m is
+-- one that is listed has its place
+pub has_its_place : (h : HostState) (w : World) (k : ℕ) (r : ModuleRef) {rs : List ModuleRef} → IsHost h w → rs ≡ h.module_refs → HasRef rs k r → module_in h.modules r.place ≡ None → ⊥
+has_its_place h w k r st same has none = listed_has_place h.modules h.module_refs w.modules k r st.modules (subst (λ zs. HasRef zs k r) same has) none
 
 -- there is none of this number
-pub no_module_there : (h : HostState) (w : World) (k : ℕ) → IsHost h w → slice_get h.modules k ≡ None → loaded_of w k ≡ None
-no_module_there h w k st none = ap (λ (ls : List (Option Loaded)). get_or ls k None) (sym st.modules) ∙ none_kept h.modules k none
+pub no_module_there : (h : HostState) (w : World) (k : ℕ) {rs : List ModuleRef} → IsHost h w → rs ≡ h.module_refs → (Rise 0 rs → HasNoRef rs k) → loaded_of w k ≡ None
+no_module_there h w k st same none = none_listed h.modules h.module_refs w.modules k st.modules (subst (λ zs. Rise 0 zs → HasNoRef zs k) same none)
 
 -- ---- the present call ends
 
@@ -101,12 +108,12 @@ cancelled_here h w id x z st at number asked =
 takes_stays : (w : World) (t t2 : Tenant) {m : _} {name : List ℕ} {given : List ℤ} {fuel at : ℕ} → TakesCall m w.space t name given fuel at t2 → SameTenant t t2
 takes_stays w t t2 takes = rw takes.after (record { place = refl; of = refl; params = refl; copied = refl })
 
-pub some_tenant : (h : HostState) (w : World) (id : InstId) (x : InstanceEntry) (m : LoadedModule) → IsHost h w → entry_at h.entries id.place ≡ Some x → x.number ≡ Some id.number → slice_get h.modules x.of ≡ Some m → IsSomeTenant m.linked x.tenant
+pub some_tenant : (h : HostState) (w : World) (id : InstId) (x : InstanceEntry) (m : LoadedModule) → IsHost h w → entry_at h.entries id.place ≡ Some x → x.number ≡ Some id.number → module_in h.modules x.module_place ≡ Some m → IsSomeTenant m.linked x.tenant
 some_tenant h w id x m st at number is =
     let f = found h w id.place id.number x st at number in
     (x.page_limit, view w.space f.t.place, f.t, subst (λ (l : LoadedModule). IsTenant l.linked x.page_limit x.tenant (view w.space f.t.place) f.t) (module_is h w id.place id.number x m f is) f.is.is)
 
-pub invoked_here : (h : HostState) (w : World) (id : InstId) (name : List ℕ) (given : List ℤ) (fuel at : ℕ) (x : InstanceEntry) (z : HostInstanceState) (m : LoadedModule) → (st : IsHost h w) → entry_at h.entries id.place ≡ Some x → x.number ≡ Some id.number → slice_get h.modules x.of ≡ Some m
+pub invoked_here : (h : HostState) (w : World) (id : InstId) (name : List ℕ) (given : List ℤ) (fuel at : ℕ) (x : InstanceEntry) (z : HostInstanceState) (m : LoadedModule) → (st : IsHost h w) → entry_at h.entries id.place ≡ Some x → x.number ≡ Some id.number → module_in h.modules x.module_place ≡ Some m
     → InvokesTenant m.linked x.tenant name given fuel at z
     → (w2 : World) × IsInvoke w id name given fuel (invoke_ok at) w2 × IsHost (record h { entries = slice_set h.entries id.place (Some (record x { tenant = z })) }) w2
 invoked_here h w id name given fuel at x z m st there number is asked =
@@ -115,7 +122,7 @@ invoked_here h w id name given fuel at x z m st there number is asked =
     let mine : IsTenant m.linked x.page_limit x.tenant (view w.space f.t.place) f.t = subst (λ (l : LoadedModule). IsTenant l.linked x.page_limit x.tenant (view w.space f.t.place) f.t) one f.is.is in
     let made = asked x.page_limit (view w.space f.t.place) f.t w.space mine refl in
     let back : IsTenant f.is.loaded.linked x.page_limit z (view w.space f.t.place) made.0 = subst (λ (l : LoadedModule). IsTenant l.linked x.page_limit z (view w.space f.t.place) made.0) (sym one) made.2 in
-    let known : loaded_of w f.t.of ≡ Some (loaded_as m) = ap (loaded_of w) (sym f.is.of) ∙ module_there h w x.of m st is in
+    let known : loaded_of w f.t.of ≡ Some (loaded_as m) = (module_there h w id.place id.number x m st f is).0 in
     let R : Tenant → Tenant → Type 0 = λ t t2. (loaded_of w t.of ≡ Some (loaded_as m)) × TakesCall (view_linked m.linked) w.space t name given fuel at t2 in
     let go = asked_found h w id x z R st there number (λ t t2 r. takes_stays w t t2 r.1) f (made.0, (known, made.1), back) (invoke id name given fuel) (λ t t2 live r. (invoke_ok at, is_invoked live r.0 r.1)) in
     (_, is_invoked go.2 go.3.0 go.3.1, go.4)
@@ -124,12 +131,12 @@ refused_as : (w : World) (id : InstId) (name : List ℕ) (given : List ℤ) (fue
 refused_as w id name given fuel t l loaded live is same (Some fault) first = isnt_invoked live is (subst (λ m. IsFirst m t name given fault) (sym same) first)
 refused_as w id name given fuel t l loaded live is same None none = no_memory_to_invoke live is (λ fault. subst (λ m. ¬ (Meets m t name given fault)) (sym same) (none fault))
 
-pub refused_here : (h : HostState) (w : World) (id : InstId) (name : List ℕ) (given : List ℤ) (fuel : ℕ) (x : InstanceEntry) (m : LoadedModule) (e : InvokeError) → (st : IsHost h w) → entry_at h.entries id.place ≡ Some x → x.number ≡ Some id.number → slice_get h.modules x.of ≡ Some m
+pub refused_here : (h : HostState) (w : World) (id : InstId) (name : List ℕ) (given : List ℤ) (fuel : ℕ) (x : InstanceEntry) (m : LoadedModule) (e : InvokeError) → (st : IsHost h w) → entry_at h.entries id.place ≡ Some x → x.number ≡ Some id.number → module_in h.modules x.module_place ≡ Some m
     → RefusesInvoke m.linked x.tenant name given e → IsInvoke w id name given fuel (refusal_answer (refusal_of e)) w
 refused_here h w id name given fuel x m e st there number is asked =
     let f = found h w id.place id.number x st there number in
     let mine : IsTenant m.linked x.page_limit x.tenant (view w.space f.t.place) f.t = subst (λ (l : LoadedModule). IsTenant l.linked x.page_limit x.tenant (view w.space f.t.place) f.t) (module_is h w id.place id.number x m f is) f.is.is in
-    let known : loaded_of w f.t.of ≡ Some (loaded_as m) = ap (loaded_of w) (sym f.is.of) ∙ module_there h w x.of m st is in
+    let known : loaded_of w f.t.of ≡ Some (loaded_as m) = (module_there h w id.place id.number x m st f is).0 in
     refused_as w id name given fuel f.t m.linked (loaded_as m) (f.live, f.at) known refl (refusal_of e) (asked x.page_limit (view w.space f.t.place) f.t w.space mine refl)
 
 -- ---- pages move
@@ -201,53 +208,97 @@ gone_here h w id x z output rs2 s2 live2 st at number put exits left lives =
 
 -- ---- a module comes
 
-still_loaded : {A : Type 0} (xs : List A) (y x : A) (i : ℕ) → slice_get xs i ≡ Some x → slice_get (xs ++ y ∷ []) i ≡ Some x
-still_loaded [] y x i e = absurd (cc e)
-still_loaded (z ∷ xs) y x zero e = e
-still_loaded (z ∷ xs) y x (suc i) e = still_loaded xs y x i e
+-- it is who it was among other modules, where its own has its place still
+entry_among : (ms ms2 : List (Option LoadedModule)) (x : InstanceEntry) (s : Space) (i : ℕ) (t : Tenant) → (r : IsEntryOf ms x s i t) → module_in ms2 x.module_place ≡ Some r.loaded → IsEntryOf ms2 x s i t
+entry_among ms ms2 x s i t r there = record {
+  number = r.number;
+  of = r.of;
+  loaded = r.loaded;
+  is_loaded = there;
+  numbered = r.numbered;
+  given = r.given;
+  limit = r.limit;
+  copied = r.copied;
+  is = r.is;
+}
 
-map_behind : {A B : Type 0} (f : A → B) (xs : List A) (x : A) → map f (xs ++ x ∷ []) ≡ map f xs ++ f x ∷ []
-map_behind f [] x = refl
-map_behind f (y ∷ xs) x = ap (λ zs. f y ∷ zs) (map_behind f xs x)
+-- all of them are listed
+pub all_modules_there : (h : HostState) (w : World) → IsHost h w → module_count w.modules ≡ length h.module_refs
+all_modules_there h w st = let keeps = st.modules in sym (as_many_listed 0 h.modules h.module_refs w.modules keeps.listed)
 
-all_kept : (ms : List LoadedModule) → module_count (map kept_as ms) ≡ length ms
-all_kept [] = refl
-all_kept (m ∷ ms) = let more = all_kept ms in omega (arith, more)
-
--- and all of them are there
-pub all_modules_there : (h : HostState) (w : World) → IsHost h w → module_count w.modules ≡ length h.modules
-all_modules_there h w st = ap module_count (sym st.modules) ∙ all_kept h.modules
-
-pub loaded_here : (h : HostState) (w : World) (bytes : List ℕ) (m : LoadedModule) (number : ℕ) → (st : IsHost h w) → m.bytes.value.items ≡ bytes → IsAccepted bytes (view_linked m.linked) → number ≡ h.next_module → length h.modules < 1024
-    → (w2 : World) × IsLoad w bytes (load_ok number) w2 × IsHost (record h { modules = h.modules ++ m ∷ []; next_module = h.next_module + 1 }) w2
-loaded_here h w bytes m number st same accepted next few =
+pub kept_here : (h : HostState) (w : World) (bytes : List ℕ) (linked : LinkedState) (ms2 : List (Option LoadedModule)) (refs2 : List ModuleRef) (number next : ℕ) → (st : IsHost h w) → KeepsModule h.modules h.module_refs number linked bytes ms2 refs2 → IsAccepted bytes (view_linked linked) → number ≡ h.next_module → length h.module_refs < 1024 → next ≡ number + 1
+    → (w2 : World) × IsLoad w bytes (load_ok number) w2 × IsHost (record h { modules = ms2; module_refs = refs2; next_module = next }) w2
+kept_here h w bytes linked ms2 refs2 number next st keeps accepted at few one_on =
     let there = all_modules_there h w st in
-    let new : Loaded = record { bytes = bytes; m = view_linked m.linked } in
+    let new = loaded_as keeps.kept in
     let w2 : World = record w { modules = w.modules ++ Some new ∷ [] } in
-    let loads : LoadsModule w bytes number w2 = record { m = view_linked m.linked; accepted = accepted; few = omega (arith, there, few); next = next ∙ st.next_module; after = refl } in
-    let happens : IsLoad w bytes (load_ok number) w2 = is_loaded loads in (
+    let wasm = view_linked keeps.kept.linked in
+    let loads : LoadsModule w bytes number w2 = record {
+      m = wasm;
+      accepted = subst (λ l. IsAccepted bytes (view_linked l)) (sym keeps.is_linked) accepted;
+      few = omega (arith, there, few);
+      next = at ∙ st.next_module;
+      after = ap (λ (b : List ℕ). let z : World = record w { modules = w.modules ++ Some (record { bytes = b; m = wasm }) ∷ [] } in z) keeps.bytes_are;
+    } in
+    let happens : IsLoad w bytes (load_ok number) w2 = is_loaded loads in
+    let come = one_comes h.modules ms2 h.module_refs refs2 w.modules number st.modules keeps (at ∙ st.next_module) in (
       w2,
       happens,
       record {
         comes = comes_on w w2 (load bytes) st.comes (load_ok number, happens);
-        modules = map_behind kept_as h.modules m ∙ ap (λ (ls : List (Option Loaded)). ls ++ kept_as m ∷ []) st.modules ∙ ap (λ (b : List ℕ). w.modules ++ Some (record { bytes = b; m = view_linked m.linked }) ∷ []) same;
+        modules = come.0;
         space = st.space;
         live = st.live;
         next = st.next;
-        next_module = let e = st.next_module in let longer = length-append w.modules (Some new ∷ []) in omega (arith, e, longer);
-        there = λ i t e.
-            let f = st.there i t e in
-            let r = f.2 in
-            (f.0, f.1, record { number = r.number; of = r.of; loaded = r.loaded; is_loaded = still_loaded h.modules m r.loaded f.0.of r.is_loaded; given = r.given; limit = r.limit; copied = r.copied; is = r.is });
+        next_module = let e = st.next_module in let longer = length-append w.modules (Some new ∷ []) in omega (arith, e, longer, one_on, at);
+        there = λ i t e. let f = st.there i t e in (f.0, f.1, entry_among h.modules ms2 f.0 w.space i t f.2 (come.1 f.0.module_place f.2.loaded f.2.is_loaded));
         all = st.all;
       },
     )
 
-pub kept_here : (h : HostState) (w : World) (bytes : List ℕ) (linked : LinkedState) (ms2 : List LoadedModule) (number : ℕ) → (st : IsHost h w) → KeepsModule h.modules linked bytes ms2 → IsAccepted bytes (view_linked linked) → number ≡ h.next_module → length h.modules < 1024
-    → (w2 : World) × IsLoad w bytes (load_ok number) w2 × IsHost (record h { modules = ms2; next_module = h.next_module + 1 }) w2
-kept_here h w bytes linked ms2 number st keeps accepted next few =
-    let made = loaded_here h w bytes keeps.0 number st keeps.2 (subst (λ l. IsAccepted bytes (view_linked l)) (sym keeps.1) accepted) next few in
-    (made.0, made.1, subst (λ ms. IsHost (record h { modules = ms; next_module = h.next_module + 1 }) made.0) (sym keeps.3) made.2)
+-- ---- a module goes
+
+pub unloaded_here : (h : HostState) (w : World) (k at : ℕ) (ms2 : List (Option LoadedModule)) (refs2 : List ModuleRef) {rs : List ModuleRef} → (st : IsHost h w) → rs ≡ h.module_refs → HasRefAt rs k at → ¬ (HasUser h.entries k) → ((r : ModuleRef) → slice_get h.module_refs at ≡ Some r → LeavesModule h.modules h.module_refs at r ms2 refs2)
+    → (w2 : World) × IsUnload w k unload_ok w2 × IsHost (record h { modules = ms2; module_refs = refs2 }) w2
+unloaded_here h w k at ms2 refs2 st same (r, is, number) unused leaving =
+    let listed = ap (λ zs. slice_get zs at) (sym same) ∙ is in
+    let leaves = leaving r listed in
+    let keeps = st.modules in
+    let known = listed_is_there h.modules h.module_refs w.modules k at r keeps listed number in
+    let none : IsUnused w k = λ i t live same.
+    (let f = st.there i t live in let z = f.2 in unused (t.place, (f.0, f.1, (i, z.number, z.of ∙ same)))) in
+    let w2 : World = record w { modules = slice_set w.modules k None } in
+    let goes : LetsModuleGo w k w2 = record { loaded = known.0; is_loaded = known.1; unused = none; after = refl } in
+    let happens : IsUnload w k unload_ok w2 = is_unloaded goes in
+    let gone = one_goes h.modules ms2 h.module_refs refs2 w.modules k at r keeps listed number leaves in (
+      w2,
+      happens,
+      record {
+        comes = comes_on w w2 (unload k) st.comes (unload_ok, happens);
+        modules = gone.0;
+        space = st.space;
+        live = st.live;
+        next = st.next;
+        next_module = st.next_module ∙ sym (length_set w.modules k None);
+        there = λ i t e.
+            (let f = st.there i t e in
+            let z = f.2 in
+            let other : z.loaded.number ≢ k = λ same. none i t e (sym z.of ∙ sym z.numbered ∙ same) in
+            (f.0, f.1, entry_among h.modules ms2 f.0 w.space i t z (gone.1 f.0.module_place z.loaded z.is_loaded other)));
+        all = st.all;
+      },
+    )
+
+-- none of this number is there
+pub not_there : (h : HostState) (w : World) (k : ℕ) {rs : List ModuleRef} → IsHost h w → rs ≡ h.module_refs → (Rise 0 rs → HasNoRef rs k) → IsUnload w k unload_no_module w
+not_there h w k st same none = no_module_to_unload (no_module_there h w k st same none)
+
+-- an instance is of it
+pub in_use_here : (h : HostState) (w : World) (k at : ℕ) {rs : List ModuleRef} → (st : IsHost h w) → rs ≡ h.module_refs → HasRefAt rs k at → HasUser h.entries k → IsUnload w k unload_in_use w
+in_use_here h w k at st same (r, is, number) (place, (x, there, (i, live, of))) =
+    let known = listed_is_there h.modules h.module_refs w.modules k at r st.modules (ap (λ zs. slice_get zs at) (sym same) ∙ is) number in
+    let f = found h w place i x st there live in
+    is_in_use i known.1 f.live (sym f.is.of ∙ of)
 
 -- ---- no module comes
 
@@ -296,8 +347,8 @@ bytes_refused w bytes (Invalid e) refuses =
     (no_room_to_check e.kind)
 bytes_refused w bytes (Link e) refuses = link_refused w bytes refuses.0 e refuses.1 refuses.2 refuses.3 refuses.4
 
-pub modules_are_full : (h : HostState) (w : World) (bytes : List ℕ) (m : Module) → IsHost h w → IsAccepted bytes m → 1024 ≤ length h.modules → IsLoad w bytes (load_refused modules_full) w
+pub modules_are_full : (h : HostState) (w : World) (bytes : List ℕ) (m : Module) → IsHost h w → IsAccepted bytes m → 1024 ≤ length h.module_refs → IsLoad w bytes (load_refused modules_full) w
 modules_are_full h w bytes m st accepted full = let count = all_modules_there h w st in isnt_loaded (m, accepted, omega (arith, count, full))
 
-pub no_room_to_keep : (h : HostState) (w : World) (bytes : List ℕ) (m : Module) → IsHost h w → IsAccepted bytes m → length h.modules < 1024 → IsLoad w bytes (load_out_of_memory host_out_of_memory) w
+pub no_room_to_keep : (h : HostState) (w : World) (bytes : List ℕ) (m : Module) → IsHost h w → IsAccepted bytes m → length h.module_refs < 1024 → IsLoad w bytes (load_out_of_memory host_out_of_memory) w
 no_room_to_keep h w bytes m st accepted few = let count = all_modules_there h w st in no_memory_to_load (m, accepted, omega (arith, count, few))

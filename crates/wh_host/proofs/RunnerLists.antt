@@ -9,7 +9,7 @@ use Rattle.wh_space_model.specs.declared.plain.InstId.{InstId}
 use Rattle.wh_host.specs.declared.parts.InstanceEntry.{InstanceEntry}
 use Rattle.wh_host.specs.declared.rounds.Runner.{Runner}
 use Rattle.wh_host.specs.Hosting.{entry_at}
-use Rattle.wh_overlay.specs.LaidPages.{UpperState}
+use Rattle.wh_overlay.specs.LaidPages.{OverlayPagesState}
 use Rattle.wh_space_model.proofs.Sums.{set_tally}
 use Rattle.wh_host.specs.Rounds.{AllAreFree, AreTakenOut, RunnersStay, IsFree, IsOut, SitsThere, lent_in, lent_to, lent_to_all}
 use Rattle.wh_host.specs.Joining.{IsLeftOut, IsTakenOut, TakesOut, with_lent}
@@ -85,7 +85,7 @@ more_out E F ys i y n F2 y2 out there free t = record {
     | inr other ↦ (
         let had = out.each k a (sym (set_other ys i k y2 other) ∙ at) sits in
         let far : a.id.place ≢ y.id.place = λ e. apart_from a had e in
-        record { entry = had.entry; was = had.was; number = had.number; of = had.of; page_limit = had.page_limit; spare = had.spare; is = others a.id.place far ∙ had.is; so = had.so })
+        record { entry = had.entry; was = had.was; number = had.number; module_place = had.module_place; page_limit = had.page_limit; spare = had.spare; is = others a.id.place far ∙ had.is; so = had.so })
   ];
   apart = λ j k a b at at2 sits sits2 same. elim (cases_eq j i) [
     | inl one ↦ elim (cases_eq k i) [
@@ -139,7 +139,7 @@ more_out E F ys i y n F2 y2 out there free t = record {
     before : entry_at E y.id.place ≡ Some t.entry
     before = sym (out.elsewhere y.id.place (λ k a at sits. apart_from a (out.each k a at sits))) ∙ t.was
 
-    room_then : (u : UpperState) × (with_lent n y.upper ≡ Some u) × (u.pages ≡ []) × (u.grown ≡ 0) × (u.taken ≡ 0) × (u.reads ≡ [])
+    room_then : (u : OverlayPagesState) × (with_lent n y.upper ≡ Some u) × (u.pages ≡ []) × (u.grown ≡ 0) × (u.taken ≡ 0) × (u.reads ≡ [])
     room_then = let r = free.1 in let u = r.0 in (record u { lent = n; taken = 0 }, ap (with_lent n) r.1, r.2, r.3, refl, r.5)
 
     mine : IsOut E F2 y2 SitsThere
@@ -147,7 +147,7 @@ more_out E F ys i y n F2 y2 out there free t = record {
       entry = t.entry;
       was = before;
       number = t.number;
-      of = refl;
+      module_place = refl;
       page_limit = refl;
       spare = y.tenant;
       is = put.0;
@@ -310,7 +310,7 @@ lent_to_one (x ∷ ys) (suc k) y there taken = let rest = lent_to_one ys k y the
 pub lent_set : (ys : List Runner) (i : ℕ) (y y2 : Runner) → slice_get ys i ≡ Some y → lent_to_all (slice_set ys i y2) + cond y.taken (lent_to y) 0 ≡ lent_to_all ys + cond y2.taken (lent_to y2) 0
 lent_set ys i y y2 there = set_tally (λ (z : Runner). cond z.taken (lent_to z) 0) ys i y y2 there
 
-lent_most : (n : ℕ) (o : Option UpperState) → lent_in (with_lent n o) ≤ n
+lent_most : (n : ℕ) (o : Option OverlayPagesState) → lent_in (with_lent n o) ≤ n
 lent_most n None = omega arith
 lent_most n (Some u) = omega arith
 

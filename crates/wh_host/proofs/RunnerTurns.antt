@@ -17,7 +17,7 @@ use Rattle.wh_host.specs.declared.rounds.Runner.{Runner}
 use Rattle.wh_host.specs.declared.rounds.SeriesEnd.{SeriesEnd}
 use Rattle.wh_host.specs.Backing.{KeepsBacking}
 use Rattle.wh_host.specs.Beside.{HasRun, RunsBeside}
-use Rattle.wh_host.specs.Hosting.{HostState, IsHost, entry_at}
+use Rattle.wh_host.specs.Hosting.{HostState, IsHost, entry_at, module_in}
 use Rattle.wh_host.specs.Left.{LeavesTurned}
 use Rattle.wh_host.specs.Lying.{LiesAt}
 use Rattle.wh_host.specs.Paging.{IsGoing}
@@ -59,7 +59,7 @@ pub record Stands (h : HostState) (s : Space) (q most : ℕ) (w : World) (F : Li
 record Sitting (h : HostState) (s : Space) (q most : ℕ) (m : Space) (before F : List (Option InstanceEntry)) (y : Runner) : Type 0 where
   out : IsOut before F y (RanThere h.modules s q most)
   loaded : LoadedModule
-  is_loaded : slice_get h.modules out.entry.of ≡ Some loaded
+  is_loaded : module_in h.modules out.entry.module_place ≡ Some loaded
   tenant : Tenant
   lies : LiesAt loaded.linked out.entry.page_limit out.entry.tenant m y.id.place tenant
   run : (t : Tenant) → LiesAt loaded.linked out.entry.page_limit out.entry.tenant m y.id.place t
@@ -195,7 +195,7 @@ module _ (h : HostState) (s : Space) (q most : ℕ) (w : World) (F : List (Optio
     each = λ k a at yet.
         (let l = left k a at yet in
         let o = st.out.each k a l.0 yet in
-        record { entry = o.entry; was = put_before.1 a.id.place l.1 ∙ o.was; number = o.number; of = o.of; page_limit = o.page_limit; spare = o.spare; is = put_now.1 a.id.place l.1 ∙ o.is; so = o.so });
+        record { entry = o.entry; was = put_before.1 a.id.place l.1 ∙ o.was; number = o.number; module_place = o.module_place; page_limit = o.page_limit; spare = o.spare; is = put_now.1 a.id.place l.1 ∙ o.is; so = o.so });
     apart = λ j k a b at at2 yet yet2 same. (let l = left j a at yet in let l2 = left k b at2 yet2 in st.out.apart j k a b l.0 l2.0 yet yet2 same);
   }
 
@@ -333,7 +333,7 @@ may_run_all h w F ys st out k y there sits =
     let lies = l.2 in
     record {
       loaded = loaded;
-      is_loaded = ap (slice_get h.modules) o.of ∙ f.is.is_loaded;
+      is_loaded = ap (module_in h.modules) o.module_place ∙ f.is.is_loaded;
       tenant = l.0;
       computes = so.1 loaded.linked x.page_limit (view h.space y.id.place) l.0 lies.is;
       lies = subst (λ n. LiesAt loaded.linked n y.tenant h.space y.id.place l.0) (sym o.page_limit) (subst (λ z. LiesAt loaded.linked x.page_limit z h.space y.id.place l.0) (sym so.0) lies);
@@ -341,13 +341,13 @@ may_run_all h w F ys st out k y there sits =
     }
 
 -- and have then
-ran_there : (modules : List LoadedModule) (s : Space) (q most : ℕ) (x : InstanceEntry) (y y2 : Runner) → SitsThere x y → y.of ≡ x.of → y.page_limit ≡ x.page_limit → y.taken ≡ true → RunsAt modules s q most y y2 → RanThere modules s q most x y2
+ran_there : (modules : List (Option LoadedModule)) (s : Space) (q most : ℕ) (x : InstanceEntry) (y y2 : Runner) → SitsThere x y → y.module_place ≡ x.module_place → y.page_limit ≡ x.page_limit → y.taken ≡ true → RunsAt modules s q most y y2 → RanThere modules s q most x y2
 ran_there modules s q most x y y2 sits of limit taken r =
     let ran = r.ran taken in
     let u = ran.0 in
-    let P : ℕ → ℕ → HostInstanceState → InstId → Type 0 = λ n pages z id. (m : LoadedModule) → slice_get modules n ≡ Some m → (t : Tenant) → IsAtTerm t → LiesAt m.linked pages z s id.place t
+    let P : ℕ → ℕ → HostInstanceState → InstId → Type 0 = λ n pages z id. (m : LoadedModule) → module_in modules n ≡ Some m → (t : Tenant) → IsAtTerm t → LiesAt m.linked pages z s id.place t
     → RunsBeside m.linked pages (y2.ran.turns * q) s id.place z t y2.ran.came y2.ran.pieces y2.ran.charges y2.tenant u in
-    let all = subst (λ id. P x.of x.page_limit x.tenant id) (sym r.id) (subst (λ z. P x.of x.page_limit z y.id) sits.0 (subst (λ pages. P x.of pages y.tenant y.id) limit (subst (λ n. P n y.page_limit y.tenant y.id) of ran.3))) in
+    let all = subst (λ id. P x.module_place x.page_limit x.tenant id) (sym r.id) (subst (λ z. P x.module_place x.page_limit z y.id) sits.0 (subst (λ pages. P x.module_place pages y.tenant y.id) limit (subst (λ n. P n y.page_limit y.tenant y.id) of ran.3))) in
     (u, ran.1, ran.2, λ m is_loaded t lies. all m is_loaded t (sits.1 m.linked x.page_limit (view s y2.id.place) t lies.is) lies)
 
 pub have_run : (h : HostState) (q most : ℕ) (F : List (Option InstanceEntry)) (ys ys2 : List Runner) → length ys2 ≡ length ys → lent_to_all ys ≤ length h.space.pool.free → AreTakenOut h.entries F ys SitsThere → ((k : ℕ) (y : Runner) → slice_get ys k ≡ Some y → y.taken ≡ false → IsFree y × (y.answer ≡ None)) → AllRun h.modules h.space q most ys ys2
@@ -373,11 +373,11 @@ have_run h q most F ys ys2 long frames out rest all = record {
           entry = o.entry;
           was = ap (entry_at h.entries) place ∙ o.was;
           number = o.number ∙ ap (λ (z : InstId). Some z.number) (sym runs.id);
-          of = runs.of ∙ o.of;
+          module_place = runs.module_place ∙ o.module_place;
           page_limit = runs.page_limit ∙ o.page_limit;
           spare = o.spare;
           is = ap (entry_at F) place ∙ o.is;
-          so = ran_there h.modules h.space q most o.entry y y2 o.so o.of o.page_limit taken runs;
+          so = ran_there h.modules h.space q most o.entry y y2 o.so o.module_place o.page_limit taken runs;
         });
     apart = λ j k y2 z2 there there2 sits sits2 same.
         (let r = all j y2 there in

@@ -17,7 +17,7 @@ use Rattle.wh_transcript.specs.Transcripts.{IsReplayable}
 use Rattle.wh_host.specs.declared.parts.StoredParams.{StoredParams}
 use Rattle.wh_host.specs.declared.parts.LoadedModule.{LoadedModule}
 use Rattle.wh_host.specs.declared.parts.InstanceEntry.{InstanceEntry}
-use Rattle.wh_host.specs.Hosting.{AreGivenAs, HostState, IsHost, IsReached, loaded_as, entry_at}
+use Rattle.wh_host.specs.Hosting.{AreGivenAs, HostState, IsHost, IsReached, loaded_as, entry_at, module_in}
 use Rattle.wh_host.specs.Showing.{Shows, given_with, shown_of}
 use Rattle.wh_host.proofs.Hosts.{found, module_is, one_value}
 use Rattle.wh_host.proofs.Requests.{module_there}
@@ -40,10 +40,10 @@ pub record ShownThere (w : World) (place i : ℕ) (m : LoadedModule) (x : Instan
   pub given : given_with x.given x.tenant.store.inputs.items ≡ t.params
   pub shows : Shows (shown_of x m.bytes.value.items) m.bytes.value.items t
 
-pub shown_there : (h : HostState) (w : World) (place i : ℕ) (x : InstanceEntry) (m : LoadedModule) → IsHost h w → entry_at h.entries place ≡ Some x → x.number ≡ Some i → slice_get h.modules x.of ≡ Some m → ShownThere w place i m x
+pub shown_there : (h : HostState) (w : World) (place i : ℕ) (x : InstanceEntry) (m : LoadedModule) → IsHost h w → entry_at h.entries place ≡ Some x → x.number ≡ Some i → module_in h.modules x.module_place ≡ Some m → ShownThere w place i m x
 shown_there h w place i x m st at number is =
     let f = found h w place i x st at number in
-    let known : loaded_of w f.t.of ≡ Some (loaded_as m) = ap (loaded_of w) (sym f.is.of) ∙ module_there h w x.of m st is in
+    let known : loaded_of w f.t.of ≡ Some (loaded_as m) = (module_there h w place i x m st f is).0 in
     let given = params_by x.given x.tenant.store.inputs.items f.t.params f.is.given (inputs_are f.is.loaded.linked x.page_limit x.tenant w f.t f.is.is (inputs_stay w st.comes i f.t f.live)) in
     let over = subst (λ (z : LoadedModule). IsTenant z.linked x.page_limit x.tenant (view w.space f.t.place) f.t) (module_is h w place i x m f is) f.is.is in
     let calls = join_each x.tenant.journal.ended x.tenant.journal.open_calls f.t.ended f.t.open_calls over.ended over.open_calls in

@@ -9,7 +9,7 @@ use Rattle.wh_instance.specs.Tenancy.{IsTenant}
 use Rattle.wh_instance.specs.Told.{IsToldAt, TellsCall}
 use Rattle.wh_host.specs.declared.parts.LoadedModule.{LoadedModule}
 use Rattle.wh_host.specs.declared.parts.InstanceEntry.{InstanceEntry}
-use Rattle.wh_host.specs.Hosting.{HostState, IsHost, entry_at}
+use Rattle.wh_host.specs.Hosting.{HostState, IsHost, entry_at, module_in}
 use Rattle.wh_host.specs.Telling.{IsTold}
 use Rattle.wh_host.proofs.Hosts.{found, module_is}
 use Rattle.wh_host.proofs.Paged.{same_tenant}
@@ -21,7 +21,7 @@ of_tenant : (w : World) (id : InstId) (at : ℕ) (t : Tenant) (told : Option Cal
 of_tenant w id at t None live is = λ u lives. (ap (λ (z : Tenant). slice_get (journal z) at) (same_tenant w id u t lives live) ∙ is)
 of_tenant w id at t (Some status) live is = (t, is.0, live, is.1, is.2)
 
-pub told_here : (h : HostState) (w : World) (id : InstId) (at : ℕ) (x : InstanceEntry) (m : LoadedModule) (told : Option CallStatus) → IsHost h w → entry_at h.entries id.place ≡ Some x → x.number ≡ Some id.number → slice_get h.modules x.of ≡ Some m → TellsCall m.linked x.tenant at told → IsTold w id at told
+pub told_here : (h : HostState) (w : World) (id : InstId) (at : ℕ) (x : InstanceEntry) (m : LoadedModule) (told : Option CallStatus) → IsHost h w → entry_at h.entries id.place ≡ Some x → x.number ≡ Some id.number → module_in h.modules x.module_place ≡ Some m → TellsCall m.linked x.tenant at told → IsTold w id at told
 told_here h w id at x m told st there number is tells =
     let f = found h w id.place id.number x st there number in
     let o = journals_stay_in_order w st.comes id.number f.t f.live in

@@ -15,12 +15,15 @@ use Rattle.wh_instance.specs.Beginning.{BeginsTenant}
 use Rattle.wh_space.specs.Arrivals.{claimed}
 use Rattle.wh_space.specs.declared.occupant_entry.Promise.{Promise}
 use Rattle.wh_host.specs.declared.parts.InstanceEntry.{InstanceEntry}
+use Rattle.wh_host.specs.declared.parts.ModuleRef.{ModuleRef}
 use Rattle.wh_host.specs.Hosting.{HostState, IsHost}
 
--- it is the instance of this number, with what is admitted, and base and salt
-pub record BeginsEntry (l : LinkedState) (a : Admitted) (i k : ℕ) (words : ℕ × ℕ) (x : InstanceEntry) : Type 0 where
+-- it is the instance of this number, of this module, with what is admitted, and base and salt
+pub record BeginsEntry (l : LinkedState) (a : Admitted) (i : ℕ) (of_module : ModuleRef) (words : ℕ × ℕ) (x : InstanceEntry)
+    : Type 0 where
   pub number : x.number ≡ Some i
-  pub of : x.of ≡ k
+  pub of : x.of ≡ of_module.number
+  pub module_place : x.module_place ≡ of_module.place
   pub given : x.given
       ≡ record { shares = a.shares; min = a.min; max = a.max; fuel = a.fuel; base = words.0; salt = words.1 }
   pub limit : x.page_limit ≡ a.begun.page_limit

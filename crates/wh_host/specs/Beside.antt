@@ -12,7 +12,7 @@ use Rattle.wh_instance.specs.Seen.{IsAtTerm}
 use Rattle.wh_instance.specs.Tenancy.{HostInstanceState}
 use Rattle.wh_instance.specs.declared.computing.TurnOutcome.{TurnOutcome}
 use Rattle.wh_instance.specs.declared.computing.TurnOutcome.TheVariants as came
-use Rattle.wh_overlay.specs.LaidPages.{UpperState}
+use Rattle.wh_overlay.specs.LaidPages.{OverlayPagesState}
 use Rattle.wh_overlay.specs.LaidBack.{LooksSame}
 use Rattle.wh_overlay.specs.Over.{IsOverSame, IsReadyOver, IsWholeOver, OverlayState, sees}
 use Rattle.wh_space.specs.Steps.{page_limit}
@@ -21,7 +21,7 @@ use Rattle.wh_host.specs.Lent.{TurnsTo}
 use Rattle.wh_host.specs.Series.{IsWholeOrCut}
 
 -- the memory of the instance at a place, with this written in the overlay
-abbrev pub memory_with : Space → ℕ → ℕ → UpperState → OverlayState
+abbrev pub memory_with : Space → ℕ → ℕ → OverlayPagesState → OverlayState
 memory_with s place limit u = record { lower = s; place = place; page_limit = limit; upper = u }
 
 -- the setting of its calls
@@ -31,9 +31,9 @@ beside_setting l limit s place = setting_of l sees IsReadyOver IsOverSame (min l
 -- Over this memory the present call of an instance gets so far in a turn of q charges, with nothing written in the overlay before
 -- it; then this is written there.
 pub record RunsBeside (l : LinkedState) (limit q : ℕ) (s : Space) (place : ℕ) (x : HostInstanceState) (t : Tenant)
-    (answer : TurnOutcome) (pieces charges : ℕ) (x1 : HostInstanceState) (u : UpperState) : Type 0 where
+    (answer : TurnOutcome) (pieces charges : ℕ) (x1 : HostInstanceState) (u : OverlayPagesState) : Type 0 where
   pub computes : IsAtTerm t
-  pub first : UpperState
+  pub first : OverlayPagesState
   pub no_pages : first.pages ≡ []
   pub not_grown : first.grown ≡ 0
   pub none_taken : first.taken ≡ 0
@@ -58,7 +58,7 @@ CameThere s place came.Again n q answer q2 = (answer ≡ came.Again) × (q2 ≡ 
 
 -- An instance that is in this memory so has run over one that is as good for it, and the frames that are lent to it are free.
 pub record HasRun (l : LinkedState) (limit q : ℕ) (s0 s : Space) (place : ℕ) (x : HostInstanceState) (t : Tenant)
-    (answer : TurnOutcome) (pieces charges : ℕ) (x1 : HostInstanceState) (u : UpperState) : Type 0 where
+    (answer : TurnOutcome) (pieces charges : ℕ) (x1 : HostInstanceState) (u : OverlayPagesState) : Type 0 where
   pub runs : RunsBeside l limit q s0 place x t answer pieces charges x1 u
   pub looks : LooksSame place s0 s
   pub frames : u.lent ≤ length s.pool.free
@@ -70,7 +70,7 @@ EndsTurn l limit q n s t end place x2 s2 =
     (few : ℕ) × IsWholeOrCut q few n end × TurnsTo l limit few s t end n place x2 s2
 
 -- the room with nothing in it
-abbrev pub with_nothing : UpperState → UpperState
+abbrev pub with_nothing : OverlayPagesState → OverlayPagesState
 with_nothing u = record u { pages = []; reads = []; grown = 0; room = u.room + length u.pages; taken = 0 }
 
 -- a call that came to this can go on, once all is written back

@@ -96,6 +96,7 @@ RefusesFork x m s live place q Memory = ⊥
 pub record CopiesEntry (x : InstanceEntry) (number : ℕ) (a : AdmittedQuota) (y : InstanceEntry) : Type 0 where
   pub number_is : y.number ≡ Some number
   pub of : y.of ≡ x.of
+  pub module_place : y.module_place ≡ x.module_place
   pub given : y.given ≡ record x.given { shares = a.shares; min = a.min_frames; max = a.max_frames }
   pub limit : y.page_limit ≡ x.page_limit
   pub copied : IsPresent x.tenant y.copied

@@ -9,7 +9,7 @@ use Rattle.wh_instance.specs.OwnerRequests.{OfAnyTenant}
 use Rattle.wh_instance.specs.Seen.{IsAtTerm}
 use Rattle.wh_instance.specs.Tenancy.{HostInstanceState}
 use Rattle.wh_overlay.specs.LaidBack.{LooksSame}
-use Rattle.wh_overlay.specs.LaidPages.{UpperState}
+use Rattle.wh_overlay.specs.LaidPages.{OverlayPagesState}
 use Rattle.wh_host.specs.declared.parts.LoadedModule.{LoadedModule}
 use Rattle.wh_host.specs.declared.parts.InstanceEntry.{InstanceEntry}
 use Rattle.wh_host.specs.declared.rounds.Runner.{Runner}
@@ -31,7 +31,7 @@ pub record StaysFree (rs : List (Option InstanceEntry)) (y : Runner) (rs2 : List
       → OfAnyTenant x.tenant (λ l limit bytes t. ¬ (IsAtTerm t))
 
 -- n frames are lent for what is written there
-abbrev pub with_lent : ℕ → Option UpperState → Option UpperState
+abbrev pub with_lent : ℕ → Option OverlayPagesState → Option OverlayPagesState
 with_lent n None = None
 with_lent n (Some u) = Some (record u { lent = n; taken = 0 })
 
@@ -44,7 +44,7 @@ pub record IsTakenOut (rs : List (Option InstanceEntry)) (y : Runner) (n : ℕ) 
   pub entries : rs2 ≡ slice_set rs y.id.place (Some (record entry { number = None; tenant = y.tenant }))
   pub runner : y2 ≡ record y {
     taken = true;
-    of = entry.of;
+    module_place = entry.module_place;
     page_limit = entry.page_limit;
     tenant = entry.tenant;
     upper = with_lent n y.upper;
@@ -69,7 +69,7 @@ series_end ran end = record { turns = ran.turns; charges = ran.charges; end = en
 
 -- The instance of the runner has finished its turns, as one: in this memory, which is as good as before for all others, and it has this instance then.
 pub record Finishes (q : ℕ) (s : Space) (y : Runner) (s2 : Space) (end : TurnEnd) (x3 : HostInstanceState) : Type 0 where
-  pub turns : (u : UpperState) → y.upper ≡ Some u → (l : LinkedState) (limit : ℕ) (s0 : Space) (x : HostInstanceState) (t : Tenant)
+  pub turns : (u : OverlayPagesState) → y.upper ≡ Some u → (l : LinkedState) (limit : ℕ) (s0 : Space) (x : HostInstanceState) (t : Tenant)
       → HasRun l limit (y.ran.turns * q) s0 s y.id.place x t y.ran.came y.ran.pieces y.ran.charges y.tenant u
       → EndsTurn l limit (y.ran.turns * q) y.ran.charges s t end y.id.place x3 s2
   pub others : (other : ℕ) → other ≢ y.id.place → LooksSame other s s2
@@ -83,14 +83,14 @@ pub record FinishesAt (q : ℕ) (s : Space) (y : Runner) (s2 : Space) (y2 : Runn
   pub finishes : Finishes q s y s2 end y2.tenant
   pub answer : y2.answer ≡ Some (series_end y.ran end)
   pub again : end ≡ Again → CanGoOnFrom y.ran.came
-  pub upper : (u : UpperState) → y.upper ≡ Some u → y2.upper ≡ Some (with_nothing u)
+  pub upper : (u : OverlayPagesState) → y.upper ≡ Some u → y2.upper ≡ Some (with_nothing u)
   pub id : y2.id ≡ y.id
   pub free : IsFree y2
 
 -- some instance has run there over a memory that was as good
 abbrev pub CanFinish : ℕ → Space → Runner → Type 0
 CanFinish q s y =
-    (u : UpperState) × (y.upper ≡ Some u) × (l : LinkedState) × (limit : ℕ) × (s0 : Space) × (x : HostInstanceState) × (t : Tenant)
+    (u : OverlayPagesState) × (y.upper ≡ Some u) × (l : LinkedState) × (limit : ℕ) × (s0 : Space) × (x : HostInstanceState) × (t : Tenant)
     × HasRun l limit (y.ran.turns * q) s0 s y.id.place x t y.ran.came y.ran.pieces y.ran.charges y.tenant u
 
 -- it has its place again
@@ -100,7 +100,7 @@ pub record Returns (q : ℕ) (rs : List (Option InstanceEntry)) (s : Space) (y :
   pub finishes : Finishes q s y s2 end tenant
   pub answer : y2.answer ≡ Some (series_end y.ran end)
   pub again : end ≡ Again → CanGoOnFrom y.ran.came
-  pub upper : (u : UpperState) → y.upper ≡ Some u → y2.upper ≡ Some (with_nothing u)
+  pub upper : (u : OverlayPagesState) → y.upper ≡ Some u → y2.upper ≡ Some (with_nothing u)
   pub id : y2.id ≡ y.id
   pub free : IsFree y2
   pub entries : (x : InstanceEntry) → entry_at rs y.id.place ≡ Some x
@@ -116,7 +116,7 @@ LaysAt q rs s y rs2 s2 y2 =
 abbrev pub TellsSeries : Runner → Runner → Type 0
 TellsSeries y y2 =
     (end : TurnEnd) × (y2.answer ≡ Some (series_end y.ran end)) × (end ≡ Again → CanGoOnFrom y.ran.came)
-    × ((u : UpperState) → y.upper ≡ Some u → y2.upper ≡ Some (with_nothing u))
+    × ((u : OverlayPagesState) → y.upper ≡ Some u → y2.upper ≡ Some (with_nothing u))
 
 -- one that had none has the answer that it had
 abbrev pub HasAnswer : Runner → Runner → Type 0
@@ -125,7 +125,7 @@ HasAnswer y y2 =
 
 -- The instances of all runners have run over one memory, and this one is as good for each; the frames that are lent to them are free.
 -- The other runners are free, and have no answer.
-pub record HaveRun (modules : List LoadedModule) (q most : ℕ) (before : List (Option InstanceEntry)) (s0 : Space)
+pub record HaveRun (modules : List (Option LoadedModule)) (q most : ℕ) (before : List (Option InstanceEntry)) (s0 : Space)
     (now : List (Option InstanceEntry)) (s : Space) (ys : List Runner) : Type 0 where
   pub out : AreTakenOut before now ys (RanThere modules s0 q most)
   pub looks : (k : ℕ) (y : Runner) → slice_get ys k ≡ Some y → y.taken ≡ true → LooksSame y.id.place s0 s

@@ -12,6 +12,8 @@ pub mod Stored
 pub mod CallRequests
 pub mod Entries
 pub mod Loading
+pub mod ModuleLists
+pub mod Unloading
 pub mod Paging
 pub mod Releasing
 pub mod Requests

@@ -1,5 +1,5 @@
 -- What a host answers where a module is to be kept.
-use Rattle.std.specs.Prelude.{◌≡◌, ◌≢◌, ℕ, ◌⊎◌, ◌++◌, List, [], ◌∷◌, Result, Ok, Err}
+use Rattle.std.specs.Prelude.{◌≡◌, ◌≢◌, ℕ, ◌⊎◌, ◌++◌, List, [], ◌∷◌, Option, Some, None, Result, Ok, Err}
 use Rattle.wh_model.specs.declared.faults.FaultKind.TheVariants.{Memory as NoRoom}
 use Rattle.wh_model.specs.declared.faults.ValidKind.TheVariants.{Memory as NoRoomToCheck}
 use Rattle.wh_host_model.specs.Host.Worlds.{World}
@@ -12,14 +12,23 @@ use Rattle.wh_load.specs.declared.error.LoadError.TheVariants.{Decode, Valid, Li
 use Rattle.wh_imports.specs.LinkedState.{LinkedState}
 use Rattle.wh_host.specs.declared.parts.LoadedModule.{LoadedModule}
 use Rattle.wh_host.specs.declared.parts.ModuleId.{ModuleId}
+use Rattle.wh_host.specs.declared.parts.ModuleRef.{ModuleRef}
 use Rattle.wh_host.specs.declared.error.ModuleError.{ModuleError}
 use Rattle.wh_host.specs.declared.error.ModuleError.TheVariants.{Bytes, ModulesFull, Memory}
-use Rattle.wh_host.specs.Hosting.{HostState, IsHost}
+use Rattle.wh_host.specs.Hosting.{HostState, IsHost, module_in}
 
--- a linked module and its bytes stand after the others
-abbrev pub KeepsModule : List LoadedModule → LinkedState → List ℕ → List LoadedModule → Type 0
-KeepsModule ms linked bytes ms2 =
-    (m : LoadedModule) × (m.linked ≡ linked) × (m.bytes.value.items ≡ bytes) × (ms2 ≡ ms ++ m ∷ [])
+-- a linked module of this number and its bytes have a place that was free, and are listed after the others
+pub record KeepsModule (ms : List (Option LoadedModule)) (refs : List ModuleRef) (number : ℕ) (linked : LinkedState)
+    (bytes : List ℕ) (ms2 : List (Option LoadedModule)) (refs2 : List ModuleRef) : Type 0 where
+  pub kept : LoadedModule
+  pub place : ℕ
+  pub numbered : kept.number ≡ number
+  pub is_linked : kept.linked ≡ linked
+  pub bytes_are : kept.bytes.value.items ≡ bytes
+  pub vacant : module_in ms place ≡ None
+  pub lies : module_in ms2 place ≡ Some kept
+  pub others : (other : ℕ) → other ≢ place → module_in ms2 other ≡ module_in ms other
+  pub listed : refs2 ≡ refs ++ record { number = number; place = place } ∷ []
 
 -- the linker's error is this answer
 abbrev pub IsLinkAnswer : LinkError → LoadAnswer → Type 0

@@ -8,10 +8,11 @@ use Rattle.wh_instance.specs.Tenancy.{suspension_of}
 use Rattle.wh_host.specs.declared.parts.LoadedModule.{LoadedModule}
 use Rattle.wh_host.specs.declared.parts.InstanceEntry.{InstanceEntry}
 use Rattle.wh_host.specs.declared.parts.InstanceRef.{InstanceRef}
+use Rattle.wh_host.specs.declared.parts.ModuleRef.{ModuleRef}
 use Rattle.wh_host.specs.declared.rolling.RollInstance.{RollInstance}
 use Rattle.wh_host.specs.declared.rolling.RollModule.{RollModule}
 use Rattle.wh_host_model.specs.Host.Misreading.{ComesAbout}
-use Rattle.wh_host.specs.Hosting.{HostState, IsHost, entry_at}
+use Rattle.wh_host.specs.Hosting.{HostState, IsHost, entry_at, module_in}
 use Rattle.wh_host.specs.Showing.{given_with}
 
 -- a module as the roll has it: its number, and its bytes
@@ -102,13 +103,18 @@ view_listed e = record {
 
 -- ---- within the crate
 
-abbrev pub module_by : ℕ → LoadedModule → ListedModule
-module_by number x = record { number = number; bytes = x.bytes.value.items }
+-- what the code has of the modules at these places
+abbrev pub module_by : ModuleRef → LoadedModule → ListedModule
+module_by module_ref x = record { number = module_ref.number; bytes = x.bytes.value.items }
 
--- the modules that the code has, the first of the list under this number
-abbrev pub modules_from : (number : ℕ) → List LoadedModule → List ListedModule
-modules_from number [] = []
-modules_from number (x ∷ xs) = module_by number x ∷ modules_from (number + 1) xs
+abbrev pub listed_module : ModuleRef → Option LoadedModule → List ListedModule
+listed_module module_ref None = []
+listed_module module_ref (Some x) = module_by module_ref x ∷ []
+
+abbrev pub listed_modules : List (Option LoadedModule) → List ModuleRef → List ListedModule
+listed_modules ms [] = []
+listed_modules ms (module_ref ∷ module_refs) =
+    listed_module module_ref (module_in ms module_ref.place) ++ listed_modules ms module_refs
 
 -- what the code has of who has a seat
 abbrev pub listed_by : InstanceRef → InstanceEntry → Listed

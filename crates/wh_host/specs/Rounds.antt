@@ -14,7 +14,7 @@ use Rattle.wh_instance.specs.OwnerRequests.{OfAnyTenant}
 use Rattle.wh_instance.specs.Seen.{IsAtTerm}
 use Rattle.wh_instance.specs.Bursts.{AreUsed}
 use Rattle.wh_instance.specs.Tenancy.{HostInstanceState}
-use Rattle.wh_overlay.specs.LaidPages.{UpperState}
+use Rattle.wh_overlay.specs.LaidPages.{OverlayPagesState}
 use Rattle.wh_overlay.specs.Over.{CanStepOver}
 use Rattle.wh_host.specs.declared.parts.LoadedModule.{LoadedModule}
 use Rattle.wh_host.specs.declared.parts.InstanceEntry.{InstanceEntry}
@@ -23,7 +23,7 @@ use Rattle.wh_host.specs.declared.rounds.SeriesEnd.{SeriesEnd}
 use Rattle.wh_host.specs.declared.beside.RanBeside.{RanBeside}
 use Rattle.wh_host.specs.Backing.{KeepsBacking}
 use Rattle.wh_host.specs.Beside.{RunsBeside}
-use Rattle.wh_host.specs.Hosting.{entry_at}
+use Rattle.wh_host.specs.Hosting.{entry_at, module_in}
 use Rattle.wh_host.specs.Left.{LeavesTurned}
 use Rattle.wh_host.specs.Lying.{LiesAt}
 use Rattle.wh_host.specs.Paging.{IsGoing}
@@ -48,10 +48,10 @@ AllTurn q most w (y ∷ ys) w2 = (mid : World) × TakesTurns q most w y.id y.ans
 
 -- it has room, in which nothing is written, and no page is noted as read
 abbrev pub HasRoomBeside : Runner → Type 0
-HasRoomBeside y = (u : UpperState) × (y.upper ≡ Some u) × (u.pages ≡ []) × (u.grown ≡ 0) × (u.taken ≡ 0) × (u.reads ≡ [])
+HasRoomBeside y = (u : OverlayPagesState) × (y.upper ≡ Some u) × (u.pages ≡ []) × (u.grown ≡ 0) × (u.taken ≡ 0) × (u.reads ≡ [])
 
 -- how many frames are lent for what is written there
-abbrev pub lent_in : Option UpperState → ℕ
+abbrev pub lent_in : Option OverlayPagesState → ℕ
 lent_in None = 0
 lent_in (Some u) = u.lent
 
@@ -74,7 +74,7 @@ pub record IsOut (before now : List (Option InstanceEntry)) (y : Runner) (P : In
   pub entry : InstanceEntry
   pub was : entry_at before y.id.place ≡ Some entry
   pub number : entry.number ≡ Some y.id.number
-  pub of : y.of ≡ entry.of
+  pub module_place : y.module_place ≡ entry.module_place
   pub page_limit : y.page_limit ≡ entry.page_limit
   pub spare : HostInstanceState
   pub is : entry_at now y.id.place ≡ Some (record entry { number = None; tenant = spare })
@@ -100,10 +100,10 @@ IsBurst q most ran =
     (ran.turns ≤ most) × AreUsed q ran.turns ran.charges × (ran.turns ≤ ran.leave.reads + 1)
 
 -- it has run there, over this memory
-abbrev pub RanThere : List LoadedModule → Space → ℕ → ℕ → InstanceEntry → Runner → Type 0
+abbrev pub RanThere : List (Option LoadedModule) → Space → ℕ → ℕ → InstanceEntry → Runner → Type 0
 RanThere modules s q most x y =
-    (u : UpperState) × (y.upper ≡ Some u) × IsBurst q most y.ran
-    × ((m : LoadedModule) → slice_get modules x.of ≡ Some m → (t : Tenant)
+    (u : OverlayPagesState) × (y.upper ≡ Some u) × IsBurst q most y.ran
+    × ((m : LoadedModule) → module_in modules x.module_place ≡ Some m → (t : Tenant)
     → LiesAt m.linked x.page_limit x.tenant s y.id.place t
     → RunsBeside m.linked x.page_limit (y.ran.turns * q) s y.id.place x.tenant t y.ran.came y.ran.pieces y.ran.charges
     y.tenant u)
@@ -111,36 +111,36 @@ RanThere modules s q most x y =
 -- ---- what runners run
 
 -- it can run over this memory
-pub record MayRun (modules : List LoadedModule) (s : Space) (y : Runner) : Type 0 where
+pub record MayRun (modules : List (Option LoadedModule)) (s : Space) (y : Runner) : Type 0 where
   pub loaded : LoadedModule
-  pub is_loaded : slice_get modules y.of ≡ Some loaded
+  pub is_loaded : module_in modules y.module_place ≡ Some loaded
   pub tenant : Tenant
   pub computes : IsAtTerm tenant
   pub lies : LiesAt loaded.linked y.page_limit y.tenant s y.id.place tenant
   pub room : HasRoomBeside y
 
 -- all can
-abbrev pub AllMayRun : List LoadedModule → Space → List Runner → Type 0
+abbrev pub AllMayRun : List (Option LoadedModule) → Space → List Runner → Type 0
 AllMayRun modules s ys =
     (k : ℕ) (y : Runner) → slice_get ys k ≡ Some y → y.taken ≡ true → MayRun modules s y
 
 -- So its instance has run by turns of q charges, at most `most`, if it has one; else there is room as before.
-pub record RunsAt (modules : List LoadedModule) (s : Space) (q most : ℕ) (y y2 : Runner) : Type 0 where
+pub record RunsAt (modules : List (Option LoadedModule)) (s : Space) (q most : ℕ) (y y2 : Runner) : Type 0 where
   pub id : y2.id ≡ y.id
   pub taken : y2.taken ≡ y.taken
-  pub of : y2.of ≡ y.of
+  pub module_place : y2.module_place ≡ y.module_place
   pub page_limit : y2.page_limit ≡ y.page_limit
   pub answer : y2.answer ≡ y.answer
   pub lent : lent_to y2 ≡ lent_to y
   pub free : y.taken ≡ false → HasRoomBeside y → HasRoomBeside y2
-  pub ran : y.taken ≡ true → (u : UpperState) × (y2.upper ≡ Some u) × IsBurst q most y2.ran
-      × ((m : LoadedModule) → slice_get modules y.of ≡ Some m → (t : Tenant) → IsAtTerm t
+  pub ran : y.taken ≡ true → (u : OverlayPagesState) × (y2.upper ≡ Some u) × IsBurst q most y2.ran
+      × ((m : LoadedModule) → module_in modules y.module_place ≡ Some m → (t : Tenant) → IsAtTerm t
       → LiesAt m.linked y.page_limit y.tenant s y.id.place t
       → RunsBeside m.linked y.page_limit (y2.ran.turns * q) s y.id.place y.tenant t y2.ran.came y2.ran.pieces y2.ran.charges
       y2.tenant u)
 
 -- all have
-abbrev pub AllRun : List LoadedModule → Space → ℕ → ℕ → List Runner → List Runner → Type 0
+abbrev pub AllRun : List (Option LoadedModule) → Space → ℕ → ℕ → List Runner → List Runner → Type 0
 AllRun modules s q most ys ys2 =
     (k : ℕ) (y2 : Runner) → slice_get ys2 k ≡ Some y2
     → (y : Runner) × (slice_get ys k ≡ Some y) × RunsAt modules s q most y y2
@@ -159,7 +159,7 @@ NoneIsLeftOut w ys =
 -- ---- what turns take
 
 -- What the call at this instance does next reads or writes bytes that can't be reached beside this memory, with this room there.
-pub record IsOutOfReach (s : Space) (t : Tenant) (u : UpperState) : Type 0 where
+pub record IsOutOfReach (s : Space) (t : Tenant) (u : OverlayPagesState) : Type 0 where
   pub term : Term
   pub rest : Rest
   pub next : Term
@@ -173,7 +173,7 @@ pub record IsOutOfReach (s : Space) (t : Tenant) (u : UpperState) : Type 0 where
 abbrev pub TakesSome : World → Runner → Type 0
 TakesSome w y =
     (made : SeriesEnd) (t : Tenant) → y.answer ≡ Some made → made.end ≡ Again → made.charges ≡ 0 → IsLive w y.id t
-    → (u : UpperState) × (y.upper ≡ Some u) × IsOutOfReach w.space t u
+    → (u : OverlayPagesState) × (y.upper ≡ Some u) × IsOutOfReach w.space t u
 
 -- those of each runner did
 abbrev pub EachTakesSome : World → List Runner → Type 0

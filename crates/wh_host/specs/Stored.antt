@@ -5,16 +5,27 @@ use Rattle.wh_space_model.specs.Parts.{Space}
 use Rattle.wh_space.specs.contracts.memory.Memory as memory_type
 use Rattle.wh_host.specs.declared.parts.LoadedModule.{LoadedModule}
 use Rattle.wh_host.specs.contracts.parts.LoadedModule as module_type
+use Rattle.wh_host.specs.declared.parts.ModuleRef.{ModuleRef}
+use Rattle.wh_host.specs.contracts.parts.ModuleRef as ref_type
 use Rattle.wh_host.specs.declared.parts.InstanceEntry.{InstanceEntry}
 use Rattle.wh_host.specs.contracts.parts.InstanceEntry as resident_type
 use Rattle.wh_host.specs.Hosting.{HostState}
 
 abbrev pub stored_host : Coded HostState
 stored_host =
-    code_by (List LoadedModule × (List (Option InstanceEntry) × (ℕ × (Space × (ℕ × ℕ)))))
-    (coded× (coded_list module_type.the_row.coded)
+    code_by (List (Option LoadedModule) × (List ModuleRef × (List (Option InstanceEntry) × (ℕ × (Space × (ℕ × ℕ))))))
+    (coded× (coded_list (coded_option module_type.the_row.coded))
+    (coded× (coded_list ref_type.the_row.coded)
     (coded× (coded_list (coded_option resident_type.the_row.coded))
-    (coded× coded_ℕ (coded× memory_type.the_row.coded (coded× coded_ℕ coded_ℕ)))))
-    (λ h. (h.modules, (h.entries, (h.live, (h.space, (h.next, h.next_module))))))
-    (λ p. record { modules = p.0; entries = p.1.0; live = p.1.1.0; space = p.1.1.1.0; next = p.1.1.1.1.0; next_module = p.1.1.1.1.1 })
+    (coded× coded_ℕ (coded× memory_type.the_row.coded (coded× coded_ℕ coded_ℕ))))))
+    (λ h. (h.modules, (h.module_refs, (h.entries, (h.live, (h.space, (h.next, h.next_module)))))))
+    (λ p. record {
+      modules = p.0;
+      module_refs = p.1.0;
+      entries = p.1.1.0;
+      live = p.1.1.1.0;
+      space = p.1.1.1.1.0;
+      next = p.1.1.1.1.1.0;
+      next_module = p.1.1.1.1.1.1;
+    })
     (λ _. refl)

@@ -10,7 +10,8 @@ ghost use Rattle.wh_host.specs.Backing.{KeepsBacking};
 ghost use Rattle.wh_host.specs.Admitting.{AnswersAdmit, BeginsEntry, EntersNext};
 
 use crate::host::{Host, module_at};
-use crate::parts::{InstanceEntry, ModuleId, StoredParams};
+use crate::module_refs::find_ref;
+use crate::parts::{InstanceEntry, ModuleId, ModuleRef, StoredParams};
 use slab::Slab;
 use std::alloc::{AllocError, Global};
 use wh_admit::{AdmitError, Admitted, Params, Room, admit};
@@ -19,13 +20,13 @@ use wh_instance::HostInstance;
 use wh_space::{Memory, Promise};
 use wh_space_model::InstId;
 
-// The instance that begins so, of the module of this number.
+// The instance that begins so, of this module.
 fn new_entry_for(
     alloc: Global,
     linked: &Linked,
     admitted: Admitted,
     number: u64,
-    of: usize,
+    of: ModuleRef,
     words: (u32, u64),
 ) -> Result<InstanceEntry, AllocError>
     requires few { length linked.now.valid.decoded.segments.items ≤ most_segments }
@@ -44,7 +45,8 @@ fn new_entry_for(
     let tenant = HostInstance::new(alloc, linked, begun, machine, fuel)?;
     Ok(InstanceEntry {
         number: Some(number),
-        of,
+        of: of.number,
+        module_place: of.place,
         given: StoredParams {
             shares,
             min,
@@ -106,7 +108,10 @@ impl Host {
         ensures memory { IfOk result (λ id. (size : ℕ) × Enters self.old.space id.place
             (promised id.number (view_params params)) size self.new.space) }
     {
-        let Some(module) = module_at(&self.modules, of.number) else {
+        let Some(module_ref) = find_ref(&self.module_refs, of.number) else {
+            return Err(AdmitError::NoModule);
+        };
+        let Some(module) = module_at(&self.modules, module_ref.place) else {
             return Err(AdmitError::NoModule);
         };
         let room = Room {
@@ -130,7 +135,7 @@ impl Host {
             min: admitted.min,
             max: admitted.max,
         };
-        let made = new_entry_for(alloc, &module.linked, admitted, number, of.number, words);
+        let made = new_entry_for(alloc, &module.linked, admitted, number, module_ref, words);
         let Ok(entry) = made else {
             return Err(AdmitError::Memory);
         };

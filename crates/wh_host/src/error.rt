@@ -38,6 +38,17 @@ impl HostError {
     }
 }
 
+/// Why a host doesn't let a module go.
+#[derive(Clone, Copy, Debug, PartialEq, Eq, Error)]
+pub enum UnloadError {
+    /// No module of this number is there.
+    #[error("no such module is there")]
+    NoModule,
+    /// An instance that is there is of it.
+    #[error("an instance of the module is there")]
+    InUse,
+}
+
 /// Why a host doesn't keep a module.
 #[derive(Clone, Copy, Debug, PartialEq, Eq, Error)]
 pub enum ModuleError {
@@ -47,7 +58,7 @@ pub enum ModuleError {
     /// 1024 modules are kept. Replies name it M1.
     #[error("1024 modules are kept")]
     ModulesFull,
-    /// A growth of memory was refused. Replies name it M2.
+    /// A growth of memory was refused, or 2^64 - 1 modules were loaded. Replies name it M2.
     #[error("a growth of memory was refused")]
     Memory,
 }

@@ -75,6 +75,7 @@ fn copied_entry(
     Ok(InstanceEntry {
         number: Some(number),
         of: entry.of,
+        module_place: entry.module_place,
         given,
         page_limit: entry.page_limit,
         copied: entry.tenant.present_call(),
@@ -157,7 +158,7 @@ impl Host {
         if !entry.has_number(id.number) {
             return Err(ForkError::NoInstance);
         }
-        let Some(module) = module_at(&self.modules, entry.of) else {
+        let Some(module) = module_at(&self.modules, entry.module_place) else {
             return Err(ForkError::NoInstance);
         };
         let granted = match grant(entry, module, &self.memory, self.live, id.place, quota) {

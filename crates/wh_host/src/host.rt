@@ -1,15 +1,15 @@
 //! The host.
 
 ghost use Rattle.std.specs.Option.{option_copied};
-ghost use Rattle.std.specs.Prelude.{◌≡◌, ◌≤◌, IfErr, IfOk, slice_get};
+ghost use Rattle.std.specs.Prelude.{◌≡◌, ◌≤◌, IfErr, IfOk};
 ghost use Rattle.wh_host_model.specs.Host.Worlds.{World};
 ghost use Rattle.wh_host_model.specs.Host.Happens.{IsTurn};
 ghost use Rattle.wh_host.specs.Backing.{KeepsBacking};
-ghost use Rattle.wh_host.specs.Hosting.{IsHost, IsNewHost};
+ghost use Rattle.wh_host.specs.Hosting.{IsHost, IsNewHost, module_in};
 ghost use Rattle.wh_host.specs.Left.{LeavesTurned};
 ghost use Rattle.wh_host.specs.Series.{HasSpent};
 
-use crate::parts::{InstanceEntry, LoadedModule};
+use crate::parts::{InstanceEntry, LoadedModule, ModuleRef};
 use crate::turning::turn_at;
 use slab::Slab;
 use std::alloc::Global;
@@ -19,16 +19,18 @@ use wh_host_model::TurnEnd;
 use wh_space::Memory;
 use wh_space_model::{InstId, Tax};
 
-// The module of this number.
-pub(crate) fn module_at(modules: &Vec<LoadedModule>, number: usize) -> Option<&LoadedModule>
-    ensures { option_copied result ≡ slice_get modules.now.items number }
+// The module at this place.
+pub(crate) fn module_at(modules: &Slab<LoadedModule>, place: usize) -> Option<&LoadedModule>
+    ensures { option_copied result ≡ module_in modules.now.slots place }
 {
-    modules.get(number)
+    modules.get(place)
 }
 
 /// Hosts many instances on one memory.
 pub struct Host {
-    pub(crate) modules: Vec<LoadedModule>,
+    pub(crate) modules: Slab<LoadedModule>,
+    // Those that are there, by number.
+    pub(crate) module_refs: Vec<ModuleRef>,
     pub(crate) entries: Slab<InstanceEntry>,
     // How many instances there are.
     pub(crate) live: usize,
@@ -42,6 +44,7 @@ impl Drop for Host {
     fn drop(self) {
         let Host {
             modules: _,
+            module_refs: _,
             entries: _,
             live: _,
             memory: _,
@@ -62,7 +65,8 @@ impl Model for Host {
     ghost coded = { stored_host };
 
     ghost view = { λ h. record {
-      modules = h.modules.items;
+      modules = h.modules.slots;
+      module_refs = h.module_refs.items;
       entries = h.entries.slots;
       live = h.live;
       space = h.memory;
@@ -71,7 +75,8 @@ impl Model for Host {
     } };
 
     ghost invariant = { λ h. (w : OneWorld) × Represents (record {
-      modules = h.modules.items;
+      modules = h.modules.slots;
+      module_refs = h.module_refs.items;
       entries = h.entries.slots;
       live = h.live;
       space = h.memory;
@@ -96,7 +101,8 @@ impl Host {
         };
         memory.invariant();
         Ok(Host {
-            modules: Vec::new(alloc),
+            modules: Slab::new(alloc),
+            module_refs: Vec::new(alloc),
             entries: Slab::new(alloc),
             live: 0,
             memory,
@@ -131,7 +137,7 @@ impl Host {
         if !entry.has_number(id.number) {
             return (TurnEnd::Idle, 0);
         }
-        let Some(module) = module_at(&self.modules, entry.of) else {
+        let Some(module) = module_at(&self.modules, entry.module_place) else {
             return (TurnEnd::Idle, 0);
         };
         turn_at(

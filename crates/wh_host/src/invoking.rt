@@ -35,7 +35,7 @@ impl Host {
         if !entry.has_number(id.number) {
             return Err(HostError::NoInstance);
         }
-        let Some(module) = module_at(&self.modules, entry.of) else {
+        let Some(module) = module_at(&self.modules, entry.module_place) else {
             return Err(HostError::NoInstance);
         };
         let linked = &module.linked;

@@ -37,7 +37,7 @@ fn take_out(entries: &mut Slab<InstanceEntry>, runner: &mut Runner, frames: u32)
     }
     entry.number = None;
     runner.taken = true;
-    runner.of = entry.of;
+    runner.module_place = entry.module_place;
     runner.page_limit = entry.page_limit;
     mem::swap(&mut entry.tenant, &mut runner.tenant);
     if let Some(upper) = &mut runner.upper {

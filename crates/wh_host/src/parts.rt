@@ -2,6 +2,7 @@
 
 ghost use Rattle.std.specs.Prelude.{◌≡◌, ◌≢◌, Some};
 ghost use Rattle.std.specs.Bool.{MatchBool};
+ghost use Rattle.wh_host.specs.Unloading.{IsOf};
 
 use std::sync::Arc;
 use wh_imports::Linked;
@@ -10,6 +11,8 @@ use wh_instance::HostInstance;
 /// A module that was loaded, and the bytes that spell it.
 #[derive(Drop)]
 pub struct LoadedModule {
+    /// How many modules were loaded before it.
+    pub number: usize,
     pub linked: Linked,
     pub bytes: Arc<Vec<u8>>,
 }
@@ -19,6 +22,13 @@ pub struct LoadedModule {
 pub struct ModuleId {
     /// How many modules were loaded before it.
     pub number: usize,
+}
+
+/// A module by its number, and its place among the modules.
+#[derive(Clone, Copy, Debug, PartialEq, Eq)]
+pub struct ModuleRef {
+    pub number: usize,
+    pub place: usize,
 }
 
 /// An instance by its number, and its place.
@@ -47,6 +57,8 @@ pub struct InstanceEntry {
     pub number: Option<u64>,
     /// The number of its module.
     pub of: usize,
+    /// The place of its module.
+    pub module_place: usize,
     pub given: StoredParams,
     /// To how many pages of 65536 bytes its memory may grow at most.
     pub page_limit: u32,
@@ -62,6 +74,16 @@ impl InstanceEntry {
     {
         match self.number {
             Some(own) => own == number,
+            None => false,
+        }
+    }
+
+    /// Returns whether it is of the module of this number, and wasn't released.
+    pub fn is_of(&self, number: usize) -> bool
+        ensures { MatchBool result (IsOf self.now number) (¬ (IsOf self.now number)) }
+    {
+        match self.number {
+            Some(_) => self.of == number,
             None => false,
         }
     }

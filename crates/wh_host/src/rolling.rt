@@ -1,12 +1,13 @@
 //! What is there in a host.
 
 ghost use Rattle.std.specs.Prelude.{◌≡◌, ◌<◌, Some, IfErr, IfOk, length, map, slice_get};
-ghost use Rattle.wh_host.specs.Rolls.{IsRollOf, listed_by, listed_refs, modules_from, view_listed, view_listed_module};
+ghost use Rattle.wh_host.specs.Rolls.{IsRollOf, listed_by, listed_modules, listed_refs, module_by, view_listed, view_listed_module};
 
 use crate::error::HostError;
 use crate::host::Host;
 use crate::instance_refs::ref_at;
-use crate::parts::{InstanceEntry, InstanceRef, LoadedModule, ModuleId};
+use crate::module_refs::module_ref_at;
+use crate::parts::{InstanceEntry, InstanceRef, LoadedModule, ModuleId, ModuleRef};
 use crate::showing::params_of;
 use slab::Slab;
 use std::alloc::{AllocError, Global};
@@ -109,17 +110,34 @@ impl Roll {
     }
 }
 
-// What the roll says of these modules.
-fn all_loaded(alloc: Global, modules: &[LoadedModule]) -> Result<Vec<RollModule>, AllocError>
-    ensures { IfOk result (λ list. map view_listed_module list.items ≡ modules_from 0 modules.now) }
+// What the roll says of the module that has this place.
+fn loaded_by(module_ref: ModuleRef, module: &LoadedModule) -> Result<RollModule, AllocError>
+    ensures { IfOk result (λ loaded. view_listed_module loaded ≡ module_by module_ref module.now) }
 {
-    let mut list = Vec::with_capacity(alloc, modules.len())?;
-    for number in 0..modules.len() {
-        let bytes = Arc::try_clone(&modules[number].bytes)?;
-        list.push(RollModule {
-            id: ModuleId { number },
-            bytes,
-        })?;
+    let bytes = Arc::try_clone(&module.bytes)?;
+    Ok(RollModule {
+        id: ModuleId {
+            number: module_ref.number,
+        },
+        bytes,
+    })
+}
+
+// What the roll says of these modules.
+fn all_loaded(
+    alloc: Global,
+    modules: &Slab<LoadedModule>,
+    module_refs: &[ModuleRef],
+) -> Result<Vec<RollModule>, AllocError>
+    ensures { IfOk result (λ list.
+        map view_listed_module list.items ≡ listed_modules modules.now.slots module_refs.now) }
+{
+    let mut list = Vec::with_capacity(alloc, module_refs.len())?;
+    for at in 0..module_refs.len() {
+        let module_ref = module_ref_at(module_refs, at);
+        if let Some(module) = modules.get(module_ref.place) {
+            list.push(loaded_by(module_ref, module)?)?;
+        }
     }
     Ok(list)
 }
@@ -175,7 +193,7 @@ impl Host {
         ensures { IfOk result (λ roll. IsRollOf self.now roll) }
     {
         let instance_refs = self.instance_refs(alloc)?;
-        let modules = all_loaded(alloc, &self.modules)?;
+        let modules = all_loaded(alloc, &self.modules, &self.module_refs)?;
         let instances = all_enrolled(alloc, &self.entries, &instance_refs)?;
         Ok(Roll {
             modules,

@@ -6,6 +6,7 @@ ghost use Rattle.wh_host.specs.Rounds.{AllMayRun, AllRun, IsFree, MayRun, RunsAt
 use crate::beside::{RanBeside, run_beside};
 use crate::host::module_at;
 use crate::parts::LoadedModule;
+use slab::Slab;
 use std::alloc::{AllocError, Global};
 use wh_host_model::TurnEnd;
 use wh_instance::{Burst, HostInstance, Leave, TurnOutcome};
@@ -33,8 +34,8 @@ pub struct Runner {
     pub(crate) id: InstId,
     // Whether it has that instance. Else the one that it has is a spare one.
     pub(crate) taken: bool,
-    // The number of its module, and to how many pages its memory may grow at most.
-    pub(crate) of: usize,
+    // The place of its module, and to how many pages its memory may grow at most.
+    pub(crate) module_place: usize,
     pub(crate) page_limit: u32,
     pub(crate) tenant: HostInstance,
     pub(crate) upper: Option<OverlayPages>,
@@ -46,7 +47,7 @@ pub struct Runner {
 /// All that runners read, at the same time: the modules and the memory of all; and for how long each runs.
 #[derive(Drop)]
 pub struct Round<'a> {
-    pub(crate) modules: &'a Vec<LoadedModule>,
+    pub(crate) modules: &'a Slab<LoadedModule>,
     pub(crate) memory: &'a Memory,
     pub(crate) burst: Burst<'a>,
 }
@@ -58,8 +59,8 @@ pub trait RoundRunner {
     /// Runs the turns of each runner, as `Round::run` does.
     fn run_all(&self, round: &Round, runners: &mut [Runner])
         requires can { Self.can self.now }
-        requires may { AllMayRun round.now.modules.now.items round.now.memory.now runners.old }
-        ensures { AllRun round.now.modules.now.items round.now.memory.now round.now.burst.quantum
+        requires may { AllMayRun round.now.modules.now.slots round.now.memory.now runners.old }
+        ensures { AllRun round.now.modules.now.slots round.now.memory.now round.now.burst.quantum
             (round.now.burst.further + 1) runners.old runners.new };
 }
 
@@ -82,14 +83,14 @@ impl RoundRunner for InOrder {
 impl<'a> Round<'a> {
     /// Runs this runner's turns against its overlay, if it has an instance.
     pub fn run(&self, runner: &mut Runner)
-        requires { runner.old.taken ≡ true → MayRun self.now.modules.now.items self.now.memory.now runner.old }
-        ensures { RunsAt self.now.modules.now.items self.now.memory.now self.now.burst.quantum
+        requires { runner.old.taken ≡ true → MayRun self.now.modules.now.slots self.now.memory.now runner.old }
+        ensures { RunsAt self.now.modules.now.slots self.now.memory.now self.now.burst.quantum
             (self.now.burst.further + 1) runner.old runner.new }
     {
         if !runner.taken {
             return;
         }
-        let Some(module) = module_at(self.modules, runner.of) else {
+        let Some(module) = module_at(self.modules, runner.module_place) else {
             unreachable!()
         };
         let Some(upper) = runner.upper.take() else {
@@ -122,7 +123,7 @@ impl Runner {
         Ok(Runner {
             id,
             taken: false,
-            of: 0,
+            module_place: 0,
             page_limit: 0,
             tenant: HostInstance::spare(alloc)?,
             upper: Some(upper),

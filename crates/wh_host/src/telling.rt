@@ -30,7 +30,7 @@ impl Host {
         if !entry.has_number(id.number) {
             return None;
         }
-        let Some(module) = module_at(&self.modules, entry.of) else {
+        let Some(module) = module_at(&self.modules, entry.module_place) else {
             return None;
         };
         entry.tenant.call_status(&module.linked, at)

@@ -107,7 +107,7 @@ fn leave_released(entries: &mut Slab<InstanceEntry>, memory: &Memory, place: Opt
 }
 
 // The device has been called for the ticket, and it comes back to the memory.
-fn end_eviction(
+fn commit_written(
     memory: &mut Memory,
     ticket: EvictTicket,
     device: Result<(), SwapError>,
@@ -217,7 +217,7 @@ impl Host {
     {
         let Eviction { id, call, ticket } = eviction;
         let place = self.memory.ticket_place(ticket.slot());
-        let (end, buf) = end_eviction(&mut self.memory, ticket, device);
+        let (end, buf) = commit_written(&mut self.memory, ticket, device);
         keep_fault(&mut self.entries, id, call, fault_of_evict(end, device));
         leave_released(&mut self.entries, &self.memory, place);
         (end, buf)

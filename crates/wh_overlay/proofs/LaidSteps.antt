@@ -24,7 +24,7 @@ use Rattle.wh_space.specs.Steps.{CanBreak, CanStep, LeavesGrowth, LeavesStore}
 use Rattle.wh_space.specs.StepViews.{keeps_all, keeps_on}
 use Rattle.wh_space.proofs.Keeping.{keeps_growth, keeps_load, keeps_store}
 use Rattle.wh_space.proofs.Storing.{can_step_one}
-use Rattle.wh_overlay.specs.declared.upper.WrittenPage.{WrittenPage}
+use Rattle.wh_overlay.specs.declared.overlay_pages.WrittenPage.{WrittenPage}
 use Rattle.wh_overlay.specs.LaidPages.{IsNoted, grown_by}
 use Rattle.wh_overlay.specs.LaidBack.{HasLaid}
 use Rattle.wh_overlay.specs.Over.{AreAtHand, IsOnItsOwn, frames_lacking, lacks_frame}

@@ -8,7 +8,7 @@ use Rattle.wh_model.proofs.Asked.{one_need}
 use Rattle.wh_host_model.specs.Host.{StepsAlone, Opens, as_it_was, Computes, Upshot, Proceeds, returns, traps, writes_all, uses_fuel, waits, waits_to_write, has_had_its_turn, Rest, Doing, computing, store_with}
 use Rattle.wh_space_model.specs.{Space, view, IsAtHand, IsSound, page_at}
 use Rattle.wh_space_model.specs.Ready.{Ready}
-use Rattle.wh_overlay.specs.LaidPages.{UpperState, with_upper}
+use Rattle.wh_overlay.specs.LaidPages.{OverlayPagesState, with_upper}
 use Rattle.wh_overlay.specs.LaidBack.{ComesThere, IsLaid, LiesOver, LooksSame}
 use Rattle.wh_overlay.specs.Over.{CanRead, CanStepOver, IsOverSame, IsReadyOver, IsThereToRead, IsWholeOver, OverlayState, sees}
 use Rattle.wh_overlay.proofs.SomeLaid.{laid_ready, some_laid}
@@ -18,24 +18,24 @@ use Rattle.wh_overlay.proofs.SomeLaid.{laid_ready, some_laid}
 page_same : (s s2 : Space) (i p : ℕ) → LooksSame i s s2 → page_at s2.tables i p ≡ page_at s.tables i p
 page_same s s2 i p looks = ap (λ row. slice_get row p) looks.table
 
-there_still : (s s2 : Space) (i : ℕ) (u : UpperState) (p : ℕ) → LooksSame i s s2 → IsThereToRead s i u p → IsThereToRead s2 i u p
+there_still : (s s2 : Space) (i : ℕ) (u : OverlayPagesState) (p : ℕ) → LooksSame i s s2 → IsThereToRead s i u p → IsThereToRead s2 i u p
 there_still s s2 i u p looks (inl hand) = inl (subst IsAtHand (sym (page_same s s2 i p looks)) hand)
 there_still s s2 i u p looks (inr come) = let long = ap length looks.table in inr (omega (arith, long, come.0), omega (arith, long, come.1))
 
-pub whole_there : (s s2 : Space) (i : ℕ) (u : UpperState) → LooksSame i s s2 → IsWholeOver s i u → IsWholeOver s2 i u
+pub whole_there : (s s2 : Space) (i : ℕ) (u : OverlayPagesState) → LooksSame i s s2 → IsWholeOver s i u → IsWholeOver s2 i u
 whole_there s s2 i u looks (over, whole) = search rules
 
-read_there : (s s2 : Space) (i : ℕ) (u : UpperState) (p : ℕ) → LooksSame i s s2 → CanRead s i u p → CanRead s2 i u p
+read_there : (s s2 : Space) (i : ℕ) (u : OverlayPagesState) (p : ℕ) → LooksSame i s s2 → CanRead s i u p → CanRead s2 i u p
 read_there s s2 i u p looks (inl among) = inl among
 read_there s s2 i u p looks (inr (less, there)) = inr (less, there_still s s2 i u p looks there)
 
-step_there : (s s2 : Space) (i : ℕ) (u : UpperState) (need : Need) → LooksSame i s s2 → CanStepOver s i u need → CanStepOver s2 i u need
+step_there : (s s2 : Space) (i : ℕ) (u : OverlayPagesState) (need : Need) → LooksSame i s s2 → CanStepOver s i u need → CanStepOver s2 i u need
 step_there s s2 i u need looks (inl none) = inl none
 step_there s s2 i u need looks (inr (within, can)) = search rules
 
 -- ---- between two memories in which it is written back
 
-steps_between : (s a b : Space) (i : ℕ) (u v : UpperState) → IsSound s → IsLaid s i u a → IsLaid s i v b → StepsAlone i a b
+steps_between : (s a b : Space) (i : ℕ) (u v : OverlayPagesState) → IsSound s → IsLaid s i u a → IsLaid s i v b → StepsAlone i a b
 steps_between s a b i u v sound first second = search rules
 
 -- ---- over the memory

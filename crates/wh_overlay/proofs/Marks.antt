@@ -2,7 +2,7 @@
 use Rattle.std.proofs.Common.{◌≡◌, ◌≢◌, ◌∙◌, ◌⊎◌, inl, inr, ℕ, ◌+◌, ◌<◌, ◌≤◌, List, [], ◌∷◌, ◌++◌, Some, length, length-append, get_or, slice_get, slice_set, take, zero, suc, refl, sym, ap, subst, arith, rules}
 use Rattle.std.proofs.lemmas.Bool.{cases_eq, cases_lt}
 use Rattle.wh_space_model.proofs.Putting.{set_other, there_of}
-use Rattle.wh_overlay.specs.declared.upper.WrittenPage.{WrittenPage}
+use Rattle.wh_overlay.specs.declared.overlay_pages.WrittenPage.{WrittenPage}
 use Rattle.wh_space_model.specs.{tally}
 use Rattle.wh_space_model.proofs.Sums.{set_tally}
 use Rattle.wh_overlay.specs.LaidPages.{AreNoted, IsMarked, IsAmong, IsNoted, IsWrittenAt, has_mark}

@@ -2,7 +2,7 @@
 use Rattle.std.proofs.Common.{◌≡◌, ◌≢◌, ◌∙◌, ℕ, ◌+◌, ◌*◌, ◌≤◌, ◌<◌, List, [], ◌∷◌, ◌++◌, Some, length, slice_get, slice_set, zero, suc, refl, sym, ap, subst, arith, rules}
 use Rattle.std.proofs.lemmas.Bool.{cases_lt}
 use Rattle.wh_model.specs.Execution.{bytes_at, written}
-use Rattle.wh_overlay.specs.declared.upper.WrittenPage.{WrittenPage}
+use Rattle.wh_overlay.specs.declared.overlay_pages.WrittenPage.{WrittenPage}
 use Rattle.wh_overlay.specs.LaidPages.{AreWrittenOnce, FitIn, IsAmong, laid_over}
 use Rattle.wh_overlay.proofs.Bytes.{read_before, read_behind, read_written, written_apart, written_inside, written_length, written_same}
 

@@ -18,8 +18,8 @@ use Rattle.wh_space.specs.Steps.{CanBreak, CanStep, LeavesLoad, page_limit}
 use Rattle.wh_space.proofs.Blocks.{can_break}
 use Rattle.wh_space.proofs.Loading.{one_hand}
 use Rattle.wh_space.proofs.Storing.{can_step_one}
-use Rattle.wh_overlay.specs.declared.upper.WrittenPage.{WrittenPage}
-use Rattle.wh_overlay.specs.LaidPages.{AreWhole, IsAmong, IsNoted, UpperState, grown_by, laid_over}
+use Rattle.wh_overlay.specs.declared.overlay_pages.WrittenPage.{WrittenPage}
+use Rattle.wh_overlay.specs.LaidPages.{AreWhole, IsAmong, IsNoted, OverlayPagesState, grown_by, laid_over}
 use Rattle.wh_overlay.specs.LaidBack.{HasLaid, IsLaid}
 use Rattle.wh_overlay.specs.Over.{AreAtHand, CanRead, CanStepOver, CanWrite, IsOnItsOwn, IsOver, IsThereToRead, IsWholeOver, frames_lacking, lacks_frame}
 use Rattle.wh_overlay.proofs.Grown.{come_behind, lives}
@@ -31,13 +31,13 @@ step_ready : (s : Space) (i : ℕ) (need : Need) → 1 ≤ need.length → need.
 step_ready s i need some within can = subst (CanStep s i need.writes) (sym (on_one_page need.at need.length some within)) can
 
 -- what is there is at hand once it has grown
-pub there_then : (s : Space) (i : ℕ) (u : UpperState) (p : ℕ) (m : Space) → ((q : ℕ) → IsAtHand (page_at s.tables i q) → IsAtHand (page_at m.tables i q))
+pub there_then : (s : Space) (i : ℕ) (u : OverlayPagesState) (p : ℕ) (m : Space) → ((q : ℕ) → IsAtHand (page_at s.tables i q) → IsAtHand (page_at m.tables i q))
     → ((q : ℕ) → length (get_or s.tables i []) ≤ q → q < length (get_or s.tables i []) + 16 * u.grown → IsAtHand (page_at m.tables i q)) → IsThereToRead s i u p → IsAtHand (page_at m.tables i p)
 there_then s i u p m stay come (inl hand) = stay p hand
 there_then s i u p m stay come (inr (least, less)) = come p least less
 
 -- what is ready over a memory is ready once it is written back, where the frames that are lent are free
-pub laid_ready : (s : Space) (i : ℕ) (u : UpperState) (s2 : Space) (need : Need) → IsSound s → IsOver s i u → u.lent ≤ length s.pool.free → IsLaid s i u s2 → CanStepOver s i u need → Ready s2 i need
+pub laid_ready : (s : Space) (i : ℕ) (u : OverlayPagesState) (s2 : Space) (need : Need) → IsSound s → IsOver s i u → u.lent ≤ length s.pool.free → IsLaid s i u s2 → CanStepOver s i u need → Ready s2 i need
 laid_ready s i u s2 need sound over room laid (inl none) = no_bytes_are_ready s2 i need none
 laid_ready s i u s2 need sound over room laid (inr (within, can)) = elim (cases_lt 0 need.length) [
   | inl some ↦ step_ready s2 i need (omega (arith, some)) within (by need.writes can)
@@ -136,7 +136,7 @@ then_written s m m2 i g rs xs first second hand =
     subst (λ b. HasLaid s i g rs b xs m2) (ap (λ b. laid_over b xs) first.sees) all
 
 -- there is such a memory
-pub some_laid : (s : Space) (i : ℕ) (u : UpperState) → IsSound s → IsWholeOver s i u → u.lent ≤ length s.pool.free → (m : Space) × IsLaid s i u m
+pub some_laid : (s : Space) (i : ℕ) (u : OverlayPagesState) → IsSound s → IsWholeOver s i u → u.lent ≤ length s.pool.free → (m : Space) × IsLaid s i u m
 some_laid s i u sound (over, whole) room =
     let grown = grown_laid s i u.grown sound over.limited in
     let m1 = grown.0 in
@@ -151,7 +151,7 @@ some_laid s i u sound (over, whole) room =
     (rest.0, then_written s m rest.0 i u.grown u.reads u.pages h rest.1 hand)
 
 -- where nothing was written and nothing read it is the one that there was
-pub none_laid : (s : Space) (i : ℕ) (u : UpperState) → u.pages ≡ [] → u.reads ≡ [] → u.grown ≡ 0 → IsLaid s i u s
+pub none_laid : (s : Space) (i : ℕ) (u : OverlayPagesState) → u.pages ≡ [] → u.reads ≡ [] → u.grown ≡ 0 → IsLaid s i u s
 none_laid s i u none unread same =
     subst (λ rs. HasLaid s i u.grown rs (laid_over (grown_by (view s i) u.grown) u.pages) u.pages s) (sym unread)
     (subst (λ xs. HasLaid s i u.grown [] (laid_over (grown_by (view s i) u.grown) xs) xs s) (sym none) (subst (λ n. HasLaid s i n [] (grown_by (view s i) n) [] s) (sym same) (no_growth s i)))

@@ -10,8 +10,8 @@ use Rattle.wh_space_model.specs.Parts.{Space, claim, view}
 use Rattle.wh_space_model.specs.Ready.{IsAtHand, Ready}
 use Rattle.wh_space_model.specs.States.{page_at}
 use Rattle.wh_space.specs.StepViews.{KeepsRest}
-use Rattle.wh_overlay.specs.declared.upper.WrittenPage.{WrittenPage}
-use Rattle.wh_overlay.specs.LaidPages.{IsNoted, UpperState, with_upper}
+use Rattle.wh_overlay.specs.declared.overlay_pages.WrittenPage.{WrittenPage}
+use Rattle.wh_overlay.specs.LaidPages.{IsNoted, OverlayPagesState, with_upper}
 use Rattle.wh_overlay.specs.Over.{IsOnItsOwn, IsWholeOver, OverlayState, frames_lacking}
 
 -- For the instance at this place one memory is as good as another: it has the same pages there, sees the same, and was promised the
@@ -39,7 +39,7 @@ pub record HasLaid (s : Space) (i grown : ℕ) (reads : List ℕ) (bytes : List 
   pub others : (j : ℕ) → j ≢ i → get_or s2.tables j [] ≡ get_or s.tables j []
 
 -- what was written in the overlay is written back
-abbrev pub IsLaid : Space → ℕ → UpperState → Space → Type 0
+abbrev pub IsLaid : Space → ℕ → OverlayPagesState → Space → Type 0
 IsLaid s i u s2 = HasLaid s i u.grown u.reads (with_upper (view s i) u) u.pages s2
 
 -- the memory of an instance is that of this place of this memory, at most `frames` frames are lent, and what is written in the

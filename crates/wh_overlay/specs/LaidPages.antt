@@ -2,13 +2,13 @@
 use Rattle.std.specs.Prelude.{◌≡◌, ◌⊎◌, ℕ, ◌+◌, ◌*◌, ◌++◌, ◌≤◌, List, [], ◌∷◌, Some, length, replicate, get_or, slice_get, zero, suc}
 use Rattle.wh_model.specs.Execution.Store.{written}
 use Rattle.wh_space_model.specs.Frames.{tally}
-use Rattle.wh_overlay.specs.declared.upper.WrittenPage.{WrittenPage}
+use Rattle.wh_overlay.specs.declared.overlay_pages.WrittenPage.{WrittenPage}
 
 -- What is written in an overlay: pages of 4096 bytes; the numbers of the pages that were read in the memory before they were
 -- written; by how many pages of 65536 bytes it has grown; for how many more written pages there is room; below which number all
 -- pages are that may be read and written; how many frames are lent for pages that have none of their own, and how many such pages
 -- were written.
-pub record UpperState : Type 0 where
+pub record OverlayPagesState : Type 0 where
   pub pages : List WrittenPage
   pub reads : List ℕ
   pub grown : ℕ
@@ -27,7 +27,7 @@ abbrev pub grown_by : List ℕ → ℕ → List ℕ
 grown_by bytes n = bytes ++ replicate (n * 65536) 0
 
 -- a memory with what is written in the overlay
-abbrev pub with_upper : List ℕ → UpperState → List ℕ
+abbrev pub with_upper : List ℕ → OverlayPagesState → List ℕ
 with_upper bytes u = laid_over (grown_by bytes u.grown) u.pages
 
 -- the page is among the written ones, at place k
@@ -43,7 +43,7 @@ abbrev pub IsNoted : List ℕ → ℕ → Type 0
 IsNoted reads number = (k : ℕ) × (slice_get reads k ≡ Some number)
 
 -- A page is noted as read, as the last one; or it was read or written before, and nothing changes.
-abbrev pub NotesRead : UpperState → ℕ → UpperState → Type 0
+abbrev pub NotesRead : OverlayPagesState → ℕ → OverlayPagesState → Type 0
 NotesRead u number v =
     ((v ≡ u) × (IsAmong u.pages number ⊎ IsNoted u.reads number)) ⊎ (v ≡ record u { reads = u.reads ++ number ∷ [] })
 

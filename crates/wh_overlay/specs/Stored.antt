@@ -1,11 +1,11 @@
 -- What contracts see of what is written in an overlay can be stored: as its parts.
 use Rattle.std.specs.Prelude.{ℕ, List, refl}
 use Rattle.std.specs.Coded.{Coded, code_by, coded_list, coded_ℕ, coded×}
-use Rattle.wh_overlay.specs.declared.upper.WrittenPage.{WrittenPage}
-use Rattle.wh_overlay.specs.contracts.upper.WrittenPage as page_type
-use Rattle.wh_overlay.specs.LaidPages.{UpperState}
+use Rattle.wh_overlay.specs.declared.overlay_pages.WrittenPage.{WrittenPage}
+use Rattle.wh_overlay.specs.contracts.overlay_pages.WrittenPage as page_type
+use Rattle.wh_overlay.specs.LaidPages.{OverlayPagesState}
 
-abbrev pub stored_upper : Coded UpperState
+abbrev pub stored_upper : Coded OverlayPagesState
 stored_upper =
     code_by (List WrittenPage × (List ℕ × (ℕ × (ℕ × (ℕ × (ℕ × ℕ))))))
     (coded× (coded_list page_type.the_row.coded)

@@ -10,7 +10,7 @@ ghost use Rattle.wh_space_model.specs.Ready.{IsAtHand};
 ghost use Rattle.wh_space_model.specs.States.{page_at};
 ghost use Rattle.wh_overlay.specs.Over.{AreAtHand, HasGrown, ReadsAreThere, frames_lacking};
 
-use crate::upper::{OverlayPages, WrittenPage};
+use crate::overlay_pages::{OverlayPages, WrittenPage};
 use wh_space::Memory;
 
 // Grows the memory of the instance at this place by `pages` pages of 65536 bytes.

@@ -8,7 +8,7 @@
 mod laying;
 mod linear;
 mod overlay;
-mod upper;
+mod overlay_pages;
 
 pub use overlay::Overlay;
-pub use upper::{OverlayPages, WrittenPage};
+pub use overlay_pages::{OverlayPages, WrittenPage};

@@ -9,7 +9,7 @@ ghost use Rattle.wh_space.specs.Steps.{page_limit};
 ghost use Rattle.wh_overlay.specs.LaidPages.{IsAmong, IsWrittenAt, grown_by};
 ghost use Rattle.wh_overlay.specs.Over.{AreAtHand, CanRead, CanWrite, HasFrameFor, HasGrown, IsOverSame, IsWholeOver, NotesOver, frames_lacking, sees};
 
-use crate::upper::OverlayPages;
+use crate::overlay_pages::OverlayPages;
 use std::marker::Model;
 use wh_space::Memory;
 

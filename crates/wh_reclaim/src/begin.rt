@@ -51,7 +51,7 @@ pub fn evict_begin(memory: &mut Memory, place: usize, buf: Buf) -> Result<EvictT
     };
     let mut bytes = buf;
     memory.invariant();
-    let slot = memory.depart(taken.place, taken.page, &mut bytes);
+    let slot = memory.evict_begin(taken.place, taken.page, &mut bytes);
     Ok(EvictTicket { slot, bytes })
 }
 
@@ -78,6 +78,6 @@ pub fn fetch_begin(memory: &mut Memory, place: usize, buf: Buf) -> Result<FetchT
         return Err(buf);
     }
     memory.invariant();
-    memory.send_for(place, page, slot);
+    memory.fetch_begin(place, page, slot);
     Ok(FetchTicket { slot, bytes: buf })
 }

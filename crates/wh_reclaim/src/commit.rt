@@ -30,7 +30,7 @@ pub fn evict_commit(
     ensures back { result.1.value ≡ ticket.bytes }
 {
     let EvictTicket { slot, bytes } = ticket;
-    let end = memory.end_evict(slot, device.is_ok(), &bytes);
+    let end = memory.evict_commit(slot, device.is_ok(), &bytes);
     (end, bytes)
 }
 
@@ -52,6 +52,6 @@ pub fn fetch_commit(
     ensures back { result.1.value ≡ ticket.bytes }
 {
     let FetchTicket { slot, bytes } = ticket;
-    let end = memory.end_fetch(slot, device.is_ok(), &bytes);
+    let end = memory.fetch_commit(slot, device.is_ok(), &bytes);
     (end, bytes)
 }

@@ -51,17 +51,17 @@ fn evict_now<D: SwapDev>(
     ensures serves { ServesOn D.keeps D.honest D.faults device.old (call_faults result) device.new }
 {
     memory.invariant();
-    let slot = memory.depart(taken.place, taken.page, bytes);
+    let slot = memory.evict_begin(taken.place, taken.page, bytes);
     memory.invariant();
     match device.write(slot, bytes) {
         Ok(()) => {
             memory.written(slot, bytes, true);
-            let _ = memory.end_evict(slot, true, bytes);
+            let _ = memory.evict_commit(slot, true, bytes);
             Ok(())
         }
         Err(fault) => {
             memory.written(slot, bytes, false);
-            let _ = memory.end_evict(slot, false, bytes);
+            let _ = memory.evict_commit(slot, false, bytes);
             Err(fault)
         }
     }

@@ -39,9 +39,9 @@ impl<'a, R: Threads + Sync> RoundRunner for AtOnce<'a, R> {
             runners,
             self.threads,
             &|_: usize, runner: &mut Runner|
-                requires { runner.now.taken ≡ true → MayRun round.now.modules.now.items
+                requires { runner.now.taken ≡ true → MayRun round.now.modules.now.slots
                     round.now.memory.now runner.now }
-                ensures { RunsAt round.entry.now.modules.now.items round.entry.now.memory.now
+                ensures { RunsAt round.entry.now.modules.now.slots round.entry.now.memory.now
                     round.entry.now.burst.quantum (round.entry.now.burst.further + 1)
                     runner.entry.now runner.exit.now }
             { round.run(runner) },

@@ -9,6 +9,7 @@ pub mod Growing
 pub mod Keeping
 pub mod Entering
 pub mod Summing
+pub mod Promised
 pub mod Stood
 pub mod Merges
 pub mod LeavingPages

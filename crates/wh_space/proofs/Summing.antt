@@ -1,24 +1,8 @@
 -- Sums over those who are there.
-use Rattle.std.proofs.Common.{◌≡◌, ℕ, ◌+◌, ◌<◌, ◌≤◌, List, [], ◌∷◌, Option, Some, None, length, get_or, map, slice_get, take, zero, suc, refl, ap, arith}
+use Rattle.std.proofs.Common.{◌≡◌, ℕ, ◌+◌, ◌<◌, List, [], ◌∷◌, Option, Some, None, length, map, slice_get, take, zero, suc, refl, ap, arith}
 use Rattle.wh_space_model.specs.{tally, Occupant}
 use Rattle.wh_space.specs.declared.occupant_entry.OccupantEntry.{OccupantEntry}
 use Rattle.wh_space.specs.Parts.{occupant_of}
-
-step : (w : Option Occupant → ℕ) (xs : List (Option OccupantEntry)) (i : ℕ) (x : Option OccupantEntry) → i < length xs → x ≡ get_or xs i x
-    → tally w (map occupant_of (take (suc i) xs)) ≡ tally w (map occupant_of (take i xs)) + w (occupant_of x)
-step w [] i x within is = absurd (omega arith)
-step w (y ∷ xs) zero x within is = let e : x ≡ y = is in rw e (omega arith)
-step w (y ∷ xs) (suc i) x within is = let e = step w xs i x (omega arith) is in omega arith
-
-pub sum_step : (w : Option Occupant → ℕ) (xs : List (Option OccupantEntry)) (i : ℕ) (x : Option OccupantEntry) → i < length xs → x ≡ get_or xs i x
-    → tally w (map occupant_of (take (i + 1) xs)) ≡ tally w (map occupant_of (take i xs)) + w (occupant_of x)
-sum_step w xs i x within is = let e : i + 1 ≡ suc i = omega arith in rw e (step w xs i x within is)
-
-pub sum_part : (w : Option Occupant → ℕ) (xs : List (Option OccupantEntry)) (i : ℕ) → tally w (map occupant_of (take i xs)) ≤ tally w (map occupant_of xs)
-sum_part w [] zero = omega arith
-sum_part w [] (suc i) = omega arith
-sum_part w (x ∷ xs) zero = omega arith
-sum_part w (x ∷ xs) (suc i) = let k = sum_part w xs i in omega arith
 
 -- who has a place is an occupant
 pub guest_at : (xs : List (Option OccupantEntry)) (j : ℕ) (t : Occupant) → slice_get (map occupant_of xs) j ≡ Some (Some t) → (g : OccupantEntry) × (slice_get xs j ≡ Some (Some g)) × (g.number ≡ t.number) × (j < length xs)

@@ -3,6 +3,7 @@ pub mod Claiming
 pub mod Counts
 pub mod Lendable
 pub mod TicketOwners
+pub mod Occupancy
 pub mod OccupantEntries
 pub mod Lacking
 pub mod Leaving

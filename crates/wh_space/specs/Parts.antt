@@ -1,26 +1,13 @@
 -- What the parts of the memory represent.
-use Rattle.std.specs.Prelude.{ℕ, ◌≡◌, ◌^◌, ◌≤◌, Option, Some, None, length, map, get_or, slice_get}
+use Rattle.std.specs.Prelude.{ℕ, ◌≡◌, ◌^◌, ◌≤◌, Some, length, map, get_or, slice_get}
 use Rattle.wh_space_model.specs.Frames.{tally}
 use Rattle.wh_space_model.specs.Errands.{ticket_of}
-use Rattle.wh_space_model.specs.Parts.{Occupant, Space}
+use Rattle.wh_space_model.specs.Parts.{Space}
 use Rattle.wh_space_model.specs.Sound.{IsSound}
 use Rattle.wh_space.specs.declared.occupant_entry.OccupantEntry.{OccupantEntry}
 use Rattle.wh_space.specs.declared.memory.Memory.TheInside.{Inside}
+pub use Rattle.wh_space.specs.Occupancy.{occupant_of}
 use Rattle.wh_space.specs.Pinning.{pins_of}
-
--- who has a place
-abbrev pub occupant_of : Option OccupantEntry → Option Occupant
-occupant_of None = None
-occupant_of (Some t) =
-    Some (record {
-      number = t.number;
-      live = t.live;
-      shares = t.shares;
-      min = t.min;
-      max = t.max;
-      stands = t.stands;
-      leaves = t.leaves;
-    })
 
 abbrev pub space_of : Inside → Space
 space_of a = record {

@@ -1,12 +1,13 @@
 // How a memory begins, and how an instance comes to a place.
 
-ghost use Rattle.std.specs.Prelude.{◌≡◌, ◌≢◌, ◌*◌, ◌<◌, ◌≤◌, ℕ, Some, false, length, replicate, IfOk, IfErr, OnOk, OnErr, vec_len, vec_capacity};
+ghost use Rattle.std.specs.Prelude.{◌≡◌, ◌≢◌, ◌*◌, ◌<◌, ◌≤◌, ℕ, Some, false, length, replicate, IfOk, IfErr, OnOk, OnErr};
 ghost use Rattle.wh_space_model.specs.declared.states.Page.TheVariants.{Untouched};
 ghost use Rattle.wh_space_model.specs.Parts.{Occupant, occupant_at};
 ghost use Rattle.wh_space_model.specs.Places.{Enters, HasRoomFor, IsFreePlace, with_row};
 ghost use Rattle.wh_space.specs.Arrivals.{IsNew, claimed};
 
 use crate::memory::Memory;
+use crate::occupant_entries::OccupantEntries;
 use crate::occupant_entry::{OccupantEntry, Promise};
 use std::alloc::{AllocError, Global};
 use wh_content::Table;
@@ -14,23 +15,6 @@ use wh_frames::{FrameError, FramePool};
 use wh_space_model::Tax;
 use wh_swap::Slots;
 use wh_tables::Tables;
-
-// Puts a row at a place, which may be the next one.
-fn put_occupant(
-    occupant_entries: &mut Vec<Option<OccupantEntry>>,
-    place: usize,
-    occupant_entry: OccupantEntry,
-)
-    requires place { place ≤ length occupant_entries.old.items }
-    requires room { vec_len occupant_entries.old < vec_capacity occupant_entries.old }
-    ensures { occupant_entries.new.items ≡ with_row occupant_entries.old.items place (Some occupant_entry) }
-{
-    if place < occupant_entries.len() {
-        occupant_entries[place] = Some(occupant_entry);
-    } else {
-        occupant_entries.push_reserved(Some(occupant_entry));
-    }
-}
 
 impl Memory {
     /// Creates a memory of `frames` frames of 4096 bytes and `slots` swap slots, without instances. Reserves the room
@@ -55,7 +39,7 @@ impl Memory {
             return Err(FrameError::Memory);
         };
         Ok(Memory {
-            occupant_entries: Vec::new(alloc),
+            occupant_entries: OccupantEntries::new(alloc),
             tables,
             pool,
             content,
@@ -92,14 +76,15 @@ impl Memory {
         }
         // Its contract says that there are as many limits and numbers.
         let _ = self.tables.places();
-        self.occupant_entries.reserve(1)?;
+        // And these say that frames and slots are counted by 32 bits, and so is what was promised of them.
+        let _ = self.pool.used();
+        let _ = self.pool.free();
+        let _ = self.slots.len();
+        self.occupant_entries.reserve()?;
         self.tables
             .enter(alloc, place, promise.number, 16 * size, promise.max)?;
-        put_occupant(
-            &mut self.occupant_entries,
-            place,
-            OccupantEntry::new(promise),
-        );
+        self.occupant_entries
+            .put_occupant(place, OccupantEntry::new(promise));
         Ok(())
     }
 }

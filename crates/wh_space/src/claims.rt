@@ -64,7 +64,7 @@ impl Memory {
             (¬ ((t : Occupant) × occupant_at self.now place t × (t.leaves ≡ None))) }
     {
         let _ = &self.tax;
-        match self.occupant_entries[place] {
+        match self.occupant_entries.at(place) {
             Some(occupant_entry) => occupant_entry.leaves.is_none(),
             None => false,
         }
@@ -202,7 +202,7 @@ impl Memory {
         if place >= self.occupant_entries.len() {
             return None;
         }
-        let Some(occupant_entry) = self.occupant_entries[place] else {
+        let Some(occupant_entry) = self.occupant_entries.at(place) else {
             return None;
         };
         let (pages, active) = self.charged_at(place);

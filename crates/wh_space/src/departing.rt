@@ -9,7 +9,6 @@ ghost use Rattle.wh_space_model.specs.States.{page_at};
 ghost use Rattle.wh_space.specs.Transits.{IsDeparting, IsLeavingAs, IsSentFor};
 
 use crate::memory::Memory;
-use crate::occupant_entries::{begin_coming, begin_leaving};
 use crate::pages::put_page;
 use crate::pins::take_earmark;
 use wh_space_model::{Page, Slot};
@@ -28,7 +27,7 @@ fn as_it_leaves(page: Page) -> Option<(u32, Page)>
 impl Memory {
     /// Begins to evict a page of the instance at this place, which can leave: takes a vacant slot, issues its ticket,
     /// and copies the page's bytes into `into`, to be written to the slot. Returns the slot.
-    pub fn depart(&mut self, place: usize, page: u32, into: &mut [u8; 4096]) -> u32
+    pub fn evict_begin(&mut self, place: usize, page: u32, into: &mut [u8; 4096]) -> u32
         requires can { CanLeave self.old place page }
         requires slot { 1 ≤ length self.old.slots.vacant }
         ensures { IsDeparting self.old place page result into.new self.new }
@@ -47,14 +46,14 @@ impl Memory {
         };
         *into = *self.pool.bytes(frame);
         put_page(&mut self.tables, place, page, now);
-        begin_leaving(&mut self.occupant_entries, place, slot);
+        self.occupant_entries.begin_leaving(place, slot);
         let _ = slots;
         slot
     }
 
     /// Begins to fetch a page of the instance at this place, which is in this slot, into a frame that was earmarked for
     /// the instance. Issues the slot's ticket.
-    pub fn send_for(&mut self, place: usize, page: u32, slot: u32)
+    pub fn fetch_begin(&mut self, place: usize, page: u32, slot: u32)
         requires page { page_at self.old.tables place page ≡ Some (Swapped slot) }
         requires frame { 1 ≤ length (kept_by self.old.pins place) }
         ensures { IsSentFor self.old place page slot self.new }
@@ -71,7 +70,7 @@ impl Memory {
         };
         self.slots.set(slot, ticket);
         put_page(&mut self.tables, place, page, Page::Coming(slot));
-        begin_coming(&mut self.occupant_entries, place);
+        self.occupant_entries.begin_coming(place);
         let _ = slots;
     }
 }

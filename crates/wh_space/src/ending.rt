@@ -15,7 +15,6 @@ ghost use Rattle.wh_space.specs.Transits.{IsFetching, back_again};
 
 use crate::frames::set_frame;
 use crate::memory::Memory;
-use crate::occupant_entries::{end_coming, end_leaving, settle};
 use crate::pages::{put_page, swap_page};
 use crate::pins::unpin_page;
 use wh_content::Table;
@@ -71,8 +70,8 @@ impl Memory {
             ≡ settled (with_leaving (without_slot self.old slot) place None) place }
     {
         self.slots.give(slot);
-        end_leaving(&mut self.occupant_entries, place as usize);
-        settle(&mut self.occupant_entries, place as usize);
+        self.occupant_entries.end_leaving(place as usize);
+        self.occupant_entries.settle(place as usize);
     }
 
     // The ticket of a page comes back that stays as it was.
@@ -83,7 +82,7 @@ impl Memory {
     {
         let was = self.tables.page(place as usize, page);
         self.slots.give(slot);
-        end_leaving(&mut self.occupant_entries, place as usize);
+        self.occupant_entries.end_leaving(place as usize);
         put_page(&mut self.tables, place as usize, page, as_it_was(was));
     }
 
@@ -99,7 +98,7 @@ impl Memory {
         let sharers = self.sharers_of(frame);
         leave_frame(&mut self.content, &mut self.pool, frame, sharers);
         self.slots.set(slot, Slot::Taken);
-        end_leaving(&mut self.occupant_entries, place as usize);
+        self.occupant_entries.end_leaving(place as usize);
         swap_page(&mut self.tables, place as usize, page, slot);
         unpin_page(&mut self.pins, place as usize, page);
     }
@@ -112,8 +111,8 @@ impl Memory {
     {
         self.slots.give(slot);
         self.pool.give(frame);
-        end_coming(&mut self.occupant_entries, place as usize);
-        settle(&mut self.occupant_entries, place as usize);
+        self.occupant_entries.end_coming(place as usize);
+        self.occupant_entries.settle(place as usize);
     }
 
     // The ticket of a page comes back that has come, with these bytes.
@@ -123,7 +122,7 @@ impl Memory {
     {
         set_frame(&mut self.pool, frame, bytes);
         self.slots.give(slot);
-        end_coming(&mut self.occupant_entries, place as usize);
+        self.occupant_entries.end_coming(place as usize);
         put_page(&mut self.tables, place as usize, page, Page::Private(frame));
     }
 
@@ -134,7 +133,7 @@ impl Memory {
     {
         self.pool.give(frame);
         self.slots.set(slot, Slot::Taken);
-        end_coming(&mut self.occupant_entries, place as usize);
+        self.occupant_entries.end_coming(place as usize);
         put_page(&mut self.tables, place as usize, page, Page::Swapped(slot));
     }
 
@@ -169,7 +168,7 @@ impl Memory {
 
     /// Ends an eviction: takes back the slot's ticket, with whether the device wrote the slot and the bytes that it was
     /// given, which the slot then holds.
-    pub fn end_evict(&mut self, slot: u32, wrote: bool, bytes: &[u8; 4096]) -> EvictEnd
+    pub fn evict_commit(&mut self, slot: u32, wrote: bool, bytes: &[u8; 4096]) -> EvictEnd
         requires out { IsEvicting self.old slot }
         requires held { wrote ≡ true → get_or self.old.slots.held slot [] ≡ bytes.now }
         ensures { CommitsEvict self.old slot wrote bytes.now result self.new }
@@ -186,7 +185,7 @@ impl Memory {
     }
 
     /// Ends a fetch: takes back the slot's ticket, with whether the device read the slot and the bytes that it read.
-    pub fn end_fetch(&mut self, slot: u32, read: bool, bytes: &[u8; 4096]) -> FetchEnd
+    pub fn fetch_commit(&mut self, slot: u32, read: bool, bytes: &[u8; 4096]) -> FetchEnd
         requires { IsFetching self.old slot }
         ensures { CommitsFetch self.old slot read bytes.now result self.new }
     {

@@ -4,13 +4,11 @@ ghost use Rattle.std.specs.Prelude.{◌≡◌, ◌<◌, [], None, true, length, 
 ghost use Rattle.wh_space_model.specs.Frames.{IsTaken};
 ghost use Rattle.wh_space_model.specs.Parts.{Occupant, occupant_at};
 ghost use Rattle.wh_space_model.specs.Places.{Exits};
-ghost use Rattle.wh_space.specs.OccupantEntries.{occupant_gone};
 ghost use Rattle.wh_space.specs.Slotting.{CanLeaveSlots, slots_gone};
 ghost use Rattle.wh_space.specs.Leaving.{CanAllGo, CanGo, owner_gone, page_gone, pages_gone, sharer_gone};
 ghost use Rattle.wh_space.specs.UnchangedTables.{fixed_in};
 
 use crate::memory::Memory;
-use crate::occupant_entry::OccupantEntry;
 use crate::pins::end_pins;
 use crate::slotting::{leave_slot, leaver_at, void_slot};
 use wh_content::Table;
@@ -84,28 +82,6 @@ fn let_pages_go(
     }
 }
 
-// The instance at a place goes. It keeps the place while a ticket of it is out.
-fn let_occupant_go(occupant_entries: &mut Vec<Option<OccupantEntry>>, place: usize)
-    requires { place < length occupant_entries.old.items }
-    ensures { occupant_entries.new.items ≡ slice_set occupant_entries.old.items place
-        (occupant_gone (get_or occupant_entries.old.items place None)) }
-{
-    occupant_entries[place] = match occupant_entries[place] {
-        Some(occupant_entry) => {
-            if occupant_entry.tickets == 0 {
-                None
-            } else {
-                Some(OccupantEntry {
-                    live: false,
-                    stands: None,
-                    ..occupant_entry
-                })
-            }
-        }
-        None => None,
-    };
-}
-
 impl Memory {
     /// Releases the instance at this place. Its own frames become free, and so do the shared ones whose last sharers
     /// were its pages, and their entries of the content table are removed; the reference counts of the others are
@@ -128,6 +104,6 @@ impl Memory {
         );
         void_slot(&mut self.slots, leaver_at(&self.occupant_entries, place));
         self.tables.clear(place);
-        let_occupant_go(&mut self.occupant_entries, place);
+        self.occupant_entries.let_occupant_go(place);
     }
 }

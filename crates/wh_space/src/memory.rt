@@ -2,7 +2,7 @@
 
 ghost use Rattle.wh_space_model.specs.Sound.{IsSound};
 
-use crate::occupant_entry::OccupantEntry;
+use crate::occupant_entries::OccupantEntries;
 use crate::pins::Pinned;
 use std::marker::Model;
 use wh_content::Table;
@@ -13,7 +13,7 @@ use wh_tables::Tables;
 
 /// The memory of all instances, by their places, on one pool of frames.
 pub struct Memory {
-    pub(crate) occupant_entries: Vec<Option<OccupantEntry>>,
+    pub(crate) occupant_entries: OccupantEntries,
     pub(crate) tables: Tables,
     pub(crate) pool: FramePool,
     pub(crate) content: Table,

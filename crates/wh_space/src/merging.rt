@@ -49,7 +49,7 @@ impl Memory {
         if place >= self.occupant_entries.len() {
             return false;
         }
-        match self.occupant_entries[place] {
+        match self.occupant_entries.at(place) {
             Some(occupant_entry) => occupant_entry.live && occupant_entry.number == number,
             None => false,
         }

@@ -20,7 +20,7 @@ impl Memory {
         if place >= self.occupant_entries.len() {
             return None;
         }
-        match self.occupant_entries[place] {
+        match self.occupant_entries.at(place) {
             Some(occupant_entry) => {
                 if occupant_entry.live {
                     occupant_entry.stands

@@ -3,7 +3,7 @@
 ghost use Rattle.std.specs.Prelude.{◌≡◌, ◌<◌, IfSome, None, length, get_or};
 ghost use Rattle.wh_space.specs.Slotting.{CanLeaveSlot, leaver_of, slot_gone, void_use, voids_leaver, voids_slot};
 
-use crate::occupant_entry::OccupantEntry;
+use crate::occupant_entries::OccupantEntries;
 use wh_space_model::{Page, Slot};
 use wh_swap::Slots;
 
@@ -22,13 +22,13 @@ fn voided_use(used: Slot) -> Slot
 }
 
 /// Returns the slot by which a page of the instance at this place is leaving, if one is.
-pub fn leaver_at(occupant_entries: &Vec<Option<OccupantEntry>>, place: usize) -> Option<u32>
+pub fn leaver_at(occupant_entries: &OccupantEntries, place: usize) -> Option<u32>
     ensures { result ≡ leaver_of (get_or occupant_entries.now.items place None) }
 {
     if place >= occupant_entries.len() {
         return None;
     }
-    match occupant_entries[place] {
+    match occupant_entries.at(place) {
         Some(occupant_entry) => occupant_entry.leaves,
         None => None,
     }

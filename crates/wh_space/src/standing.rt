@@ -4,26 +4,10 @@ ghost use Rattle.std.specs.Prelude.{◌≡◌, ◌+◌, ◌*◌, ◌<◌, ◌≤
 ghost use Rattle.wh_space_model.specs.Parts.{Occupant, occupant_at};
 ghost use Rattle.wh_space_model.specs.Stores.{ended, stood};
 ghost use Rattle.wh_model.specs.declared.memory.Need.{Need as Bytes};
-ghost use Rattle.wh_space.specs.OccupantEntries.{entry_awaiting};
 
 use crate::memory::Memory;
-use crate::occupant_entry::OccupantEntry;
 use crate::pins::end_pins;
 use wh_model::Need;
-
-// Whoever is at this place waits for a frame at these bytes, or for none.
-fn stand_at(occupant_entries: &mut Vec<Option<OccupantEntry>>, place: usize, need: Option<Need>)
-    requires { place < length occupant_entries.old.items }
-    ensures { occupant_entries.new.items ≡ slice_set occupant_entries.old.items place
-        (entry_awaiting (get_or occupant_entries.old.items place None) need) }
-{
-    if let Some(occupant_entry) = occupant_entries[place] {
-        occupant_entries[place] = Some(OccupantEntry {
-            stands: need,
-            ..occupant_entry
-        });
-    }
-}
 
 impl Memory {
     /// Blocks the instance at this place on a frame for these bytes, at most 4096 of its memory; or, with `None`,
@@ -35,7 +19,7 @@ impl Memory {
         requires few { (want : Bytes) → need ≡ Some want → want.length ≤ 4096 }
         ensures { self.new ≡ stood self.old place need }
     {
-        stand_at(&mut self.occupant_entries, place, need);
+        self.occupant_entries.stand_at(place, need);
     }
 
     /// Unblocks the instance at this place, whose step was taken or whose call was cancelled, and ends its pins and
@@ -45,7 +29,7 @@ impl Memory {
         ensures { self.new ≡ ended self.old place }
     {
         let _ = &self.tax;
-        stand_at(&mut self.occupant_entries, place, None);
+        self.occupant_entries.stand_at(place, None);
         end_pins(&mut self.pins, &mut self.pool, place);
     }
 }

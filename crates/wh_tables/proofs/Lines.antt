@@ -1,6 +1,6 @@
 -- The line of instances by number, when one comes to a place, and who is the next in it.
-use Rattle.std.proofs.Common.{◌≡◌, ◌≢◌, ◌∙◌, ℕ, ◌+◌, ◌<◌, ◌≤◌, ◌-◌, ◌⊎◌, ◌==◌, inl, inr, cond, not, Bool, true, false, List, [], ◌∷◌, Option, Some, None, length, get_or, leb, leb-true, slice_get, zero, suc, refl, sym, ap, subst, arith, rules}
-use Rattle.std.specs.List.{AllPairs, AllWithin, Contains, filter, insert}
+use Rattle.std.proofs.Common.{◌≡◌, ◌≢◌, ◌∙◌, ℕ, ◌+◌, ◌<◌, ◌≤◌, ◌-◌, ◌⊎◌, ◌==◌, inl, inr, cond, not, Bool, true, false, List, [], ◌∷◌, Option, Some, None, length, get_or, take, drop, ◌++◌, leb, leb-true, slice_get, zero, suc, refl, sym, ap, subst, arith, rules}
+use Rattle.std.specs.List.{All, AllPairs, AllWithin, Contains, filter, insert}
 use Rattle.std.specs.List.Sorted.{IsPartitionPoint, IsPermutation}
 use Rattle.std.proofs.lemmas.Bool.{cases_lt}
 use Rattle.std.proofs.lemmas.Bool.Decides.{nat_tests}
@@ -11,7 +11,7 @@ use Rattle.std.proofs.lemmas.List.Sorted.{All-permutation, Contains-permutation,
 use Rattle.wh_space_model.specs.declared.plain.InstId.{InstId}
 use Rattle.wh_space_model.specs.declared.states.Page.{Page}
 use Rattle.wh_space_model.specs.{with_row}
-use Rattle.wh_space_model.proofs.Putting.{get_or_is, here_or}
+use Rattle.wh_space_model.proofs.Putting.{get_or_is, here_or, there_of}
 use Rattle.wh_space_model.proofs.Rooms.{get_there}
 use Rattle.wh_space_model.proofs.Rows.{row_other, row_same}
 use Rattle.wh_tables.specs.Line.{ComesLater, IsAbove, IsLineOf, IsNextIn}
@@ -40,6 +40,54 @@ contains_filter p (y ∷ xs) x (zero, less, is) passes =
     let e : p y ≡ true = ap p is ∙ passes in
     rw e (zero, omega arith, is)
 contains_filter p (y ∷ xs) x (suc k, less, is) passes = kept_or (p y) y (filter p xs) x (contains_filter p xs x (k, omega arith, is) passes)
+
+get_or-any : {X : Type 0} (xs : List X) (k : ℕ) (d e : X) → k < length xs → get_or xs k d ≡ get_or xs k e
+get_or-any [] k d e less = absurd (omega arith)
+get_or-any (x ∷ xs) zero d e less = refl
+get_or-any (x ∷ xs) (suc k) d e less = get_or-any xs k d e (omega arith)
+
+-- all others stay
+filter_all : {X : Type 0} (p : X → Bool) (xs : List X) → All (λ x. p x ≡ true) xs → filter p xs ≡ xs
+filter_all p [] all = refl
+filter_all p (x ∷ xs) all =
+    let here : p x ≡ true = all 0 x (omega arith) in
+    let rest : filter p xs ≡ xs = filter_all p xs (λ k d less. all (suc k) d (omega arith)) in
+    rw (here, rest) refl
+
+pub filter_one : {X : Type 0} (p : X → Bool) (xs : List X) (k : ℕ) → k < length xs → ((d : X) → p (get_or xs k d) ≡ false)
+    → ((j : ℕ) (d : X) → j < length xs → j ≢ k → p (get_or xs j d) ≡ true) → take k xs ++ drop (suc k) xs ≡ filter p xs
+filter_one {X} p [] k less here others = absurd (omega arith)
+filter_one {X} p (x ∷ xs) zero less here others =
+    let gone : p x ≡ false = here x in
+    let rest : filter p xs ≡ xs = filter_all p xs (λ k d within. others (suc k) d (omega arith) (λ e. absurd (omega arith))) in
+    rw (gone, rest) refl
+filter_one {X} p (x ∷ xs) (suc k) less here others =
+    let stays : p x ≡ true = others 0 x (omega arith) (λ e. absurd (omega arith)) in
+    let rest = filter_one p xs k (omega arith) here (λ j d within other. others (suc j) d (omega arith) (λ e. other (omega arith))) in
+    rw stays (ap (λ (z : List X). x ∷ z) rest)
+
+at_place : (place : ℕ) (id : InstId) → id.place ≡ place → is_elsewhere place id ≡ false
+at_place place id here = grind (arith, nat_tests)
+
+not_at_place : (place : ℕ) (id : InstId) → id.place ≢ place → is_elsewhere place id ≡ true
+not_at_place place id other = grind (arith, nat_tests)
+
+-- nobody in the line is at a place behind all
+pub none_behind : (numbers : List ℕ) (line : List InstId) (place : ℕ) → IsLineOf numbers line → length numbers ≤ place → line ≡ filter (is_elsewhere place) line
+none_behind numbers line place is past = sym (filter_all (is_elsewhere place) line (λ k d less. (
+    let within = there_of numbers (get_or line k d).place (get_or line k d).number (is.there k d less) in
+    not_at_place place (get_or line k d) (λ e. absurd (omega arith)))))
+
+-- whoever is at a place stands there once
+pub one_leaves : (numbers : List ℕ) (line : List InstId) (place k : ℕ) (x : InstId) → IsLineOf numbers line → k < length line → (get_or line k x).place ≡ place
+    → take k line ++ drop (suc k) line ≡ filter (is_elsewhere place) line
+one_leaves numbers line place k x is less here =
+    let there : (d : InstId) → (get_or line k d).place ≡ place = λ d. ap (λ (id : InstId). id.place) (get_or-any line k d x less) ∙ here in
+    filter_one (is_elsewhere place) line k less (λ d. at_place place (get_or line k d) (there d))
+    (λ j d within other. not_at_place place (get_or line j d) (λ same. elim (cases_lt j k) [
+      | inl before ↦ is.once j k d before less (same ∙ sym (there d))
+      | inr from ↦ (let behind : k < j = omega (arith, other) in is.once k j d behind within (there d ∙ sym same))
+    ]))
 
 -- ---- a newcomer joins it
 
@@ -102,11 +150,6 @@ split_at line number rank split = (
 )
 
 -- ---- who is the next in it
-
-get_or-any : {X : Type 0} (xs : List X) (k : ℕ) (d e : X) → k < length xs → get_or xs k d ≡ get_or xs k e
-get_or-any [] k d e less = absurd (omega arith)
-get_or-any (x ∷ xs) zero d e less = refl
-get_or-any (x ∷ xs) (suc k) d e less = get_or-any xs k d e (omega arith)
 
 pub has_row : {X : Type 0} (xss : List (List X)) (j : ℕ) → 1 ≤ length (get_or xss j []) → j < length xss
 has_row [] j some = absurd (omega arith)

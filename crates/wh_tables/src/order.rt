@@ -112,9 +112,9 @@ impl PageOrder {
         self.numbers.reserve(1)?;
         self.links.reserve(1)?;
         self.line.reserve(1)?;
+        join_line(&mut self.line, &self.numbers, InstId { place, number });
         put_row(&mut self.numbers, place, number);
         put_row(&mut self.links, place, row);
-        join_line(&mut self.line, InstId { place, number });
         Ok(())
     }
 

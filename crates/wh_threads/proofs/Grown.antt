@@ -3,7 +3,7 @@ use Rattle.std.proofs.Common.{◌≡◌, ℕ, ◌+◌, List, ◌++◌, Some, sli
 use Rattle.std.proofs.lemmas.List.{set-get_or}
 use Rattle.std.proofs.lemmas.List.Sums.{sum_by-append}
 use Rattle.std.proofs.lemmas.Option.{get_or_from_slice_get}
-use Rattle.wh_threads.specs.Counting.{LenderState, turns_of}
+use Rattle.wh_threads.specs.Counting.{ThreadCountsState, turns_of}
 use Rattle.wh_threads.specs.Handover.{message_turns, turns_in}
 use Rattle.wh_threads.specs.declared.channel.Message.{Message}
 use Rattle.wh_threads.specs.declared.tally.Tally.{Tally}
@@ -28,7 +28,7 @@ put_again xs seat x at =
     ap (λ y. slice_set xs seat y) (sym (get_or_from_slice_get xs seat x x at)) ∙ set-get_or xs seat x
 
 -- a worker that has counted nothing is back
-pub back_idle : (was now : LenderState) (seat : ℕ) (from tally : Tally) → slice_get was.tallies seat ≡ Some from
+pub back_idle : (was now : ThreadCountsState) (seat : ℕ) (from tally : Tally) → slice_get was.tallies seat ≡ Some from
     → tally ≡ from
     → now ≡ record was { tallies = slice_set was.tallies seat tally; workers_out = now.workers_out }
     → now ≡ record was { workers_out = now.workers_out }
@@ -37,6 +37,6 @@ back_idle was now seat from tally at idle is =
     is ∙ rw idle (λ i. record was { tallies = same i; workers_out = now.workers_out })
 
 -- one worker more is out
-pub one_more_out : (was mid now : LenderState) (count : ℕ) → mid ≡ record was { workers_out = count }
+pub one_more_out : (was mid now : ThreadCountsState) (count : ℕ) → mid ≡ record was { workers_out = count }
     → now ≡ record mid { workers_out = mid.workers_out + 1 } → now ≡ record was { workers_out = count + 1 }
 one_more_out was mid now count is next = next ∙ (λ i. record (is i) { workers_out = (is i).workers_out + 1 })

@@ -40,7 +40,7 @@ pub record SharesState : Type 0 where
   pub evictions : ℕ
 
 -- The same, and how many workers, scanners and reclaimers have parts of the ledgers now.
-pub record LenderState : Type 0 where
+pub record ThreadCountsState : Type 0 where
   pub tallies : List Tally
   pub owner : OwnCount
   pub offers : ℕ
@@ -50,12 +50,12 @@ pub record LenderState : Type 0 where
   pub reclaimers_out : ℕ
 
 -- all parts of the ledgers are there
-pub record HasAllParts (l : LenderState) : Type 0 where
+pub record HasAllParts (l : ThreadCountsState) : Type 0 where
   pub workers : l.workers_out ≡ 0
   pub scanners : l.scanners_out ≡ 0
   pub reclaimers : l.reclaimers_out ≡ 0
 
-abbrev pub counts_of : LenderState → SharesState
+abbrev pub counts_of : ThreadCountsState → SharesState
 counts_of l = record { tallies = l.tallies; owner = l.owner; offers = l.offers; evictions = l.evictions }
 
 -- the turns and the charges of all workers

@@ -1,10 +1,10 @@
 -- Which parts of the ledgers are lent.
 use Rattle.std.specs.Prelude.{◌≡◌, ℕ, ◌+◌, ◌-◌, ◌*◌, ◌^◌, ◌<◌, ◌≤◌, length}
-use Rattle.wh_threads.specs.Counting.{LenderState, turns_of, charges_of}
-use Rattle.wh_threads.specs.declared.lender.ThreadCounts.TheInside.{Inside}
+use Rattle.wh_threads.specs.Counting.{ThreadCountsState, turns_of, charges_of}
+use Rattle.wh_threads.specs.declared.thread_counts.ThreadCounts.TheInside.{Inside}
 
 -- of the ledgers of turns, charges, offers and evictions, which have that many parts, those are lent that aren't here
-abbrev pub lender_of : {T C O E : Type 0} → (turns charges offers evictions : ℕ) → Inside T C O E → LenderState
+abbrev pub lender_of : {T C O E : Type 0} → (turns charges offers evictions : ℕ) → Inside T C O E → ThreadCountsState
 lender_of turns charges offers evictions l = record {
   tallies = l.tallies.items;
   owner = l.owner;

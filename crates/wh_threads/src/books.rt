@@ -6,11 +6,11 @@ ghost use Rattle.wh_threads.specs.Counting.{MadeOwnEvictions, MadeOwnOffers, Ran
 
 use crate::count::Count;
 use crate::helper::Helper;
-use crate::lender::ThreadCounts;
 use crate::own_count::OwnCount;
 use crate::received_turns::ReceivedTurns;
 use crate::shares::Shares;
 use crate::tally::Tally;
+use crate::thread_counts::ThreadCounts;
 use crate::worker::Worker;
 use std::alloc::{AllocError, Global};
 use std::sync::ledger::{Blank, Ledger};

@@ -2,9 +2,9 @@
 
 ghost use Rattle.std.specs.Prelude.{◌≡◌, ◌<◌, slice_get, Some};
 
-use crate::lender::ThreadCounts;
 use crate::own_count::OwnCount;
 use crate::tally::Tally;
+use crate::thread_counts::ThreadCounts;
 use std::marker::Model;
 use std::sync::ledger::Ledger;
 

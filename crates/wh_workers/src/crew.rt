@@ -3,7 +3,7 @@
 ghost use Rattle.std.specs.Prelude.{◌≡◌, ℕ, ◌+◌, ◌<◌, ◌≤◌, [], IfOk, IfErr, Some, slice_get, vec_len, vec_capacity};
 ghost use Rattle.crossbeam_channel.specs.Claims.{view, IsSeatAt};
 ghost use Rattle.crossbeam_channel.specs.Ends.{sends_on, receives_on};
-ghost use Rattle.wh_threads.specs.Counting.{LenderState, turns_of};
+ghost use Rattle.wh_threads.specs.Counting.{ThreadCountsState, turns_of};
 ghost use Rattle.wh_workers.specs.EachAt.{EachAt};
 ghost use Rattle.wh_workers.specs.LentHelpers.{AreLent};
 ghost use Rattle.wh_threads.specs.Handover.{Dispatches, turns_in, all_parts};

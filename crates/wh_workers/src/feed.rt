@@ -4,7 +4,7 @@ ghost use Rattle.std.specs.Prelude.{◌≡◌, ◌+◌, ◌<◌, ◌∷◌, ◌+
 ghost use Rattle.std.specs.Bool.{MatchBool};
 ghost use Rattle.crossbeam_channel.specs.Claims.{view, IsSeatAt};
 ghost use Rattle.crossbeam_channel.specs.Ends.{sends_on};
-ghost use Rattle.wh_threads.specs.Counting.{LenderState};
+ghost use Rattle.wh_threads.specs.Counting.{ThreadCountsState};
 ghost use Rattle.wh_threads.specs.Handover.{Dispatches};
 ghost use Rattle.wh_workers.specs.LentHelpers.{AreLent};
 ghost use Rattle.wh_workers.specs.Serving.{AreTurns};

@@ -1,7 +1,7 @@
 // The helpers of a call of `serve`: a scanner and a reclaimer, each of which is started where it is wanted.
 
 ghost use Rattle.std.specs.Prelude.{◌≡◌, ◌≤◌, None, IfOk, IsSome, OnErr, OnOk};
-ghost use Rattle.wh_threads.specs.Counting.{LenderState};
+ghost use Rattle.wh_threads.specs.Counting.{ThreadCountsState};
 ghost use Rattle.wh_workers.specs.LentHelpers.{AreLent, IsLent};
 
 use crate::crew::ServeError;

@@ -3,7 +3,7 @@
 ghost use Rattle.std.specs.Prelude.{◌≡◌, ◌+◌, ◌/◌, ◌<◌, ◌≤◌, [], None, IfNone, IfOk, IsSome, OnOk, OnErr};
 ghost use Rattle.crossbeam_channel.specs.Claims.{view, IsSeatAt};
 ghost use Rattle.crossbeam_channel.specs.Ends.{sends_on};
-ghost use Rattle.wh_threads.specs.Counting.{HasAllParts, LenderState, turns_of};
+ghost use Rattle.wh_threads.specs.Counting.{HasAllParts, ThreadCountsState, turns_of};
 ghost use Rattle.wh_threads.specs.Handover.{SameMessages, all_parts, traffic, turns_in};
 ghost use Rattle.wh_workers.specs.LentHelpers.{AreLent};
 ghost use Rattle.wh_workers.specs.Serving.{AreRun, AreTurns};

@@ -1,7 +1,7 @@
 // A call of `serve` for a sweep: a scanner alone, in a thread of its own.
 
 ghost use Rattle.std.specs.Prelude.{◌≡◌, ◌≤◌, OnOk, OnErr, false};
-ghost use Rattle.wh_threads.specs.Counting.{LenderState};
+ghost use Rattle.wh_threads.specs.Counting.{ThreadCountsState};
 
 use crate::crew::ServeError;
 use std::alloc::Global;

@@ -18,9 +18,11 @@ use Rattle.wh_host.specs.declared.error.HostError.TheVariants as asks
 use Rattle.wh_host.specs.CallRequests.{host_number}
 use Rattle.wh_host.specs.declared.error.ModuleError.{ModuleError}
 use Rattle.wh_host.specs.declared.error.ModuleError.TheVariants.{Bytes, ModulesFull, Memory}
+use Rattle.wh_host.specs.declared.error.UnloadError.{UnloadError}
+use Rattle.wh_host.specs.declared.error.UnloadError.TheVariants.{NoModule, InUse}
 
 -- the handle holds no host; room was refused; it holds one already; no such tax; not UTF-8; no such instance, call or code; frames
--- and slots are 2^32 together or more
+-- and slots are 2^32 together or more; an instance of the module is there
 abbrev pub none_code : ℕ
 none_code = 1
 
@@ -42,6 +44,9 @@ unknown_code = 6
 abbrev pub large_code : ℕ
 large_code = 7
 
+abbrev pub in_use_code : ℕ
+in_use_code = 8
+
 -- why a module isn't linked
 abbrev pub link_error_code : LinkError → ℕ
 link_error_code (links.NoItem fault place) = 768 + import_number fault
@@ -58,6 +63,11 @@ module_error_code Memory = 1026
 -- why an instance isn't admitted
 abbrev pub admit_error_code : AdmitError → ℕ
 admit_error_code e = 1280 + admit_number e
+
+-- why a module isn't let go: it isn't there, as for an admission; or an instance of it is
+abbrev pub unload_error_code : UnloadError → ℕ
+unload_error_code NoModule = admit_error_code admits.NoModule
+unload_error_code InUse = in_use_code
 
 -- why a host doesn't do what is asked of it
 abbrev pub host_error_code : HostError → ℕ

@@ -17,6 +17,7 @@ use Rattle.wh_scan.specs.Pass.{HasSoManyPages, MayPass, PassesOverAll, ScansAll}
 use Rattle.wh_host.specs.declared.error.HostError.{HostError}
 use Rattle.wh_host.specs.declared.error.HostError.TheVariants.{Memory}
 use Rattle.wh_host.specs.declared.error.ModuleError.{ModuleError}
+use Rattle.wh_host.specs.declared.error.UnloadError.{UnloadError}
 use Rattle.wh_host.specs.declared.parts.ModuleId.{ModuleId}
 use Rattle.wh_host.specs.Admitting.{AnswersAdmit}
 use Rattle.wh_host.specs.CallRequests.{AnswersCall, AnswersInvoke}
@@ -27,6 +28,7 @@ use Rattle.wh_host.specs.Paging.{MovesOnly}
 use Rattle.wh_host.specs.Reporting.{ReportState, ReportsHost}
 use Rattle.wh_host.specs.Sharing.{CanScan}
 use Rattle.wh_host.specs.Telling.{TellsChargesOf, TellsOf}
+use Rattle.wh_host.specs.Unloading.{AnswersUnload}
 use Rattle.wh_hand.specs.HandStates.{HandState, IsSoundByEvents}
 use Rattle.wh_hand.specs.ReleasedOutputs.{AnswersReleaseHere}
 use Rattle.wh_hand.specs.Running.{RunsAll}
@@ -36,7 +38,7 @@ use Rattle.wolqedir.specs.declared.shapes.Progress.{Progress}
 use Rattle.wolqedir.specs.declared.shapes.RawStatus.{RawStatus}
 use Rattle.wolqedir.specs.declared.shapes.RawReport.{RawReport}
 use Rattle.wolqedir.specs.declared.shapes.RawInstanceReport.{RawInstanceReport}
-use Rattle.wolqedir.specs.Codes.{admit_error_code, code_by, fork_error_code, host_error_code, large_code, memory_code, module_error_code, name_code, none_code, unknown_code}
+use Rattle.wolqedir.specs.Codes.{admit_error_code, code_by, fork_error_code, host_error_code, large_code, memory_code, module_error_code, name_code, none_code, unknown_code, unload_error_code}
 use Rattle.wolqedir.specs.Rooms.{laid_in}
 use Rattle.wolqedir.specs.Shapes.{instance_of, progress_as, raw_report_of, raw_row_of, shown_status}
 
@@ -72,7 +74,7 @@ abbrev pub TellsCaller : {A B E : Type 0} → (A → B) → Result A E → B →
 TellsCaller told (Ok a) before after = after ≡ told a
 TellsCaller told (Err e) before after = after ≡ before
 
--- ---- what comes
+-- ---- what comes, and modules that go
 
 pub record ExportLoads (bytes : List ℕ) (number number2 code : ℕ) (h h2 : HandState) : Type 0 where
   pub answer : Result ModuleId ModuleError
@@ -82,6 +84,15 @@ pub record ExportLoads (bytes : List ℕ) (number number2 code : ℕ) (h h2 : Ha
   pub backing : KeepsBacking h.host.space h2.host.space
   pub output : h2.output ≡ h.output
   pub told : TellsCaller (λ id. id.number) answer number number2
+
+pub record ExportUnloads (of : ℕ) (code : ℕ) (h h2 : HandState) : Type 0 where
+  pub answer : Result Unit UnloadError
+  pub answered : code ≡ code_by unload_error_code answer
+  pub unloads : AnswersUnload h.host of answer h2.host
+  pub err : OnErr answer (h2 ≡ h)
+  pub backing : KeepsBacking h.host.space h2.host.space
+  pub memory : h2.host.space ≡ h.host.space
+  pub output : h2.output ≡ h.output
 
 pub record ExportAdmits (of : ℕ) (p : Params) (instance instance2 : RawInstance) (code : ℕ) (h h2 : HandState) : Type 0 where
   pub answer : Result InstId AdmitError

@@ -2,9 +2,9 @@
 //! steps of 256 and the number that scripts show after the family's letter.
 
 ghost use Rattle.std.specs.Prelude.{◌≡◌};
-ghost use Rattle.wolqedir.specs.Codes.{admit_error_code, fork_error_code, host_error_code, link_error_code, module_error_code, swap_code, trap_code};
+ghost use Rattle.wolqedir.specs.Codes.{admit_error_code, fork_error_code, host_error_code, link_error_code, module_error_code, swap_code, trap_code, unload_error_code};
 
-use wh_hand::{AdmitError, ForkError, HostError, ModuleError};
+use wh_hand::{AdmitError, ForkError, HostError, ModuleError, UnloadError};
 use wh_imports::LinkError;
 use wh_load::LoadError;
 use wh_model::Trap;
@@ -26,6 +26,8 @@ pub const NAME: u32 = 5;
 pub const UNKNOWN: u32 = 6;
 /// Frames and slots are 2^32 together or more.
 pub const LARGE: u32 = 7;
+/// An instance of the module is there.
+pub const IN_USE: u32 = 8;
 
 // Why a module isn't linked: L and the number of its fault.
 fn of_link(error: LinkError) -> u32
@@ -47,6 +49,16 @@ pub fn of_module(error: ModuleError) -> u32
         ModuleError::Bytes(LoadError::Link(error)) => of_link(error),
         ModuleError::ModulesFull => 0x401,
         ModuleError::Memory => 0x402,
+    }
+}
+
+/// Returns the code for why a module isn't let go: A1, as for an admission, where it isn't there; IN_USE.
+pub fn of_unload(error: UnloadError) -> u32
+    ensures { result ≡ unload_error_code error }
+{
+    match error {
+        UnloadError::NoModule => of_admit(AdmitError::NoModule),
+        UnloadError::InUse => IN_USE,
     }
 }
 

@@ -1,16 +1,16 @@
-//! How modules and instances come to a host.
+//! How modules and instances come to a host, and how modules go.
 
-ghost use Rattle.std.specs.Prelude.{◌≡◌, IfOk, OnErr, Result};
+ghost use Rattle.std.specs.Prelude.{◌≡◌, IfOk, OnErr, Result, ⊤};
 ghost use Rattle.wh_params.specs.View.{view_params, view_quota};
-ghost use Rattle.wolqedir.specs.Codes.{code_by, admit_error_code, fork_error_code, module_error_code};
-ghost use Rattle.wolqedir.specs.ExportContracts.{ExportAdmits, ExportForks, ExportLoads, ServesHandle, ServesWithRoom, TellsCaller};
+ghost use Rattle.wolqedir.specs.Codes.{code_by, admit_error_code, fork_error_code, module_error_code, unload_error_code};
+ghost use Rattle.wolqedir.specs.ExportContracts.{ExportAdmits, ExportForks, ExportLoads, ExportUnloads, ServesHandle, ServesWithRoom, TellsCaller};
 ghost use Rattle.wolqedir.specs.Shapes.{given_by, id_of, instance_of, quota_by};
 
-use crate::codes::{DONE, MEMORY, NONE, of_admit, of_fork, of_module};
+use crate::codes::{DONE, MEMORY, NONE, of_admit, of_fork, of_module, of_unload};
 use crate::handle::Handle;
 use crate::shapes::{RawInstance, RawParams, RawQuota, name_of, named};
 use std::alloc::{AllocError, Global};
-use wh_hand::{AdmitError, ForkError, InstId, ModuleError, ModuleId, Quota};
+use wh_hand::{AdmitError, ForkError, InstId, ModuleError, ModuleId, Quota, UnloadError};
 
 // What its owner gives an instance, with a copy of these words as its input.
 fn given(alloc: Global, params: &RawParams, inputs: &[u64]) -> Result<wh_hand::Params, AllocError>
@@ -39,6 +39,16 @@ fn tell_module(answer: Result<ModuleId, ModuleError>, number: &mut usize) -> u32
             DONE
         }
         Err(error) => of_module(error),
+    }
+}
+
+// The code of what was answered where a module was to go.
+fn unload_code(answer: Result<(), UnloadError>) -> u32
+    ensures { result ≡ code_by unload_error_code answer }
+{
+    match answer {
+        Ok(()) => DONE,
+        Err(error) => of_unload(error),
     }
 }
 
@@ -101,6 +111,22 @@ pub extern "C" fn wq_load(
     let answer = hand.load(alloc, bytes);
     handle.put(hand);
     tell_module(answer, number)
+}
+
+/// Lets a module go that no instance is of: its memory is free, and its number is never given again.
+///
+/// It answers NONE; A1 where no module has this number; IN_USE where an instance of it is there.
+#[unsafe(no_mangle)]
+pub extern "C" fn wq_unload(alloc: Global, handle: &mut Handle, of: usize) -> u32
+    ensures { ServesHandle handle.old.slot.held (ExportUnloads of result) result
+        handle.new.slot.held ⊤ }
+{
+    let Some(mut hand) = handle.take(alloc) else {
+        return NONE;
+    };
+    let answer = hand.unload(ModuleId { number: of });
+    handle.put(hand);
+    unload_code(answer)
 }
 
 /// Admits an instance of a module, with what its owner gives it. Its start runs by `wq_run`, before its calls.

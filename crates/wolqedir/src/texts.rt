@@ -3,8 +3,8 @@
 ghost use Rattle.std.specs.Prelude.{◌≡◌, MatchOption, length};
 ghost use Rattle.wolqedir.specs.CodeTexts.{IsLibraryCode, most_number};
 
-// The library's own codes: 0 to 7.
-const OWN: [&str; 8] = [
+// The library's own codes: 0 to 8.
+const OWN: [&str; 9] = [
     "it was done",
     "no host is in the handle",
     "memory was refused",
@@ -13,6 +13,7 @@ const OWN: [&str; 8] = [
     "the name isn't UTF-8",
     "no such instance, call or code",
     "frames and slots are 2^32 together or more",
+    "an instance of the module is there",
 ];
 
 // Why bytes are no module: D1 to D13.
@@ -133,7 +134,7 @@ fn sentences(family: u32) -> &'static [&'static str]
 pub fn sentence(code: u32) -> Option<&'static str>
     ensures { MatchOption result (¬ IsLibraryCode code) (λ _. IsLibraryCode code) }
 {
-    if code < 8 {
+    if code < 9 {
         return Some(OWN[code as usize]);
     }
     let number = (code % 256) as usize;

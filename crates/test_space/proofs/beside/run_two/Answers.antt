@@ -1,5 +1,5 @@
 use Rattle.std.proofs.Common.{◌∙◌, ◌≤◌, ap, subst}
-use Rattle.wh_overlay.specs.LaidPages.{UpperState}
+use Rattle.wh_overlay.specs.LaidPages.{OverlayPagesState}
 use Rattle.wh_overlay.specs.Over.{AreAtHand, HasGrown, ReadsAreThere, frames_lacking}
 use Rattle.test_space.proofs.beside.run_two.Goals as goal
 
@@ -17,8 +17,8 @@ returns-clause-frames c =
     let is = c.loop.invariant in
     let one = c.into_upper.result in
     let two = c.into_upper-2.result in
-    let lent = ap (λ (u : UpperState). u.lent) c.into_upper.ensures.upper ∙ is.5 in
-    let lent2 = ap (λ (u : UpperState). u.lent) c.into_upper-2.ensures.upper ∙ is.6 in (
+    let lent = ap (λ (u : OverlayPagesState). u.lent) c.into_upper.ensures.upper ∙ is.5 in
+    let lent2 = ap (λ (u : OverlayPagesState). u.lent) c.into_upper-2.ensures.upper ∙ is.6 in (
       subst (λ n. frames_lacking c.args.memory.now c.args.places.0 one.pages ≤ n) lent
           (subst (λ s. frames_lacking s c.args.places.0 one.pages ≤ one.lent) is.1 (subst (λ p. frames_lacking c.loop.here.lower p one.pages ≤ one.lent) is.2 c.into_upper.ensures.frames)),
       subst (λ n. frames_lacking c.args.memory.now c.args.places.1 two.pages ≤ n) lent2

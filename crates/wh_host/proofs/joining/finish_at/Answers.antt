@@ -1,10 +1,10 @@
 use Rattle.std.proofs.Common.{◌≡◌, ◌+◌, ◌*◌, ◌≤◌, Some, length, refl, sym, ap, subst, ◌∙◌}
-use Rattle.wh_overlay.specs.LaidPages.{UpperState}
+use Rattle.wh_overlay.specs.LaidPages.{OverlayPagesState}
 use Rattle.wh_host.specs.Beside.{HasRun, with_nothing}
 use Rattle.wh_host.specs.Rounds.{lent_in}
 use Rattle.wh_host.proofs.joining.finish_at.Goals as goal
 
-one_upper : (u v : UpperState) → Some u ≡ Some v → u ≡ v
+one_upper : (u v : OverlayPagesState) → Some u ≡ Some v → u ≡ v
 one_upper u v e = cc e
 
 pub finish_beside-end-requires : goal.finish_beside-end-requires
@@ -34,5 +34,5 @@ returns c = λ q.
       again = e.again;
       upper = λ u is. ap Some (e.empty ∙ ap with_nothing (sym (one_upper u c.in-Some.upper (sym is ∙ c.in-Some.is))));
       id = refl;
-      free = (refl, (f.new.upper, refl, ap (λ (u : UpperState). u.pages) e.empty, ap (λ (u : UpperState). u.grown) e.empty, ap (λ (u : UpperState). u.taken) e.empty, ap (λ (u : UpperState). u.reads) e.empty));
+      free = (refl, (f.new.upper, refl, ap (λ (u : OverlayPagesState). u.pages) e.empty, ap (λ (u : OverlayPagesState). u.grown) e.empty, ap (λ (u : OverlayPagesState). u.taken) e.empty, ap (λ (u : OverlayPagesState). u.reads) e.empty));
     })

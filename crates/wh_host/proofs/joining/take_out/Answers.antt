@@ -1,16 +1,16 @@
 use Rattle.std.proofs.Common.{◌≡◌, ◌∙◌, true, Option, Some, None, inr, slice_set, sym, ap}
 use Rattle.wh_instance.specs.Tenancy.{HostInstanceState}
-use Rattle.wh_overlay.specs.LaidPages.{UpperState}
+use Rattle.wh_overlay.specs.LaidPages.{OverlayPagesState}
 use Rattle.wh_host.specs.declared.parts.InstanceEntry.{InstanceEntry}
 use Rattle.wh_host.specs.declared.rounds.Runner.{Runner}
 use Rattle.wh_host.specs.Joining.{with_lent}
 use Rattle.wh_host.proofs.joining.take_out.Goals as goal
 
 -- the runner with this instance, and this room
-abbrev out_with : Runner → InstanceEntry → HostInstanceState → Option UpperState → Runner
+abbrev out_with : Runner → InstanceEntry → HostInstanceState → Option OverlayPagesState → Runner
 out_with y x tenant upper = record y {
   taken = true;
-  of = x.of;
+  module_place = x.module_place;
   page_limit = x.page_limit;
   tenant = tenant;
   upper = upper;

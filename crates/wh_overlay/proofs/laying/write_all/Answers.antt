@@ -4,7 +4,7 @@ use Rattle.wh_model.specs.Execution.{Stores, written}
 use Rattle.wh_space_model.specs.{tally, Space, view, IsAtHand, at, page_at}
 use Rattle.wh_space_model.specs.Ready.{Ready}
 use Rattle.wh_space.specs.Steps.{LeavesStore}
-use Rattle.wh_overlay.specs.declared.upper.WrittenPage.{WrittenPage}
+use Rattle.wh_overlay.specs.declared.overlay_pages.WrittenPage.{WrittenPage}
 use Rattle.wh_overlay.specs.LaidBack.{HasLaid}
 use Rattle.wh_overlay.specs.LaidPages.{laid_over}
 use Rattle.wh_overlay.specs.Over.{AreAtHand, lacks_frame}

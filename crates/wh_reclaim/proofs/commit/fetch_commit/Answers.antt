@@ -1,4 +1,4 @@
 use Rattle.wh_reclaim.proofs.commit.fetch_commit.Goals as goal
 
-pub end_fetch-end-requires : goal.end_fetch-end-requires
-end_fetch-end-requires c = rw (← c.ticket.view_is) at c.requires
+pub fetch_commit-end-requires : goal.fetch_commit-end-requires
+fetch_commit-end-requires c = rw (← c.ticket.view_is) at c.requires

@@ -16,4 +16,4 @@ loop-at-preserved c = search (rules, slice_index_or, each_next, at_index)
 pub returns : goal.returns
 returns c =
     let now = c.loop-at in
-    each_all (RunsAt c.args.round.now.modules.now.items c.args.round.now.memory.now c.args.round.now.burst.quantum (c.args.round.now.burst.further + 1)) c.args.runners.now now.runners now.at now.invariant.0 (omega (arith, c.loop-at-test.false, now.auto.runners, now.auto.at-end))
+    each_all (RunsAt c.args.round.now.modules.now.slots c.args.round.now.memory.now c.args.round.now.burst.quantum (c.args.round.now.burst.further + 1)) c.args.runners.now now.runners now.at now.invariant.0 (omega (arith, c.loop-at-test.false, now.auto.runners, now.auto.at-end))

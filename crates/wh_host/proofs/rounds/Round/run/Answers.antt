@@ -1,7 +1,8 @@
-use Rattle.std.proofs.Common.{◌≡◌, ◌∙◌, ◌*◌, Some, option_copied, slice_get, refl, sym, ap, subst}
+use Rattle.std.proofs.Common.{◌≡◌, ◌∙◌, ◌*◌, Some, option_copied, refl, sym, ap, subst}
 use Rattle.wh_host.specs.declared.parts.LoadedModule.{LoadedModule}
 use Rattle.wh_host.specs.Beside.{RunsBeside}
 use Rattle.wh_host.specs.Lying.{LiesAt}
+use Rattle.wh_host.specs.Hosting.{module_in}
 use Rattle.wh_host.specs.Rounds.{lent_in}
 use Rattle.wh_host.proofs.rounds.Round.run.Goals as goal
 
@@ -16,11 +17,11 @@ returns c =
     let x1 = c.run_beside-upper.new.tenant in
     let e = c.run_beside-upper.ensures in
     let loaded = c.in-Some.module.now in
-    let is : Some loaded ≡ slice_get c.args.self.now.modules.now.items y.of = subst (λ r. option_copied r ≡ slice_get c.args.self.now.modules.now.items y.of) c.in-Some.is c.module_at.ensures in
+    let is : Some loaded ≡ module_in c.args.self.now.modules.now.slots y.module_place = subst (λ r. option_copied r ≡ module_in c.args.self.now.modules.now.slots y.module_place) c.in-Some.is c.module_at.ensures in
     record {
       id = refl;
       taken = refl;
-      of = refl;
+      module_place = refl;
       page_limit = refl;
       answer = refl;
       lent = e.lent ∙ ap lent_in (sym c.in-Some-take.is ∙ c.take.ensures.value);

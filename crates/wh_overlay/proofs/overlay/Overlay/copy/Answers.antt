@@ -1,8 +1,8 @@
 use Rattle.std.proofs.Common.{◌≡◌, ◌∙◌, ◌+◌, ◌*◌, ◌++◌, ◌∷◌, [], ap, refl, slice_get, subst, sym, arith}
 use Rattle.wh_space_model.specs.{view, page_at}
 use Rattle.wh_model.specs.Execution.{bytes_at}
-use Rattle.wh_overlay.specs.declared.upper.WrittenPage.{WrittenPage}
-use Rattle.wh_overlay.specs.LaidPages.{IsAmong, IsNoted, UpperState}
+use Rattle.wh_overlay.specs.declared.overlay_pages.WrittenPage.{WrittenPage}
+use Rattle.wh_overlay.specs.LaidPages.{IsAmong, IsNoted, OverlayPagesState}
 use Rattle.wh_overlay.specs.Over.{OverlayState}
 use Rattle.wh_overlay.proofs.LaidSteps.{lacks_most}
 use Rattle.wh_overlay.proofs.Marks.{last_there}
@@ -15,7 +15,7 @@ invariant_of-self c =
     let left = c.if-not-has_frame.ensures in
     let added = c.add-at.ensures.added in
     added_over o.lower.now o.place o.upper c.add-at.new.self c.args.number 1 c.peek.new.into c.self.invariant c.if-not-peek.ensures.hand (lacks_most (page_at o.lower.now.tables o.place c.args.number)) (omega (arith, left))
-    (ap (λ (u : UpperState). u.pages) added) (ap (λ (u : UpperState). u.reads) added) (ap (λ (u : UpperState). u.grown) added) (ap (λ (u : UpperState). u.taken) added) (ap (λ (u : UpperState). u.lent) added)
+    (ap (λ (u : OverlayPagesState). u.pages) added) (ap (λ (u : OverlayPagesState). u.reads) added) (ap (λ (u : OverlayPagesState). u.grown) added) (ap (λ (u : OverlayPagesState). u.taken) added) (ap (λ (u : OverlayPagesState). u.lent) added)
 
 pub returns-clause-some : goal.returns-clause-some
 returns-clause-some c =
@@ -23,7 +23,7 @@ returns-clause-some c =
     let x : WrittenPage = record { number = c.args.number; bytes = c.peek.new.into } in
     let added = c.add-at.ensures in (
       x,
-      ap (λ (u : UpperState). slice_get u.pages c.add-at.result) added.added ∙ ap (slice_get (o.upper.pages ++ x ∷ [])) added.place ∙ last_there o.upper.pages x,
+      ap (λ (u : OverlayPagesState). slice_get u.pages c.add-at.result) added.added ∙ ap (slice_get (o.upper.pages ++ x ∷ [])) added.place ∙ last_there o.upper.pages x,
       refl,
     )
 
@@ -34,8 +34,8 @@ returns-clause-sees c =
     let start : 4096 * c.args.number + 0 ≡ 4096 * c.args.number = omega arith in
     let read = subst (λ n. c.peek.new.into ≡ bytes_at (view o.lower.now o.place) n 4096) start (c.if-not-peek.ensures.read refl) in
     rw (← c.self.view_is) (add_page o.lower.now o.place o.upper c.add-at.new.self c.args.number c.peek.new.into c.invariant-2.ensures.sound c.self.invariant.at_hand c.invariant.ensures.whole new c.if-not-peek.ensures.hand read
-    (ap (λ (u : UpperState). u.grown) c.add-at.ensures.added) (ap (λ (u : UpperState). u.pages) c.add-at.ensures.added))
+    (ap (λ (u : OverlayPagesState). u.grown) c.add-at.ensures.added) (ap (λ (u : OverlayPagesState). u.pages) c.add-at.ensures.added))
 
 pub returns-clause-lower : goal.returns-clause-lower
 returns-clause-lower c =
-    rw (← c.self.view_is) (record { lower = refl; place = refl; page_limit = refl; lent = ap (λ (u : UpperState). u.lent) c.add-at.ensures.added; reads = λ number is. subst (λ (u : UpperState). IsNoted u.reads number) (sym c.add-at.ensures.added) is; stays = λ h. (invariant_of-self c, c.invariant-3.ensures.whole) })
+    rw (← c.self.view_is) (record { lower = refl; place = refl; page_limit = refl; lent = ap (λ (u : OverlayPagesState). u.lent) c.add-at.ensures.added; reads = λ number is. subst (λ (u : OverlayPagesState). IsNoted u.reads number) (sym c.add-at.ensures.added) is; stays = λ h. (invariant_of-self c, c.invariant-3.ensures.whole) })

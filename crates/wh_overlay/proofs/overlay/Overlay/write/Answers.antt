@@ -1,7 +1,7 @@
 use Rattle.std.proofs.Common.{◌≡◌, ◌∙◌, ◌+◌, ◌*◌, ◌<◌, ◌≤◌, ◌^◌, refl, ap, sym, subst, length, arith, rules}
 use Rattle.wh_model.specs.Execution.{written}
 use Rattle.wh_space_model.specs.{view}
-use Rattle.wh_overlay.specs.LaidPages.{IsNoted, IsWrittenAt, UpperState, with_upper}
+use Rattle.wh_overlay.specs.LaidPages.{IsNoted, IsWrittenAt, OverlayPagesState, with_upper}
 use Rattle.wh_overlay.specs.Over.{HasGrown, IsOverSame, OverlayState, ReadsAreThere, frames_lacking, sees}
 use Rattle.wh_overlay.proofs.OverPages.{page_with}
 use Rattle.wh_overlay.proofs.Seen.{still_at_hand, still_lacking, write_page}
@@ -18,10 +18,10 @@ invariant_of-self c =
     record {
       at_hand = search (rules, still_at_hand);
       there = subst (ReadsAreThere o.lower.now o.place) (sym done.2) c.self.invariant.there;
-      frames = subst (λ (u : UpperState). frames_lacking o.lower.now o.place u.pages ≤ u.taken) (sym done.2) (omega (arith, had, lacking));
-      lent = subst (λ (u : UpperState). u.taken ≤ u.lent) (sym done.2) c.self.invariant.lent;
-      counted = subst (λ (u : UpperState). length (view o.lower.now o.place) + u.grown * 65536 < 2 ^ 44) (sym done.2) c.self.invariant.counted;
-      limited = subst (λ (u : UpperState). HasGrown o.lower.now o.place u) (sym done.2) c.self.invariant.limited;
+      frames = subst (λ (u : OverlayPagesState). frames_lacking o.lower.now o.place u.pages ≤ u.taken) (sym done.2) (omega (arith, had, lacking));
+      lent = subst (λ (u : OverlayPagesState). u.taken ≤ u.lent) (sym done.2) c.self.invariant.lent;
+      counted = subst (λ (u : OverlayPagesState). length (view o.lower.now o.place) + u.grown * 65536 < 2 ^ 44) (sym done.2) c.self.invariant.counted;
+      limited = subst (λ (u : OverlayPagesState). HasGrown o.lower.now o.place u) (sym done.2) c.self.invariant.limited;
     }
 
 pub returns-clause-wrote : goal.returns-clause-wrote
@@ -37,4 +37,4 @@ returns-clause-wrote c =
 pub returns-clause-lower : goal.returns-clause-lower
 returns-clause-lower c =
     let first = subst (λ (z : OverlayState). IsOverSame c.args.self.now z) (sym c.self.view_is) c.own.ensures.lower in
-    record { lower = first.lower; place = first.place; page_limit = first.page_limit; lent = ap (λ (u : UpperState). u.lent) c.write.ensures.2 ∙ first.lent; reads = λ number is. subst (λ (u : UpperState). IsNoted u.reads number) (sym c.write.ensures.2) (first.reads number is); stays = λ h. (invariant_of-self c, c.invariant-3.ensures.whole) }
+    record { lower = first.lower; place = first.place; page_limit = first.page_limit; lent = ap (λ (u : OverlayPagesState). u.lent) c.write.ensures.2 ∙ first.lent; reads = λ number is. subst (λ (u : OverlayPagesState). IsNoted u.reads number) (sym c.write.ensures.2) (first.reads number is); stays = λ h. (invariant_of-self c, c.invariant-3.ensures.whole) }

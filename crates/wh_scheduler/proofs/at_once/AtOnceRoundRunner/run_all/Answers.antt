@@ -17,5 +17,5 @@ returns g c k y2 there =
     let less = slice_get_within ys k y2 there in
     let change = (c.for_each_mut.ensures k y2 (omega (arith, less, long))).1 in
     let left = change.left ∙ get_or_from_slice_get ys k y2 y2 there in
-    let Runs : Runner → Runner → Type 0 = λ y z. RunsAt round.modules.now.items round.memory.now round.burst.quantum (round.burst.further + 1) y z in
+    let Runs : Runner → Runner → Type 0 = λ y z. RunsAt round.modules.now.slots round.memory.now round.burst.quantum (round.burst.further + 1) y z in
     (get_or xs k y2, slice_get-get_or xs k y2 (omega (arith, less, long)), subst (λ z. Runs (get_or xs k y2) z) left (subst (λ y. Runs y change.after_call.now) change.argument_is change.call))

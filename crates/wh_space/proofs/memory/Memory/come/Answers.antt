@@ -31,13 +31,13 @@ put_page-requires-clause-frame c = known c.self.inside c.args.frame c.self.invar
 pub put_page-requires-clause-there : goal.put_page-requires-clause-there
 put_page-requires-clause-there c = search (rules, is_awaited, is_page)
 
-ended : (c : goal.After-put_page) → (space_of (record c.self.inside { occupant_entries = c.end_coming.new.occupant_entries; slots = c.give.new.self; pool = c.set_frame.new.pool; tables = c.put_page.new.tables }) ≡ has_come (space_of c.self.inside) c.args.place c.args.page c.args.frame c.args.slot c.args.bytes.now)
-    × IsWell (record c.self.inside { occupant_entries = c.end_coming.new.occupant_entries; slots = c.give.new.self; pool = c.set_frame.new.pool; tables = c.put_page.new.tables })
+ended : (c : goal.After-put_page) → (space_of (record c.self.inside { occupant_entries = c.end_coming.new.self; slots = c.give.new.self; pool = c.set_frame.new.pool; tables = c.put_page.new.tables }) ≡ has_come (space_of c.self.inside) c.args.place c.args.page c.args.frame c.args.slot c.args.bytes.now)
+    × IsWell (record c.self.inside { occupant_entries = c.end_coming.new.self; slots = c.give.new.self; pool = c.set_frame.new.pool; tables = c.put_page.new.tables })
 ended c =
     let a : Inside = c.self.inside in
     let is : slice_get a.slots.uses c.args.slot ≡ Some (Fetching c.args.place c.args.page c.args.frame) = rw (← c.self.view_is) at c.requires in
     let whole : length c.args.bytes.now ≡ 4096 = (search rules) in
-    came a (record a { occupant_entries = c.end_coming.new.occupant_entries; slots = c.give.new.self; pool = c.set_frame.new.pool; tables = c.put_page.new.tables }) c.args.slot c.args.place c.args.page c.args.frame c.args.bytes.now c.self.invariant
+    came a (record a { occupant_entries = c.end_coming.new.self; slots = c.give.new.self; pool = c.set_frame.new.pool; tables = c.put_page.new.tables }) c.args.slot c.args.place c.args.page c.args.frame c.args.bytes.now c.self.invariant
     (is_sound_come (space_of a) c.args.place c.args.page c.args.frame c.args.slot c.args.bytes.now c.self.invariant.sound is whole) is c.end_coming.ensures
     (given a.slots c.give.new.self c.args.slot c.give.ensures.uses c.give.ensures.vacant c.give.ensures.held)
     c.put_page.ensures.pages c.put_page.ensures.marks c.put_page.ensures.limits c.set_frame.ensures refl refl refl

@@ -22,14 +22,14 @@ end_leaving-requires c =
 pub settle-requires : goal.settle-requires
 settle-requires c =
     let void = is_void (space_of c.self.inside) c.args.slot c.args.place c.self.invariant.sound (rw (← c.self.view_is) at c.requires) in
-    within_set c.self.inside.occupant_entries.items c.end_leaving.new.occupant_entries.items c.args.place c.args.place _ c.end_leaving.ensures (guest_within c.self.inside c.args.place void.occupant void.there)
+    within_set c.self.inside.occupant_entries.items c.end_leaving.new.self.items c.args.place c.args.place _ c.end_leaving.ensures (guest_within c.self.inside c.args.place void.occupant void.there)
 
-ended : (c : goal.After-settle) → (space_of (record c.self.inside { occupant_entries = c.settle.new.occupant_entries; slots = c.give.new.self }) ≡ settled (with_leaving (without_slot (space_of c.self.inside) c.args.slot) c.args.place None) c.args.place)
-    × IsWell (record c.self.inside { occupant_entries = c.settle.new.occupant_entries; slots = c.give.new.self })
+ended : (c : goal.After-settle) → (space_of (record c.self.inside { occupant_entries = c.settle.new.self; slots = c.give.new.self }) ≡ settled (with_leaving (without_slot (space_of c.self.inside) c.args.slot) c.args.place None) c.args.place)
+    × IsWell (record c.self.inside { occupant_entries = c.settle.new.self; slots = c.give.new.self })
 ended c =
     let a : Inside = c.self.inside in
     let is : slice_get a.slots.uses c.args.slot ≡ Some (EvictVoid c.args.place) = rw (← c.self.view_is) at c.requires in
-    ended_void a (record a { occupant_entries = c.settle.new.occupant_entries; slots = c.give.new.self }) c.end_leaving.new.occupant_entries.items c.args.slot c.args.place c.self.invariant
+    ended_void a (record a { occupant_entries = c.settle.new.self; slots = c.give.new.self }) c.end_leaving.new.self.items c.args.slot c.args.place c.self.invariant
     (is_sound_evict_void (space_of a) c.args.slot c.args.place c.self.invariant.sound is) is c.end_leaving.ensures c.settle.ensures
     (given a.slots c.give.new.self c.args.slot c.give.ensures.uses c.give.ensures.vacant c.give.ensures.held) refl refl refl refl refl
 

@@ -24,12 +24,12 @@ end_coming-requires c = search (rules, is_void_fetch, guest_within)
 pub settle-requires : goal.settle-requires
 settle-requires c = search (rules, is_void_fetch, within_set, guest_within)
 
-ended : (c : goal.After-settle) → (space_of (record c.self.inside { occupant_entries = c.settle.new.occupant_entries; slots = c.give.new.self; pool = c.give-2.new.self }) ≡ settled (with_free (without_slot (space_of c.self.inside) c.args.slot) c.args.frame) c.args.place)
-    × IsWell (record c.self.inside { occupant_entries = c.settle.new.occupant_entries; slots = c.give.new.self; pool = c.give-2.new.self })
+ended : (c : goal.After-settle) → (space_of (record c.self.inside { occupant_entries = c.settle.new.self; slots = c.give.new.self; pool = c.give-2.new.self }) ≡ settled (with_free (without_slot (space_of c.self.inside) c.args.slot) c.args.frame) c.args.place)
+    × IsWell (record c.self.inside { occupant_entries = c.settle.new.self; slots = c.give.new.self; pool = c.give-2.new.self })
 ended c =
     let a : Inside = c.self.inside in
     let is : slice_get a.slots.uses c.args.slot ≡ Some (FetchVoid c.args.place c.args.frame) = rw (← c.self.view_is) at c.requires in
-    ended_void_fetch a (record a { occupant_entries = c.settle.new.occupant_entries; slots = c.give.new.self; pool = c.give-2.new.self }) c.end_coming.new.occupant_entries.items c.args.slot c.args.place c.args.frame c.self.invariant
+    ended_void_fetch a (record a { occupant_entries = c.settle.new.self; slots = c.give.new.self; pool = c.give-2.new.self }) c.end_coming.new.self.items c.args.slot c.args.place c.args.frame c.self.invariant
     (is_sound_fetch_void (space_of a) c.args.slot c.args.place c.args.frame c.self.invariant.sound is) is c.end_coming.ensures c.settle.ensures
     (given a.slots c.give.new.self c.args.slot c.give.ensures.uses c.give.ensures.vacant c.give.ensures.held) refl c.give-2.ensures.gives refl refl refl
 

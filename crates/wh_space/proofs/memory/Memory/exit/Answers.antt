@@ -43,10 +43,10 @@ clear-requires c = (is_here c.self.inside c.args.place c.args.self.now c.self.vi
 pub let_occupant_go-requires : goal.let_occupant_go-requires
 let_occupant_go-requires c = (is_here c.self.inside c.args.place c.args.self.now c.self.view_is c.self.invariant.sound c.requires).place
 
-gone : (c : goal.After-let_occupant_go) → IsGone c.self.inside (record c.self.inside { occupant_entries = c.let_occupant_go.new.occupant_entries; tables = c.clear.new.self; pool = c.let_pages_go.new.pool; content = c.let_pages_go.new.content; slots = c.void_slot.new.slots; pins = c.end_pins.new.pins }) c.args.place
+gone : (c : goal.After-let_occupant_go) → IsGone c.self.inside (record c.self.inside { occupant_entries = c.let_occupant_go.new.self; tables = c.clear.new.self; pool = c.let_pages_go.new.pool; content = c.let_pages_go.new.content; slots = c.void_slot.new.slots; pins = c.end_pins.new.pins }) c.args.place
 gone c =
     let a : Inside = c.self.inside in
-    let b : Inside = record a { occupant_entries = c.let_occupant_go.new.occupant_entries; tables = c.clear.new.self; pool = c.let_pages_go.new.pool; content = c.let_pages_go.new.content; slots = c.void_slot.new.slots; pins = c.end_pins.new.pins } in
+    let b : Inside = record a { occupant_entries = c.let_occupant_go.new.self; tables = c.clear.new.self; pool = c.let_pages_go.new.pool; content = c.let_pages_go.new.content; slots = c.void_slot.new.slots; pins = c.end_pins.new.pins } in
     let here = is_here a c.args.place c.args.self.now c.self.view_is c.self.invariant.sound c.requires in
     let ended = ends_pins (space_of a) c.args.place c.end_pins.new.pool (pins_of c.end_pins.new.pins) c.end_pins.ensures.pins c.end_pins.ensures.pool in
     let slots = c.void_slot.ensures

@@ -33,8 +33,8 @@ pub swap_page-requires : goal.swap_page-requires
 swap_page-requires c = search (rules, is_left, is_page)
 
 ended : (c : goal.After-unpin_page)
-    → (space_of (record c.self.inside { occupant_entries = c.end_leaving.new.occupant_entries; slots = c.set.new.self; pool = c.leave_frame.new.pool; content = c.leave_frame.new.content; tables = c.swap_page.new.tables; pins = c.unpin_page.new.pins }) ≡ sent_off (space_of c.self.inside) c.args.place c.args.page c.args.frame c.args.slot)
-    × IsWell (record c.self.inside { occupant_entries = c.end_leaving.new.occupant_entries; slots = c.set.new.self; pool = c.leave_frame.new.pool; content = c.leave_frame.new.content; tables = c.swap_page.new.tables; pins = c.unpin_page.new.pins })
+    → (space_of (record c.self.inside { occupant_entries = c.end_leaving.new.self; slots = c.set.new.self; pool = c.leave_frame.new.pool; content = c.leave_frame.new.content; tables = c.swap_page.new.tables; pins = c.unpin_page.new.pins }) ≡ sent_off (space_of c.self.inside) c.args.place c.args.page c.args.frame c.args.slot)
+    × IsWell (record c.self.inside { occupant_entries = c.end_leaving.new.self; slots = c.set.new.self; pool = c.leave_frame.new.pool; content = c.leave_frame.new.content; tables = c.swap_page.new.tables; pins = c.unpin_page.new.pins })
 ended c =
     let a : Inside = c.self.inside in
     let s : Space = space_of a in
@@ -42,7 +42,7 @@ ended c =
     let held : get_or a.slots.held c.args.slot [] ≡ frame_bytes s c.args.frame = rw (← c.self.view_is) at c.requires.held in
     let x = is_left s c.args.slot c.args.place c.args.page c.args.frame c.self.invariant.sound out (rw (← c.self.view_is) at c.requires.frame) in
     let many : c.sharers_of-sharers.result ≡ sharers s c.args.frame = c.sharers_of-sharers.ensures ∙ ap (λ (z : Space). sharers z c.args.frame) (sym c.self.view_is) in
-    left_now a (record a { occupant_entries = c.end_leaving.new.occupant_entries; slots = c.set.new.self; pool = c.leave_frame.new.pool; content = c.leave_frame.new.content; tables = c.swap_page.new.tables; pins = c.unpin_page.new.pins }) c.args.slot c.args.place c.args.page c.args.frame x.page c.self.invariant
+    left_now a (record a { occupant_entries = c.end_leaving.new.self; slots = c.set.new.self; pool = c.leave_frame.new.pool; content = c.leave_frame.new.content; tables = c.swap_page.new.tables; pins = c.unpin_page.new.pins }) c.args.slot c.args.place c.args.page c.args.frame x.page c.self.invariant
     out x.at_it x.on held x.entry c.end_leaving.ensures c.set.ensures c.swap_page.ensures.pages c.swap_page.ensures.marks c.swap_page.ensures.limits
     (rw (← many) c.leave_frame.ensures.marks) (rw (← many) c.leave_frame.ensures.pool) c.unpin_page.ensures refl
 

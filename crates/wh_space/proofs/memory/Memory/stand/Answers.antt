@@ -12,7 +12,7 @@ invariant_of-self c =
     let long : length (get_or (space_of a).tables c.args.place []) ≡ length (get_or c.args.self.now.tables c.args.place []) = ap (λ (s : Space). length (get_or s.tables c.args.place [])) c.self.view_is in
     let may : (want : Need) → c.args.need ≡ Some want → (c.requires.there.0.live ≡ true) × (want.at + want.length ≤ 4096 * length (get_or (space_of a).tables c.args.place [])) × (want.length ≤ 4096) =
     λ want e. (c.requires.there.2, rw long (c.requires.within want e), c.requires.few want e) in
-    (stood_well a (record a { occupant_entries = c.stand_at.new.occupant_entries }) c.args.place c.args.need c.requires.there.0 c.self.invariant there may c.stand_at.ensures refl refl refl refl refl refl).0
+    (stood_well a (record a { occupant_entries = c.stand_at.new.self }) c.args.place c.args.need c.requires.there.0 c.self.invariant there may c.stand_at.ensures refl refl refl refl refl refl).0
 
 pub returns : goal.returns
 returns c =
@@ -21,5 +21,5 @@ returns c =
     let long : length (get_or (space_of a).tables c.args.place []) ≡ length (get_or c.args.self.now.tables c.args.place []) = ap (λ (s : Space). length (get_or s.tables c.args.place [])) c.self.view_is in
     let may : (want : Need) → c.args.need ≡ Some want → (c.requires.there.0.live ≡ true) × (want.at + want.length ≤ 4096 * length (get_or (space_of a).tables c.args.place [])) × (want.length ≤ 4096) =
     λ want e. (c.requires.there.2, rw long (c.requires.within want e), c.requires.few want e) in
-    (stood_well a (record a { occupant_entries = c.stand_at.new.occupant_entries }) c.args.place c.args.need c.requires.there.0 c.self.invariant there may c.stand_at.ensures refl refl refl refl refl refl).1
+    (stood_well a (record a { occupant_entries = c.stand_at.new.self }) c.args.place c.args.need c.requires.there.0 c.self.invariant there may c.stand_at.ensures refl refl refl refl refl refl).1
     ∙ ap (λ (s : Space). stood s c.args.place c.args.need) c.self.view_is

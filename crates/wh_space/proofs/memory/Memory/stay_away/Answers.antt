@@ -24,12 +24,12 @@ end_coming-requires c =
 pub put_page-requires-clause-there : goal.put_page-requires-clause-there
 put_page-requires-clause-there c = search (rules, is_awaited, is_page)
 
-ended : (c : goal.After-put_page) → (space_of (record c.self.inside { occupant_entries = c.end_coming.new.occupant_entries; slots = c.set.new.self; pool = c.give.new.self; tables = c.put_page.new.tables }) ≡ not_come (space_of c.self.inside) c.args.place c.args.page c.args.frame c.args.slot)
-    × IsWell (record c.self.inside { occupant_entries = c.end_coming.new.occupant_entries; slots = c.set.new.self; pool = c.give.new.self; tables = c.put_page.new.tables })
+ended : (c : goal.After-put_page) → (space_of (record c.self.inside { occupant_entries = c.end_coming.new.self; slots = c.set.new.self; pool = c.give.new.self; tables = c.put_page.new.tables }) ≡ not_come (space_of c.self.inside) c.args.place c.args.page c.args.frame c.args.slot)
+    × IsWell (record c.self.inside { occupant_entries = c.end_coming.new.self; slots = c.set.new.self; pool = c.give.new.self; tables = c.put_page.new.tables })
 ended c =
     let a : Inside = c.self.inside in
     let is : slice_get a.slots.uses c.args.slot ≡ Some (Fetching c.args.place c.args.page c.args.frame) = rw (← c.self.view_is) at c.requires in
-    stayed_away a (record a { occupant_entries = c.end_coming.new.occupant_entries; slots = c.set.new.self; pool = c.give.new.self; tables = c.put_page.new.tables }) c.args.slot c.args.place c.args.page c.args.frame c.self.invariant
+    stayed_away a (record a { occupant_entries = c.end_coming.new.self; slots = c.set.new.self; pool = c.give.new.self; tables = c.put_page.new.tables }) c.args.slot c.args.place c.args.page c.args.frame c.self.invariant
     (is_sound_not_come (space_of a) c.args.place c.args.page c.args.frame c.args.slot c.self.invariant.sound is) is c.end_coming.ensures c.set.ensures
     c.put_page.ensures.pages c.put_page.ensures.marks c.put_page.ensures.limits c.give.ensures.gives refl refl refl
 

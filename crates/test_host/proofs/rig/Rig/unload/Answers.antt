@@ -1,0 +1,8 @@
+use Rattle.test_host.proofs.Carrying.{carried_on, host_on}
+use Rattle.test_host.proofs.rig.Rig.unload.Goals as goal
+
+pub invariant_of-self : goal.invariant_of-self
+invariant_of-self c = record {
+  stands = host_on c.args.self.now.host c.unload.new.self c.args.self.now.stands (λ w st. let t = c.unload.ensures.unloads w st in (t.1, t.4));
+  carried = carried_on c.args.self.now.host.space c.unload.new.self.space _ _ _ c.unload.ensures.backing.pass c.args.self.now.carried;
+}

@@ -1,6 +1,0 @@
-use Rattle.std.proofs.Common.{◌<◌, ◌≤◌, rules}
-use Rattle.wh_overlay.proofs.Marks.{marks_fewer}
-use Rattle.wh_overlay.proofs.upper.keep_read.Goals as goal
-
-pub push_reserved-requires : goal.push_reserved-requires
-push_reserved-requires c = search (rules, marks_fewer)
