@@ -5,7 +5,8 @@ ARCHIVE is another libwolqedir.a than that which archive.py gives, and WASMHOST 
 It needs gcc, cargo and python3, and ends with the name of the one that is missing. The examples are built, under the sanitizers
 where gcc has them, and have to print what examples/library has, the first also over the library as it is installed; random scripts
 get of the library what they get of wasmhost; each code comes; turns are as the header says; copies come to what their calls come to
-alone; modules go, and their memory with them; a host that is let go gives back all memory; where a request for memory is refused, the host is as it was; and the bindings
+alone; modules go, and their memory with them; a host that is let go gives back all memory; where a request for memory is refused,
+the host is as it was; and the bindings
 keep numbers in their ranges, hosts apart, and threads from one another."""
 import os
 import random

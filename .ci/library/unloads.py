@@ -6,7 +6,7 @@ from refusals import blocks
 from wolqedir import MOST, Host, Refused
 
 # How often a module is loaded and let go, and how many modules a host has at once.
-TIMES, MODULES = 20000, 1024
+TIMES, MODULES = 100000, 1024
 SEEDS, STEPS = 40, 200
 NAMES = ("empty", "seven", "pages", "hosted", "wide")
 
