@@ -276,7 +276,7 @@ PAGES = {
     ),
     "docs/guide/library.md": (
         ["libwolqedir.a", "gcc", "cargo"],
-        [runs, shows_times(3), shows_lines, shows_alike("hello", "warm")],
+        [runs, shows_times(3), shows_lines, shows_alike("hello", "warm"), shows_lines],
     ),
     "docs/guide/many-machines.md": (
         ["wasmhost", "parallel", "xxd", "/tmp/hello.wasm"],

@@ -1,7 +1,8 @@
 /* Figures of the library, by hand: `bench calls MODULE EXPORT ARG IDLE` makes 60000 calls of an instance beside so many idle ones,
  * each by wq_invoke, wq_run and wq_status_of; `bench run MODULE EXPORT COUNT FUEL` lets so many instances compute at once, `bench
  * idle MODULE COUNT` admits so many, and `bench forks MODULE PAGES WORDS COPIES` copies an instance of the tests' module `pages` so
- * often, PAGES of whose pages were written, and then 60000 times, each copy summing WORDS words and being released. Processor
+ * often, PAGES of whose pages were written, and then 60000 times, each copy summing WORDS words and being released; `bench looks
+ * MODULE COUNT` looks so often at 100 bytes of an instance of the tests' module `hosted`, and at how the host is used. Processor
  * time, and what /proc says of memory. */
 #include "wolqedir.h"
 #include <stdio.h>
@@ -175,6 +176,25 @@ static void forks(size_t module, int64_t pages, int64_t words, int copies) {
   printf("a copy, a call of %.1f charges, a release: %.2f us\n", (double)charges / count, each(began, count));
 }
 
+static void looks(size_t module, int count) {
+  int64_t put[2] = {0, 100};
+  uint8_t room[100] = {0};
+  size_t len = 0;
+  wq_report report;
+  wq_instance instance = admit(module);
+  invoke(&instance, "emit", put, 2, 1000000);
+  run();
+  double began = now();
+  for (int at = 0; at < count; at++) must(wq_output_of(&host, &instance, 0, room, sizeof room, &len));
+  printf("100 bytes of output: %.3f us\n", each(began, count));
+  began = now();
+  for (int at = 0; at < count; at++) must(wq_read(&host, &instance, 65436, room, sizeof room));
+  printf("100 bytes of memory: %.3f us\n", each(began, count));
+  began = now();
+  for (int at = 0; at < count; at++) must(wq_report_of(&host, &report));
+  printf("how the host is used: %.3f us\n", each(began, count));
+}
+
 int main(int count, char **words) {
   if (count < 4) return 2;
   must(wq_host_new(&host, 16384, strcmp(words[1], "forks") == 0 ? 1100000 : 65536, 3, 4));
@@ -182,6 +202,7 @@ int main(int count, char **words) {
   if (strcmp(words[1], "calls") == 0 && count == 6) calls(module, words[3], atoll(words[4]), atoi(words[5]));
   if (strcmp(words[1], "run") == 0 && count == 6) together(module, words[3], atoi(words[4]), strtoull(words[5], NULL, 10));
   if (strcmp(words[1], "forks") == 0 && count == 6) forks(module, atoll(words[3]), atoll(words[4]), atoi(words[5]));
+  if (strcmp(words[1], "looks") == 0) looks(module, atoi(words[3]));
   if (strcmp(words[1], "idle") == 0) {
     for (int at = 0; at < atoi(words[3]); at++) admit(module);
     run();

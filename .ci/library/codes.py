@@ -36,7 +36,7 @@ def sentences():
 def codes():
     """All codes that there are, by the header."""
     families = enumerate([0, 13, 11, 3, 2, 9, 8, 10, 3, 4])
-    return [*range(9), *(256 * family + number for family, most in families for number in range(1, most + 1))]
+    return [*range(10), *(256 * family + number for family, most in families for number in range(1, most + 1))]
 
 
 def texts():
@@ -149,6 +149,21 @@ def not_copied(host, wanted, instance, max=32, **quota):
     return found
 
 
+def of_reads():
+    """The codes of bytes that aren't there."""
+    with Host() as host:
+        pages, empty = host.load(pool("pages")), host.load(pool("empty"))
+        a, b = host.admit(pages, max=32), host.admit(empty, max=16)
+        for instance, length in ((a, 65536), (b, 0)):
+            assert host.read(instance, 0, length) == bytes(length) and host.read(instance, length, 0) == b""
+            for address, count in ((0, length + 1), (length, 1), (length + 1, 0), (MOST, 0), (MOST, 1), (MOST - 1, 2**28)):
+                found = code_of(lambda: host.read(instance, address, count))
+                assert found == "9", (address, count, found)
+        host.release(a)
+        assert code_of(lambda: host.read(a, 0, 0)) == "H1"
+    yield found
+
+
 def of_forks():
     """The codes of copies."""
     with Host(frames=6, slots=65536) as host:
@@ -230,4 +245,4 @@ def of_handles():
 
 def met():
     """The codes that come."""
-    return {code for part in (of_modules, of_unloads, of_admissions, of_requests, of_forks, of_traps, of_handles) for code in part()}
+    return {code for part in (of_modules, of_unloads, of_admissions, of_requests, of_reads, of_forks, of_traps, of_handles) for code in part()}

@@ -18,8 +18,12 @@ def raised(act):
 def acts(host, instance):
     """What can be asked of an instance."""
     yield lambda: host.invoke(instance, "f", fuel=MOST)
+    yield lambda: host.invoke_at(instance, 0, fuel=MOST)
     yield lambda: host.fork(instance)
     yield lambda: host.status(instance, 0)
+    yield lambda: host.ended(instance)
+    yield lambda: host.output(instance)
+    yield lambda: host.read(instance, 0, 0)
     yield lambda: host.refuel(instance, 1)
     yield lambda: host.retry(instance)
     yield lambda: host.cancel(instance)

@@ -5,9 +5,9 @@ ARCHIVE is another libwolqedir.a than that which archive.py gives, and WASMHOST 
 It needs gcc, cargo and python3, and ends with the name of the one that is missing. The examples are built, under the sanitizers
 where gcc has them, and have to print what examples/library has, the first also over the library as it is installed; random scripts
 get of the library what they get of wasmhost; each code comes; turns are as the header says; copies come to what their calls come to
-alone; modules go, and their memory with them; a host that is let go gives back all memory; where a request for memory is refused,
-the host is as it was; and the bindings
-keep numbers in their ranges, hosts apart, and threads from one another."""
+alone; modules go, and their memory with them; what is shown of instances while they live is what the second model has; a host that
+is let go gives back all memory; where a request for memory is refused, the host is as it was; and the bindings keep numbers in their
+ranges, hosts apart, and threads from one another."""
 import os
 import random
 import re
@@ -195,6 +195,7 @@ def main(archive=None, program=ROOT + "/crates/wasmhost/out/wasmhost"):
         import codes
         import epochs
         import forks
+        import lives
         import refusals
         import turns
         import unloads
@@ -214,6 +215,8 @@ def main(archive=None, program=ROOT + "/crates/wasmhost/out/wasmhost"):
         print(f"{turns.alike()} runs gave instances their turns of 1000 charges, one after the other")
         print(f"{forks.warm()} copies of a template took frames for what they wrote, and {forks.alone()} calls of others came to the same alone")
         print(f"{unloads.again()} times a module came and went in the memory of the first, and {unloads.among()} went among others")
+        print(f"{lives.exports()} exports are told as the second reading has them, and {lives.outputs()} bytes were shown before they went")
+        print(f"{lives.beside()} bytes of memory were read as the second model has them, {lives.swapped()} pages of it in swap")
         print(f"{epochs.begun()} runs began epochs where the header says")
         lacking = {codes.named(code) for code in codes.codes()} - met - codes.UNMET
         assert not lacking, f"codes that never came: {sorted(lacking)}"

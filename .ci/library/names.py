@@ -18,6 +18,7 @@ STRUCTS = [
     ("RawQuota", "wq_quota", "Quota", "Quota"),
     ("Progress", "wq_progress", "Progress", "Progress"),
     ("RawStatus", "wq_status", "Status", "Told"),
+    ("RawExport", "wq_export", "Export", "RawExport"),
     ("RawReport", "wq_report", "Report", "RawReport"),
     ("RawInstanceReport", "wq_instance_report", "InstanceReport", "RawRow"),
 ]
@@ -203,7 +204,7 @@ def kinds():
 def same():
     """How many exports there are, and how many places of structs. All declare the same."""
     wanted, shapes = exports(), structs()
-    assert len(wanted) == 20 and len(shapes) == len(STRUCTS), (len(wanted), len(shapes))
+    assert len(wanted) == 26 and len(shapes) == len(STRUCTS), (len(wanted), len(shapes))
     for where, found, told in (
         ("bindings/c/wolqedir.h", of_header(), wanted),
         ("bindings/rust/src/sys.rs", of_crate(), wanted),

@@ -74,6 +74,7 @@ def of_admission():
     for at, name in enumerate(("shares", "min", "max", "fuel")):
         yield lambda host, value, name=name: host.admit(0, **{name: value}), "wq_admit", lambda got, at=at: got[2][at], U64, as_is
     yield lambda host, value: host.unload(value), "wq_unload", lambda got: got[1], U64, as_is
+    yield lambda host, value: host.exports(value), "wq_export_count", lambda got: got[1], U64, as_is
     yield lambda host, value: host.admit(value), "wq_admit", lambda got: got[1], U64, as_is
     yield lambda host, value: host.admit(0, salt=value), "wq_admit", lambda got: got[2][4], I64, unsigned(64)
     yield lambda host, value: host.admit(0, base=value), "wq_admit", lambda got: got[2][5], I32, unsigned(32)
@@ -86,7 +87,14 @@ def of_calls():
         yield lambda host, value, name=name: host.fork(it(host), **{name: value}), "wq_fork", lambda got, at=at: got[2][at], U64, as_is
     yield lambda host, value: host.invoke(it(host), "f", [value], fuel=1), "wq_invoke", lambda got: got[4], I64, signed
     yield lambda host, value: host.invoke(it(host), "f", fuel=value), "wq_invoke", lambda got: got[6], U64, as_is
+    yield lambda host, value: host.invoke_at(it(host), 0, [value], fuel=1), "wq_invoke_at", lambda got: got[3], I64, signed
+    yield lambda host, value: host.invoke_at(it(host), value, fuel=1), "wq_invoke_at", lambda got: got[2], U64, as_is
+    yield lambda host, value: host.invoke_at(it(host), 0, fuel=value), "wq_invoke_at", lambda got: got[5], U64, as_is
     yield lambda host, value: host.status(it(host), value), "wq_status_of", lambda got: got[2], U32, as_is
+    yield lambda host, value: host.ended(it(host), value), "wq_ended", lambda got: got[2], U64, as_is
+    yield lambda host, value: host.output(it(host), value), "wq_output_of", lambda got: got[2], U64, as_is
+    yield lambda host, value: host.read(it(host), value, 0), "wq_read", lambda got: got[2], U64, as_is
+    yield lambda host, value: host.read(it(host), 0, value), "wq_read", lambda got: got[4], (0, 2**28), as_is
     yield lambda host, value: host.refuel(it(host), value), "wq_refuel", lambda got: got[2], U64, as_is
     yield lambda _, value: wolqedir.code_text(value), "wq_code_text", lambda got: got[0], U32, as_is
     # A run is made by slices, of which the stand-in takes none.
@@ -98,7 +106,11 @@ def of_instances():
     acts = {
         "wq_fork": lambda host, it: host.fork(it),
         "wq_invoke": lambda host, it: host.invoke(it, "f", fuel=1),
+        "wq_invoke_at": lambda host, it: host.invoke_at(it, 0, fuel=1),
         "wq_status_of": lambda host, it: host.status(it, 0),
+        "wq_ended": lambda host, it: host.ended(it),
+        "wq_output_of": lambda host, it: host.output(it),
+        "wq_read": lambda host, it: host.read(it, 0, 1),
         "wq_refuel": lambda host, it: host.refuel(it, 1),
         "wq_retry": lambda host, it: host.retry(it),
         "wq_cancel": lambda host, it: host.cancel(it),

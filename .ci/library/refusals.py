@@ -16,6 +16,7 @@ WANTS = {
     "admit": {"2", "A9"},
     "fork": {"A9"},
     "invoke": {"2", "H7"},
+    "invoke_at": {"2", "H7"},
     "report": {"2", "H7"},
     "transcript": {"2", "H7"},
 }
@@ -111,6 +112,12 @@ def all_refused():
     watched.tried("epoch", host.epoch)
     watched.tried("report", host.report)
     watched.tried("transcript", lambda: host.transcript(wide))
+    names = [export.name for export in watched.tried("exports", lambda: host.exports(numbers[1]))]
+    watched.tried("invoke_at", lambda: host.invoke_at(wide, names.index("mix"), [1, 2, 3], fuel=MOST))
+    watched.tried("run", lambda: host.run(MOST))
+    watched.tried("ended", lambda: host.ended(wide))
+    watched.tried("output", lambda: host.output(hosted))
+    watched.tried("read", lambda: host.read(pages, 0, 4097))
     watched.instances.remove(hosted)
     assert watched.tried("release", lambda: host.release(hosted)) == bytes([7, 0, 0, 0, 0, 0, 0, 0])
     watched.tried("unload", lambda: host.unload(numbers[0]))

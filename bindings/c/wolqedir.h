@@ -26,14 +26,14 @@
  * handler, nor in the child of a fork of a process with threads.
  *
  * Memory. malloc and realloc align blocks to 16 bytes, and may answer NULL: the call then answers a code, and the host is as
- * it was. wq_run, wq_scan, wq_epoch, wq_status_of, wq_taken, wq_refuel, wq_retry, wq_cancel, wq_release and wq_unload take no
- * memory. A host takes room for all its frames and slots when it is made. Of that 63 bytes a frame and 20 a slot are memory at
- * once; 4096 more of each are addresses until it is first used.
+ * it was. wq_run, wq_scan, wq_epoch, wq_status_of, wq_ended, wq_output_of, wq_taken, wq_read, wq_report_of, wq_export_count,
+ * wq_export_at, wq_refuel, wq_retry, wq_cancel, wq_release and wq_unload take no memory. A host takes room for all its frames and
+ * slots when it is made. Of that 63 bytes a frame and 20 a slot are memory at once; 4096 more of each are addresses until it is
+ * first used.
  *
  * Life. A host has 1024 modules at once (M1), and 4096 instances (A6). An instance has 65535 calls beside its start (H6), 1024 of
- * them open at once (H4); each takes 100 to 260 bytes until the instance is released. It puts out 65536 bytes at most (T9), which
- * wq_taken has when it is released, and not before. A copy counts the calls and the bytes that it was copied with. None can go to
- * another host.
+ * them open at once (H4); each takes 100 to 260 bytes until the instance is released. It puts out 65536 bytes at most (T9). A
+ * copy counts the calls and the bytes that it was copied with. None can go to another host.
  */
 #ifndef WOLQEDIR_H
 #define WOLQEDIR_H
@@ -51,7 +51,7 @@ extern "C" {
 typedef struct wq_host { uint32_t full; void *at; } wq_host;
 #define WQ_HOST_NONE {0, NULL}
 
-/* 0; or one of the first nine; or a family, and in the low byte the number that scripts show behind the family's letter, as
+/* 0; or one of the first ten; or a family, and in the low byte the number that scripts show behind the family's letter, as
  * docs/guide/script.md lists them. */
 typedef uint32_t wq_code;
 #define WQ_DONE    0u      /* it was done */
@@ -60,9 +60,10 @@ typedef uint32_t wq_code;
 #define WQ_FULL    3u      /* the handle holds a host already */
 #define WQ_TAX     4u      /* the tax isn't a fraction below one with a denominator of 1 to 1000 */
 #define WQ_NAME    5u      /* the name isn't UTF-8 */
-#define WQ_UNKNOWN 6u      /* no such instance or call; of wq_code_text, no such code */
+#define WQ_UNKNOWN 6u      /* no such instance or call; of exports, no such module or place; of wq_code_text, no such code */
 #define WQ_LARGE   7u      /* frames and slots are 2^32 together or more: no scan */
 #define WQ_IN_USE  8u      /* an instance of the module is there */
+#define WQ_OUTSIDE 9u      /* the memory has fewer bytes */
 #define WQ_D       0x100u  /* D1 to D13: the bytes aren't a module, or pass a limit of the format */
 #define WQ_V       0x200u  /* V1 to V11: the module isn't valid, or passes a limit of the validator */
 #define WQ_L       0x300u  /* L1 to L3: an import that the host doesn't offer */
@@ -114,6 +115,12 @@ typedef struct wq_status {
   uint64_t charges;   /* how many the call has taken */
 } wq_status;
 
+typedef struct wq_export {
+  size_t name_len;    /* bytes of its name */
+  size_t params;      /* how many parameters */
+  size_t results;     /* how many results: 1 or 0 */
+} wq_export;
+
 typedef struct wq_report {
   uint32_t frames, used_frames;  /* of 4096 bytes: all, and those in use */
   uint32_t slots, used_slots;    /* for swapped pages: all, and those in use */
@@ -146,6 +153,15 @@ wq_code wq_load(wq_host *host, const uint8_t *bytes, size_t len, size_t *module)
  * no module has the number; WQ_IN_USE. */
 wq_code wq_unload(wq_host *host, size_t module);
 
+/* How many functions a module exports. WQ_UNKNOWN where no module has the number. */
+wq_code wq_export_count(wq_host *host, size_t module, size_t *count);
+
+/* The function at a place, from 0 on, of those that a module exports, in the module's order. Of its name, which is UTF-8 without a
+ * NUL at its end, as many bytes as there is room for; and of the bits of its parameters and then of its results, 32 or 64 each.
+ * WQ_UNKNOWN where there is no such module or place. */
+wq_code wq_export_at(wq_host *host, size_t module, size_t at, wq_export *found, uint8_t *name, size_t cap, uint8_t *types,
+                     size_t types_cap);
+
 /* Admits an instance of a module, with the n words of its input. Its start runs by wq_run, before its calls. WQ_MEMORY, A. */
 wq_code wq_admit(wq_host *host, size_t module, const wq_params *params, const uint64_t *inputs, size_t n,
                  wq_instance *instance);
@@ -164,12 +180,21 @@ wq_code wq_fork(wq_host *host, const wq_instance *of, const wq_quota *quota, wq_
 wq_code wq_invoke(wq_host *host, const wq_instance *instance, const uint8_t *name, size_t len, const int64_t *args, size_t n,
                   uint64_t fuel, uint32_t *call);
 
+/* The same of the function at a place, from 0 on, of those that the instance's module exports: by the name that wq_export_at tells.
+ * WQ_MEMORY, H1 to H7; H2 where there is no such place. */
+wq_code wq_invoke_at(wq_host *host, const wq_instance *instance, size_t at, const int64_t *args, size_t n, uint64_t fuel,
+                     uint32_t *call);
+
 /* Lets all calls of all instances go on by turns, until none can or they have taken so many charges together. Each instance
  * has a turn of 1000 charges at most before the next one has. Nothing ends it before: give long runs in slices. */
 wq_code wq_run(wq_host *host, uint64_t charges, wq_progress *progress);
 
 /* How far a call is. WQ_UNKNOWN. */
 wq_code wq_status_of(wq_host *host, const wq_instance *instance, uint32_t call, wq_status *status);
+
+/* The statuses of the calls of an instance that have ended, from a place among its calls on, each as wq_status_of tells it: as many
+ * as there is room for. *count is how many have ended from that place on. H1. */
+wq_code wq_ended(wq_host *host, const wq_instance *instance, size_t from, wq_status *room, size_t cap, size_t *count);
 
 /* Gives the present call so much more fuel. H1; H8 where no call is open. */
 wq_code wq_refuel(wq_host *host, const wq_instance *instance, uint64_t fuel);
@@ -186,6 +211,14 @@ wq_code wq_release(wq_host *host, const wq_instance *instance, size_t *len);
 /* The bytes that the instance had put out that was released last; none before the first release. */
 wq_code wq_taken(wq_host *host, uint8_t *room, size_t cap, size_t *len);
 
+/* What an instance has put out so far, from the byte at a place on: as many bytes as there is room for. *len is how many bytes it
+ * has put out in all. They are what its calls give, and what wq_release would keep. H1. */
+wq_code wq_output_of(wq_host *host, const wq_instance *instance, size_t from, uint8_t *room, size_t cap, size_t *len);
+
+/* The bytes of an instance's memory from an address on, as many as the room has, as the instance sees them between two of its
+ * turns. Nothing changes: a page in swap stays there. H1; WQ_OUTSIDE. */
+wq_code wq_read(wq_host *host, const wq_instance *instance, uint64_t address, uint8_t *room, size_t cap);
+
 /* Merges equal pages of all instances. No instance and no call sees it. It looks at all pages. WQ_LARGE. */
 wq_code wq_scan(wq_host *host);
 
@@ -193,10 +226,10 @@ wq_code wq_scan(wq_host *host);
  * first time, and then where runs took a million charges since it last did; once at most. So run by slices of a million. */
 wq_code wq_epoch(wq_host *host);
 
-/* How the frames, slots and pages of the host are used. It goes over all frames and all pages. H7. */
+/* How the frames, slots and pages of the host are used, in the same time however large it is. */
 wq_code wq_report_of(wq_host *host, wq_report *report);
 
-/* The same of each instance, by number; *len is how many there are. WQ_MEMORY, H7. */
+/* What each instance has of them, by number; *len is how many there are. WQ_MEMORY, H7. */
 wq_code wq_instance_reports(wq_host *host, wq_instance_report *room, size_t cap, size_t *len);
 
 /* The calls of an instance in the order of their coming, the first of which is the start, as words. Of each: the index of its

@@ -8,8 +8,7 @@ ctypes. WOLQEDIR_SO names the shared library, which docs/guide/library.md says h
         host.run(1000000)
         print(host.status(instance, call))
 
-A host has 1024 modules at once; an instance has 65535 calls beside its start, and puts out 65536 bytes at most, which come when it
-is released.
+A host has 1024 modules at once; an instance has 65535 calls beside its start, and puts out 65536 bytes at most.
 
 What the library refuses raises Refused, with the code and its sentence. A number beyond its range raises OverflowError, what is no
 integer TypeError, an instance of another host ValueError; the library isn't asked then. The host is as it was at each of these."""
@@ -29,6 +28,8 @@ KINDS = {1: "waiting", 2: "going", 3: "fuel", 4: "frame", 5: "device", 6: "retur
 FAMILIES = " DVLMAHTSF"
 MOST = 2**64 - 1
 SLICE = 1000000
+# Bytes of the largest memory: 65536 frames of 4096.
+LARGEST = 2**28
 SERIALS = itertools.count()
 
 
@@ -91,6 +92,10 @@ class Told(Structure):
     _fields_ = [("kind", c_uint32), ("code", c_uint32), ("bits", c_uint32), ("value", c_uint64), ("charges", c_uint64)]
 
 
+class RawExport(Structure):
+    _fields_ = [(name, c_size_t) for name in ("name_len", "params", "results")]
+
+
 class RawReport(Structure):
     _fields_ = [(name, c_uint32) for name in ("frames", "used_frames", "slots", "used_slots", "shared_frames")]
     _fields_ += [("tax_num", c_uint32), ("tax_den", c_uint32), ("sharers", c_uint64), ("instances", c_size_t)]
@@ -109,6 +114,15 @@ class Status(NamedTuple):
     value: Optional[int]
     charges: int
     fault: Optional[str]
+
+
+class Export(NamedTuple):
+    """A function that a module exports: its name, and the types of its parameters and of its result, i32 or i64; None without
+    one."""
+
+    name: str
+    params: list
+    result: Optional[str]
 
 
 class Ran(NamedTuple):
@@ -177,16 +191,22 @@ EXPORTS = {
     "wq_host_free": [HOST],
     "wq_load": [HOST, BYTES, c_size_t, LENGTH],
     "wq_unload": [HOST, c_size_t],
+    "wq_export_count": [HOST, c_size_t, LENGTH],
+    "wq_export_at": [HOST, c_size_t, c_size_t, POINTER(RawExport), BYTES, c_size_t, BYTES, c_size_t],
     "wq_admit": [HOST, c_size_t, POINTER(Params), POINTER(c_uint64), c_size_t, IT],
     "wq_fork": [HOST, IT, POINTER(Quota), IT],
     "wq_invoke": [HOST, IT, BYTES, c_size_t, POINTER(c_int64), c_size_t, c_uint64, POINTER(c_uint32)],
+    "wq_invoke_at": [HOST, IT, c_size_t, POINTER(c_int64), c_size_t, c_uint64, POINTER(c_uint32)],
     "wq_run": [HOST, c_uint64, POINTER(Progress)],
     "wq_status_of": [HOST, IT, c_uint32, POINTER(Told)],
+    "wq_ended": [HOST, IT, c_size_t, POINTER(Told), c_size_t, LENGTH],
     "wq_refuel": [HOST, IT, c_uint64],
     "wq_retry": [HOST, IT],
     "wq_cancel": [HOST, IT],
     "wq_release": [HOST, IT, LENGTH],
     "wq_taken": [HOST, BYTES, c_size_t, LENGTH],
+    "wq_output_of": [HOST, IT, c_size_t, BYTES, c_size_t, LENGTH],
+    "wq_read": [HOST, IT, c_uint64, BYTES, c_size_t],
     "wq_scan": [HOST],
     "wq_epoch": [HOST],
     "wq_report_of": [HOST, POINTER(RawReport)],
@@ -249,6 +269,12 @@ def reported(row, serial):
     """What a row says of an instance of the host with this serial."""
     instance = Instance(serial, row.instance.place, row.instance.number)
     return InstanceReport(instance, row.shares, row.min, row.max, row.charged, row.active, row.swapped)
+
+
+def status_of(told):
+    """How far a call is, of which the library tells this."""
+    value = signed(told.value, told.bits) if told.bits else None
+    return Status(KINDS[told.kind], value, told.charges, fault_of(told.code))
 
 
 def code_text(code):
@@ -330,6 +356,23 @@ class Host:
         must(lib.wq_unload(self.handle, u64("module", module)))
 
     @alone
+    def exports(self, module):
+        """The functions that the module of this number exports, 0 to 2^64 - 1, in its order."""
+        module, count = u64("module", module), c_size_t()
+        must(lib.wq_export_count(self.handle, module, byref(count)))
+        return [self.export_at(module, at) for at in range(count.value)]
+
+    def export_at(self, module, at):
+        """The function at this place of those."""
+        found, no = RawExport(), array(c_uint8, [])
+        must(lib.wq_export_at(self.handle, module, at, found, no, 0, no, 0))
+        cap, most = found.name_len, found.params + found.results
+        name, types = (c_uint8 * max(cap, 1))(), (c_uint8 * max(most, 1))()
+        must(lib.wq_export_at(self.handle, module, at, found, name, cap, types, most))
+        kinds = [f"i{bits}" for bits in types[:most]]
+        return Export(bytes(name[:cap]).decode(), kinds[: found.params], kinds[found.params] if found.results else None)
+
+    @alone
     def admit(self, module, shares=100, min=2, max=64, fuel=0, salt=0, base=0, inputs=()):
         """Admits an instance of a module. `fuel` is for its start. The module's number, `shares`, `min`, `max` and `fuel` are 0 to
         2^64 - 1; `salt` and each input -2^63 to 2^64 - 1, `base` -2^31 to 2^32 - 1, in the bits of their types, signed or not."""
@@ -359,6 +402,14 @@ class Host:
         must(lib.wq_invoke(self.handle, self.named(instance), room, length, *given, byref(call)))
         return call.value
 
+    @alone
+    def invoke_at(self, instance, at, args=(), *, fuel):
+        """Asks for a call as `invoke` does, of the function at this place of those that `exports` tells, 0 to 2^64 - 1."""
+        words, call = [signed(word("an argument", arg), 64) for arg in args], c_uint32()
+        given = array(c_int64, words), len(words), u64("fuel", fuel)
+        must(lib.wq_invoke_at(self.handle, self.named(instance), u64("at", at), *given, byref(call)))
+        return call.value
+
     def run(self, charges):
         """Lets all calls go on, until none can or they have taken so many charges together, 0 to 2^64 - 1. It does so by slices of
         1000000, between which signals are handled, as the keyboard's, and other threads have their calls. Each slice that begins
@@ -379,8 +430,31 @@ class Host:
         """How far a call is, which is 0 to 2^32 - 1."""
         told = Told()
         must(lib.wq_status_of(self.handle, self.named(instance), u32("call", call), told))
-        value = signed(told.value, told.bits) if told.bits else None
-        return Status(KINDS[told.kind], value, told.charges, fault_of(told.code))
+        return status_of(told)
+
+    @alone
+    def ended(self, instance, since=0):
+        """How the calls of an instance have ended, from this place among its calls on, 0 to 2^64 - 1, each as `status` tells it."""
+        raw, since = self.named(instance), u64("since", since)
+        return [status_of(told) for told in laid(lambda room, cap, into: lib.wq_ended(self.handle, raw, since, room, cap, into), Told)]
+
+    @alone
+    def output(self, instance, since=0):
+        """What an instance has put out so far, from the byte at this place on, 0 to 2^64 - 1: what `release` would give now."""
+        raw, since, length = self.named(instance), u64("since", since), c_size_t()
+        must(lib.wq_output_of(self.handle, raw, since, array(c_uint8, []), 0, byref(length)))
+        room = (c_uint8 * max(length.value - since, 1))()
+        must(lib.wq_output_of(self.handle, raw, since, room, len(room), byref(length)))
+        return bytes(room[: max(length.value - since, 0)])
+
+    @alone
+    def read(self, instance, address, length):
+        """The bytes of an instance's memory from this address on, 0 to 2^64 - 1, as it sees them between two of its turns: so many,
+        0 to 2^28, which is the most that a memory has. A page in swap stays there."""
+        raw, address, length = self.named(instance), u64("address", address), within("length", length, 0, LARGEST)
+        room = (c_uint8 * max(length, 1))()
+        must(lib.wq_read(self.handle, raw, address, room, length))
+        return ctypes.string_at(room, length)
 
     @alone
     def refuel(self, instance, fuel):

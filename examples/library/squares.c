@@ -1,4 +1,5 @@
-/* A table of squares: `warm` makes it, and `take` reads an entry and clears it. squares.wasm is made of it by
+/* A table of squares: `warm` makes it, and `take` reads an entry and clears it. It lies from address 1024 on. squares.wasm
+ * is made of it by
  *
  *     clang --target=wasm32 -mcpu=mvp -O2 -ffreestanding -c examples/library/squares.c -o /tmp/squares.o
  *     wasm-ld --no-entry --strip-all -z stack-size=8192 /tmp/squares.o -o examples/library/squares.wasm

@@ -73,6 +73,7 @@ int main(int count, char **words) {
   wq_quota quota = {.shares = 100, .min = 2, .max = 16};
   wq_instance template = {0, 0}, copies[COPIES] = {{0, 0}};
   size_t len = 0;
+  uint32_t square = 0;
   must("new", wq_host_new(&host, 1024, 4096, 3, 4));
   size_t squares = load(count > 1 ? words[1] : "examples/library/squares.wasm");
   must("admit", wq_admit(&host, squares, &params, none, 0, &template));
@@ -80,6 +81,8 @@ int main(int count, char **words) {
   tell(stdout, "too early", wq_fork(&host, &template, &quota, &copies[0]));
   run();
   frames("warm");
+  must("read", wq_read(&host, &template, 1072, (uint8_t *)&square, 4));
+  printf("seen: %u\n", square);
   for (int at = 0; at < COPIES; at++) must("fork", wq_fork(&host, &template, &quota, &copies[at]));
   frames("copied");
   printf("taken:");

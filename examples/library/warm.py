@@ -30,6 +30,8 @@ def main(path="examples/library/squares.wasm"):
             print("too early:", code_text(refused.code))
         host.run(1000000)
         frames(host, "warm")
+        square = host.read(template, 1072, 4)
+        print("seen:", int.from_bytes(square, "little"))
         copies = [host.fork(template, max=16) for _ in range(3)]
         frames(host, "copied")
         print("taken:", *(take(host, copy, 12) for copy in copies))

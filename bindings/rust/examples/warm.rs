@@ -30,6 +30,9 @@ fn main() -> Result<(), Box<dyn std::error::Error>> {
     }
     host.run(1_000_000);
     frames(&mut host, "warm")?;
+    let mut square = [0; 4];
+    host.read(template, 1072, &mut square)?;
+    println!("seen: {}", u32::from_le_bytes(square));
     let mut copies = Vec::new();
     for _ in 0..3 {
         copies.push(host.fork(template, quota)?);

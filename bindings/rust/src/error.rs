@@ -11,7 +11,7 @@ pub enum Error {
     Memory,
     /// The tax isn't a fraction below one with a denominator of 1 to 1000.
     Tax,
-    /// There is no such instance, or no such call of it.
+    /// There is no such instance, no such call of it, or no such module or place of its exports.
     Unknown,
     /// The instance or the module is of another host. This crate says so, and asks nothing of the library.
     OtherHost,
@@ -19,6 +19,8 @@ pub enum Error {
     Large,
     /// An instance of the module is there.
     InUse,
+    /// The instance's memory has fewer bytes.
+    Outside,
     /// D: the bytes aren't a module.
     Decode(u8),
     /// V: the module isn't valid.
@@ -46,6 +48,7 @@ impl Error {
             Error::Unknown | Error::OtherHost => 6,
             Error::Large => 7,
             Error::InUse => 8,
+            Error::Outside => 9,
             Error::Decode(number) => 0x100 + u32::from(number),
             Error::Valid(number) => 0x200 + u32::from(number),
             Error::Link(number) => 0x300 + u32::from(number),
@@ -68,6 +71,7 @@ pub(crate) fn answer(code: u32) -> Result<(), Error> {
         (0, 6) => Error::Unknown,
         (0, 7) => Error::Large,
         (0, 8) => Error::InUse,
+        (0, 9) => Error::Outside,
         (1, _) => Error::Decode(number),
         (2, _) => Error::Valid(number),
         (3, _) => Error::Link(number),

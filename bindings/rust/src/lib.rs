@@ -3,8 +3,7 @@
 //! Safe words for the library `wolqedir`, whose exports are proved (`docs/guide/library.md`); this crate isn't. Set
 //! `WOLQEDIR_LIB` to a folder with `libwolqedir.a` and `liblibc_c.a`; they want Linux and a processor of x86-64-v2.
 //!
-//! A host has 1024 modules at once; an instance has 65535 calls beside its start, and puts out 65536 bytes at most, which come when
-//! it is released.
+//! A host has 1024 modules at once; an instance has 65535 calls beside its start, and puts out 65536 bytes at most.
 mod error;
 mod sys;
 
@@ -122,6 +121,46 @@ pub enum State {
 pub struct Status {
     pub state: State,
     pub charges: u64,
+}
+
+impl Status {
+    /// What the library tells.
+    fn read(status: sys::Status) -> Status {
+        let state = match status.kind {
+            1 => State::Waiting,
+            2 => State::Going,
+            3 => State::Fuel,
+            4 => State::Frame,
+            5 => State::Device(status.code),
+            6 => State::Returned(match status.bits {
+                32 => Some(Value::I32(status.value as u32)),
+                64 => Some(Value::I64(status.value)),
+                _ => None,
+            }),
+            7 => State::Trapped(status.code),
+            8 => State::Cancelled,
+            _ => State::Dead,
+        };
+        Status { state, charges: status.charges }
+    }
+}
+
+/// The type of a parameter or a result.
+#[derive(Clone, Copy, Debug, PartialEq, Eq)]
+pub enum Type {
+    I32,
+    I64,
+}
+
+/// A function that a module exports.
+#[derive(Clone, Debug, PartialEq, Eq)]
+pub struct Export {
+    /// Its name.
+    pub name: String,
+    /// The types of its parameters, in order.
+    pub params: Vec<Type>,
+    /// The type of its result, if it has one.
+    pub result: Option<Type>,
 }
 
 /// What a run came to.
@@ -282,6 +321,38 @@ impl Host {
         answer(unsafe { sys::wq_unload(&mut self.handle, module.number) })
     }
 
+    /// The functions that a module exports, in its order.
+    ///
+    /// # Errors
+    /// `OtherHost`; `Unknown` if it is gone.
+    pub fn exports(&mut self, module: Module) -> Result<Vec<Export>, Error> {
+        if module.host != self.serial {
+            return Err(Error::OtherHost);
+        }
+        let mut count = 0;
+        // SAFETY: as in `load`.
+        answer(unsafe { sys::wq_export_count(&mut self.handle, module.number, &mut count) })?;
+        (0..count).map(|at| self.export_at(module, at)).collect()
+    }
+
+    /// The function at this place of those that a module of this host exports.
+    fn export_at(&mut self, module: Module, at: usize) -> Result<Export, Error> {
+        let (mut name, mut types, mut found) = (Vec::new(), Vec::new(), sys::Export::default());
+        loop {
+            let (text, cap, bits, most) = (name.as_mut_ptr(), name.len(), types.as_mut_ptr(), types.len());
+            // SAFETY: as in `load`; the rooms are initialised up to their lengths.
+            answer(unsafe { sys::wq_export_at(&mut self.handle, module.number, at, &mut found, text, cap, bits, most) })?;
+            let wanted = (found.name_len, found.params + found.results);
+            if wanted == (cap, most) {
+                break;
+            }
+            (name, types) = (vec![0; wanted.0], vec![0; wanted.1]);
+        }
+        let mut types: Vec<Type> = types.iter().map(|bits: &u8| if *bits == 64 { Type::I64 } else { Type::I32 }).collect();
+        let result = types.split_off(found.params).first().copied();
+        Ok(Export { name: String::from_utf8_lossy(&name).into_owned(), params: types, result })
+    }
+
     /// Admits an instance of a module.
     ///
     /// # Errors
@@ -334,6 +405,18 @@ impl Host {
         Ok(call)
     }
 
+    /// Asks for a call as `invoke` does, of the function at this place of those that `exports` tells.
+    ///
+    /// # Errors
+    /// `OtherHost`; `Ask`: `Ask(2)` where there is no such place; `Memory`.
+    pub fn invoke_at(&mut self, instance: Instance, at: usize, args: &[i64], fuel: u64) -> Result<u32, Error> {
+        let (instance, mut call) = (self.named(instance)?, 0);
+        let (words, n) = (args.as_ptr(), args.len());
+        // SAFETY: as in `load`.
+        answer(unsafe { sys::wq_invoke_at(&mut self.handle, &instance, at, words, n, fuel, &mut call) })?;
+        Ok(call)
+    }
+
     /// Lets all calls go on, until none can or they have taken so many charges together. Nothing ends it before: give long runs
     /// in slices of a million, at the beginning of which epochs begin.
     pub fn run(&mut self, charges: u64) -> Progress {
@@ -351,22 +434,25 @@ impl Host {
         let (instance, mut status) = (self.named(instance)?, sys::Status::default());
         // SAFETY: as in `load`.
         answer(unsafe { sys::wq_status_of(&mut self.handle, &instance, call, &mut status) })?;
-        let state = match status.kind {
-            1 => State::Waiting,
-            2 => State::Going,
-            3 => State::Fuel,
-            4 => State::Frame,
-            5 => State::Device(status.code),
-            6 => State::Returned(match status.bits {
-                32 => Some(Value::I32(status.value as u32)),
-                64 => Some(Value::I64(status.value)),
-                _ => None,
-            }),
-            7 => State::Trapped(status.code),
-            8 => State::Cancelled,
-            _ => State::Dead,
-        };
-        Ok(Status { state, charges: status.charges })
+        Ok(Status::read(status))
+    }
+
+    /// How the calls of an instance have ended, from this place among its calls on, each as `status` tells it.
+    ///
+    /// # Errors
+    /// `OtherHost`; `Ask`.
+    pub fn ended(&mut self, instance: Instance, from: usize) -> Result<Vec<Status>, Error> {
+        let (instance, mut room) = (self.named(instance)?, Vec::new());
+        loop {
+            let (cap, mut count) = (room.len(), 0);
+            // SAFETY: as in `load`; the room is initialised up to its length.
+            answer(unsafe { sys::wq_ended(&mut self.handle, &instance, from, room.as_mut_ptr(), cap, &mut count) })?;
+            if count <= cap {
+                room.truncate(count);
+                return Ok(room.into_iter().map(Status::read).collect());
+            }
+            room.resize(count, sys::Status::default());
+        }
     }
 
     /// Gives the present call of an instance so much more fuel.
@@ -411,6 +497,36 @@ impl Host {
         // SAFETY: as in `load`.
         answer(unsafe { sys::wq_taken(&mut self.handle, output.as_mut_ptr(), output.len(), &mut len) })?;
         Ok(output)
+    }
+
+    /// What an instance has put out so far, from the byte at this place on: what `release` would give now.
+    ///
+    /// # Errors
+    /// `OtherHost`; `Ask`.
+    pub fn output(&mut self, instance: Instance, from: usize) -> Result<Vec<u8>, Error> {
+        let (instance, mut room) = (self.named(instance)?, Vec::new());
+        loop {
+            let (cap, mut len) = (room.len(), 0);
+            // SAFETY: as in `load`; the room is initialised up to its length.
+            answer(unsafe { sys::wq_output_of(&mut self.handle, &instance, from, room.as_mut_ptr(), cap, &mut len) })?;
+            let left = len.saturating_sub(from);
+            if left <= cap {
+                room.truncate(left);
+                return Ok(room);
+            }
+            room.resize(left, 0);
+        }
+    }
+
+    /// Reads bytes of an instance's memory, from this address on, as it sees them between two of its turns: as many as the room
+    /// has. A page in swap stays there.
+    ///
+    /// # Errors
+    /// `OtherHost`; `Ask`; `Outside`. The room is as it was then.
+    pub fn read(&mut self, instance: Instance, address: u64, room: &mut [u8]) -> Result<(), Error> {
+        let instance = self.named(instance)?;
+        // SAFETY: as in `load`.
+        answer(unsafe { sys::wq_read(&mut self.handle, &instance, address, room.as_mut_ptr(), room.len()) })
     }
 
     /// Merges equal pages. No instance sees it.

@@ -78,11 +78,30 @@ pub struct InstanceReport {
     pub swapped: u32,
 }
 
+#[repr(C)]
+#[derive(Clone, Copy, Default)]
+pub struct Export {
+    pub name_len: usize,
+    pub params: usize,
+    pub results: usize,
+}
+
 extern "C" {
     pub fn wq_host_new(host: *mut Handle, frames: u32, slots: u32, tax_num: u32, tax_den: u32) -> u32;
     pub fn wq_host_free(host: *mut Handle);
     pub fn wq_load(host: *mut Handle, bytes: *const u8, len: usize, module: *mut usize) -> u32;
     pub fn wq_unload(host: *mut Handle, module: usize) -> u32;
+    pub fn wq_export_count(host: *mut Handle, module: usize, count: *mut usize) -> u32;
+    pub fn wq_export_at(
+        host: *mut Handle,
+        module: usize,
+        at: usize,
+        found: *mut Export,
+        name: *mut u8,
+        cap: usize,
+        types: *mut u8,
+        types_cap: usize,
+    ) -> u32;
     pub fn wq_admit(
         host: *mut Handle,
         module: usize,
@@ -107,13 +126,45 @@ extern "C" {
         fuel: u64,
         call: *mut u32,
     ) -> u32;
+    pub fn wq_invoke_at(
+        host: *mut Handle,
+        instance: *const Instance,
+        at: usize,
+        args: *const i64,
+        n: usize,
+        fuel: u64,
+        call: *mut u32,
+    ) -> u32;
     pub fn wq_run(host: *mut Handle, charges: u64, progress: *mut Progress) -> u32;
     pub fn wq_status_of(host: *mut Handle, instance: *const Instance, call: u32, status: *mut Status) -> u32;
+    pub fn wq_ended(
+        host: *mut Handle,
+        instance: *const Instance,
+        from: usize,
+        room: *mut Status,
+        cap: usize,
+        count: *mut usize,
+    ) -> u32;
     pub fn wq_refuel(host: *mut Handle, instance: *const Instance, fuel: u64) -> u32;
     pub fn wq_retry(host: *mut Handle, instance: *const Instance) -> u32;
     pub fn wq_cancel(host: *mut Handle, instance: *const Instance) -> u32;
     pub fn wq_release(host: *mut Handle, instance: *const Instance, len: *mut usize) -> u32;
     pub fn wq_taken(host: *mut Handle, room: *mut u8, cap: usize, len: *mut usize) -> u32;
+    pub fn wq_output_of(
+        host: *mut Handle,
+        instance: *const Instance,
+        from: usize,
+        room: *mut u8,
+        cap: usize,
+        len: *mut usize,
+    ) -> u32;
+    pub fn wq_read(
+        host: *mut Handle,
+        instance: *const Instance,
+        address: u64,
+        room: *mut u8,
+        cap: usize,
+    ) -> u32;
     pub fn wq_scan(host: *mut Handle) -> u32;
     pub fn wq_epoch(host: *mut Handle) -> u32;
     pub fn wq_report_of(host: *mut Handle, report: *mut Report) -> u32;

@@ -1,6 +1,7 @@
-//! Two hosts of one process: what is of one is refused by the other, which stays as it was; copies, and modules that go.
+//! Two hosts of one process: what is of one is refused by the other, which stays as it was; copies, what is seen of an instance,
+//! and modules that go.
 use std::collections::HashSet;
-use wolqedir::{Error, Host, Instance, Module, Params, Quota, Settings, State};
+use wolqedir::{Error, Host, Instance, Module, Params, Quota, Settings, State, Type};
 
 const PARAMS: Params<'_> = Params { shares: 100, min: 2, max: 16, fuel: 100, salt: 0, base: 0, inputs: &[40, 2] };
 
@@ -23,7 +24,11 @@ fn an_instance_of_another_host_is_refused() -> Result<(), Error> {
     let before = other.report()?;
     assert_eq!(other.invoke(mine, "run", &[], 1000), Err(Error::OtherHost));
     assert_eq!(other.fork(mine, QUOTA), Err(Error::OtherHost));
+    assert_eq!(other.invoke_at(mine, 0, &[], 1000), Err(Error::OtherHost));
     assert_eq!(other.status(mine, 0), Err(Error::OtherHost));
+    assert_eq!(other.ended(mine, 0), Err(Error::OtherHost));
+    assert_eq!(other.output(mine, 0), Err(Error::OtherHost));
+    assert_eq!(other.read(mine, 0, &mut []), Err(Error::OtherHost));
     assert_eq!(other.refuel(mine, 1), Err(Error::OtherHost));
     assert_eq!(other.retry(mine), Err(Error::OtherHost));
     assert_eq!(other.cancel(mine), Err(Error::OtherHost));
@@ -45,6 +50,7 @@ fn a_module_of_another_host_is_refused() -> Result<(), Error> {
     let (_, module, _) = hosted()?;
     let (mut other, _, _) = hosted()?;
     assert_eq!(other.admit(module, PARAMS), Err(Error::OtherHost));
+    assert_eq!(other.exports(module), Err(Error::OtherHost));
     assert_eq!(other.unload(module), Err(Error::OtherHost));
     assert_eq!(other.report()?.instances.len(), 1);
     Ok(())
@@ -84,6 +90,43 @@ fn a_copy_has_the_calls_and_the_output_of_its_template() -> Result<(), Error> {
     assert_eq!(host.release(copy)?, host.release(template)?);
     assert_eq!(host.fork(template, QUOTA), Err(Error::Ask(1)));
     assert_eq!(Error::Fork(4).code(), 0x904);
+    Ok(())
+}
+
+#[test]
+fn an_instance_is_seen_while_it_lives() -> Result<(), Error> {
+    let (mut host, module, instance) = hosted()?;
+    let exports = host.exports(module)?;
+    let at = exports.iter().position(|export| export.name == "run").expect("it exports run");
+    assert_eq!((exports[at].params.as_slice(), exports[at].result), ([].as_slice(), Some(Type::I32)));
+    assert_eq!(host.invoke_at(instance, exports.len(), &[], 1000), Err(Error::Ask(2)));
+    let call = host.invoke_at(instance, at, &[], 1000)?;
+    assert_eq!((host.ended(instance, 0)?.len(), host.output(instance, 0)?.len()), (0, 0));
+    host.run(1000);
+    let ended = host.ended(instance, 0)?;
+    assert_eq!(ended, [host.status(instance, 0)?, host.status(instance, call)?]);
+    assert_eq!((host.ended(instance, 1)?, host.ended(instance, 3)?), (ended[1..].to_vec(), vec![]));
+    // A word of 42, and a line.
+    let output = [&[42, 0, 0, 0, 0, 0, 0, 0], "hello\n".as_bytes()].concat();
+    for from in [0, 8, 14, 99] {
+        assert_eq!(host.output(instance, from)?, output[from.min(14)..]);
+    }
+    let mut room = vec![1; 65536];
+    host.read(instance, 0, &mut room)?;
+    // The line that it has put out lies in its memory.
+    assert!(room.windows(6).any(|bytes| bytes == b"hello\n"));
+    let (mut few, all) = ([1; 2], room.clone());
+    host.read(instance, 65534, &mut few)?;
+    assert_eq!(few, all[65534..]);
+    assert_eq!(host.read(instance, 65536, &mut []), Ok(()));
+    assert_eq!((host.read(instance, 65535, &mut few), &few[..]), (Err(Error::Outside), &all[65534..]));
+    assert_eq!((Error::Outside.code(), Error::Outside.to_string()), (9, "the memory has fewer bytes (code 0x9)".to_string()));
+    assert_eq!(host.release(instance)?, output);
+    assert_eq!(host.read(instance, 0, &mut few), Err(Error::Ask(1)));
+    assert_eq!(host.output(instance, 0), Err(Error::Ask(1)));
+    assert_eq!(host.ended(instance, 0), Err(Error::Ask(1)));
+    host.unload(module)?;
+    assert_eq!(host.exports(module), Err(Error::Unknown));
     Ok(())
 }
 

@@ -4,7 +4,7 @@ use crate::clock::since;
 use anyhow::{Context, Result, ensure};
 use std::alloc::Global;
 use std::time::CpuClock;
-use wh_host::{Host, ModuleId, Params};
+use wh_host::{Host, ModuleId, Params, Quota};
 use wh_host_model::TurnEnd;
 use wh_space_model::{InstId, Tax};
 
@@ -32,9 +32,11 @@ struct Crowd {
 
 fn admit(alloc: Global, host: &mut Host, module: ModuleId) -> Result<InstId> {
     let params = Params {
-        shares: 100,
-        min: 2,
-        max: 16,
+        quota: Quota {
+            shares: 100,
+            min_frames: 2,
+            max_frames: 16,
+        },
         fuel: 0,
         base: 0,
         salt: 0,

@@ -10,7 +10,7 @@ use std::sync::ledger::{Blank, Ledger, Share};
 use std::test::Fail;
 use wh_cell::{CellAgreements, CellParts, HostCell};
 use wh_desk::{DeskReply, DeskRequest, HostDesk, Principal, Trace};
-use wh_host::{Host, ModuleId, Params};
+use wh_host::{Host, ModuleId, Params, Quota};
 use wh_space_model::Tax;
 use wh_swap::MemSwap;
 use wh_threads::{AgreementId, BlankAgreement, Shares};
@@ -76,9 +76,11 @@ pub fn begin<
 /// Returns what is given to an instance: two frames at least, and 16 at most.
 pub fn given(alloc: Global) -> Params {
     Params {
-        shares: 100,
-        min: 2,
-        max: 16,
+        quota: Quota {
+            shares: 100,
+            min_frames: 2,
+            max_frames: 16,
+        },
         fuel: 0,
         base: 0,
         salt: 0,

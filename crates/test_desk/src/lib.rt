@@ -6,6 +6,8 @@ mod begun;
 #[cfg(test)]
 mod copies;
 #[cfg(test)]
+mod seen;
+#[cfg(test)]
 mod strangers;
 #[cfg(test)]
 mod threads;

@@ -3,7 +3,7 @@
 use crate::modules::{ENDLESS, SEVEN};
 use anyhow::{Result, ensure};
 use std::alloc::Global;
-use wh_host::{Host, HostError, ModuleId, Params, Roll, RollInstance, Suspension};
+use wh_host::{Host, HostError, ModuleId, Params, Quota, Roll, RollInstance, Suspension};
 use wh_host_model::TurnEnd;
 use wh_space_model::{InstId, Tax};
 
@@ -15,9 +15,11 @@ fn host_of_many(alloc: Global) -> Result<Host> {
 // An instance with a minimum of `min` frames.
 fn admit(host: &mut Host, alloc: Global, of: ModuleId, min: u64) -> Result<InstId> {
     let params = Params {
-        shares: 100,
-        min,
-        max: 16,
+        quota: Quota {
+            shares: 100,
+            min_frames: min,
+            max_frames: 16,
+        },
         fuel: 0,
         base: 0,
         salt: 0,
@@ -57,7 +59,7 @@ fn is_endless(enrolled: &RollInstance, id: InstId, of: ModuleId) -> bool {
     let params = &enrolled.params;
     enrolled.id == id
         && enrolled.of == of
-        && (params.min, params.max) == (3, 16)
+        && (params.quota.min_frames, params.quota.max_frames) == (3, 16)
         && (enrolled.calls, enrolled.copied, enrolled.open_calls) == (2, 0, 1)
         && !enrolled.dead
         && enrolled.waiting_for == Some(Suspension::Fuel)

@@ -5,8 +5,8 @@ use crate::views::PAGES;
 use anyhow::{Context, Result, ensure};
 use std::alloc::Global;
 use wh_host::{
-    AdmitError, CallStatus, CallValue, ForkError, HostError, ModuleId, Quota, Suspension,
-    UnloadError,
+    AdmitError, CallStatus, CallValue, ForkError, Host, HostError, ModuleId, Quota, ReadError,
+    Suspension, UnloadError,
 };
 use wh_host_model::TurnEnd;
 use wh_kernels::{ConstantHash, FnvHash};
@@ -38,6 +38,23 @@ pub enum Step {
     Cancel(usize, Result<(), u8>),
     /// Another try of it.
     Retry(usize, Result<(), u8>),
+    /// What an instance has put out so far, and how many of its calls have ended.
+    Shows(usize, Result<(&'static [u8], usize), u8>),
+    /// A call is asked for, of the function at this place of those that its module exports, without arguments and with this
+    /// fuel: its place in the journal.
+    InvokeAt(usize, usize, u64, Result<u32, u8>),
+    /// How many functions a module exports, if it is there, and at this place one by this name and with these parameters and
+    /// results.
+    Exports(
+        usize,
+        Option<usize>,
+        usize,
+        Option<(&'static str, &'static [ValType], &'static [ValType])>,
+    ),
+    /// These bytes are read of an instance's memory, from an address on, while the device's call of this number fails.
+    Reads(usize, u64, u32, &'static [u8]),
+    /// So many aren't, up to 16.
+    ReadsNot(usize, u64, usize, u32, ReadError),
     /// An instance goes: its output.
     Release(usize, Result<&'static [u8], u8>),
     /// How far the call at a place of the journal is.
@@ -203,6 +220,42 @@ fn is_released(rig: &mut Rig, alloc: Global, id: InstId, want: Result<&'static [
     }
 }
 
+// Whether an instance has put this out, and so many of its calls have ended.
+fn is_shown(host: &Host, id: InstId, want: Result<(&'static [u8], usize), u8>) -> bool {
+    match (host.output_of(id), host.ended_calls(id)) {
+        (Ok(output), Some(ended)) => want == Ok((output, ended)),
+        (Err(error), None) => want == Err(error.number()),
+        _ => false,
+    }
+}
+
+// Whether these bytes are read.
+fn is_read(
+    rig: &mut Rig,
+    alloc: Global,
+    id: InstId,
+    at: u64,
+    failing: u32,
+    want: &[u8],
+) -> Result<bool> {
+    let mut room = vec![in alloc; 0; want.len()]?;
+    let answer = rig.read(alloc, id, at, &mut room, failing)?;
+    Ok(answer.is_ok() && room.as_slice() == want)
+}
+
+// Whether a module exports this function at this place.
+fn is_exported(
+    host: &Host,
+    id: ModuleId,
+    at: usize,
+    want: Option<(&'static str, &'static [ValType], &'static [ValType])>,
+) -> bool {
+    match host.export_at(id, at) {
+        Some(found) => want == Some((found.name, found.params, found.results)),
+        None => want.is_none(),
+    }
+}
+
 // What owners ask, but for new instances and their end.
 fn is_asked(rig: &mut Rig, alloc: Global, id: InstId, step: Step) -> bool {
     match step {
@@ -214,6 +267,8 @@ fn is_asked(rig: &mut Rig, alloc: Global, id: InstId, step: Step) -> bool {
         Step::Refuel(_, fuel, want) => by_number(rig.refuel(id, fuel)) == want,
         Step::Cancel(_, want) => by_number(rig.cancel(id)) == want,
         Step::Retry(_, want) => by_number(rig.retry(id)) == want,
+        Step::Shows(_, want) => is_shown(&rig.host, id, want),
+        Step::InvokeAt(_, at, fuel, want) => by_number(rig.invoke_at(alloc, id, at, fuel)) == want,
         Step::Release(_, want) => is_released(rig, alloc, id, want),
         Step::Status(_, at, want) => rig.status(id, at) == want,
         Step::Returned(_, at, word) => rig.status(id, at) == returned(word),
@@ -235,6 +290,12 @@ fn is_served(rig: &mut Rig, alloc: Global, id: InstId, step: Step) -> Result<boo
         Step::RunOut(_) => rig.run_out(alloc, id)?.is_none(),
         Step::EvictBegin(_, want) => leaves(rig, alloc, id, want)?,
         Step::FetchBegin(_, want) => rig.fetch_begin(alloc, id)? == want,
+        Step::Reads(_, at, failing, want) => is_read(rig, alloc, id, at, failing, want)?,
+        Step::ReadsNot(_, at, count, failing, want) => {
+            let mut room = [0; 16];
+            let into = room.get_mut(..count).context("there is no such room")?;
+            rig.read(alloc, id, at, into, failing)? == Err(want)
+        }
         Step::Emit(_, want) => are_all(&rig.emitted(alloc, id, &PAGES)?, want),
         other => is_asked(rig, alloc, id, other),
     })
@@ -251,6 +312,8 @@ impl Step {
             | Step::Refuel(at, ..)
             | Step::Cancel(at, ..)
             | Step::Retry(at, ..)
+            | Step::Shows(at, ..)
+            | Step::InvokeAt(at, ..)
             | Step::Release(at, ..)
             | Step::Status(at, ..)
             | Step::Returned(at, ..)
@@ -264,6 +327,8 @@ impl Step {
             | Step::RunOut(at)
             | Step::EvictBegin(at, ..)
             | Step::FetchBegin(at, ..)
+            | Step::Reads(at, ..)
+            | Step::ReadsNot(at, ..)
             | Step::Emit(at, ..) => at,
             _ => 0,
         }
@@ -280,6 +345,10 @@ impl Step {
         Ok(match self {
             Step::Load(bytes, want) => rig.load(alloc, bytes).ok().map(|id| id.number) == want,
             Step::Unload(number, want) => rig.unload(ModuleId { number }) == want,
+            Step::Exports(number, count, at, want) => {
+                let id = ModuleId { number };
+                rig.host.export_count(id) == count && is_exported(&rig.host, id, at, want)
+            }
             Step::Admit(number, (min, max), fuel, want) => {
                 let answer = rig.admit_of(alloc, ModuleId { number }, min, max, fuel);
                 is_admitted(answer, want, admitted)?

@@ -3,8 +3,10 @@
 use crate::life::{Life, Step};
 use crate::modules::{DYING, ENDLESS, PASSING, PUTTING, SEVEN};
 use Step::{
-    Admit, Cancel, Epoch, Invoke, Load, Refuel, Release, ReportIs, Retry, Status, Trapped, Turn,
+    Admit, Cancel, Epoch, Exports, Invoke, InvokeAt, Load, Refuel, Release, ReportIs, Retry, Shows,
+    Status, Trapped, Turn,
 };
+use ValType::{I32, I64};
 use wh_host::{CallStatus, CallValue, Suspension};
 use wh_host_model::TurnEnd;
 use wh_model::{Trap, ValType};
@@ -64,10 +66,39 @@ const PUT_OUT: &[Step] = &[
     Load(&PUTTING, Some(1)),
     Admit(1, (2, 16), 0, Ok((0, 0))),
     Invoke(0, "f", &[], 1, Ok(1)),
+    Shows(0, Ok((&[], 1))),
     Turn(0, 1000, TurnEnd::Ended),
-    Release(0, Ok(&[5, 0, 0, 0, 0, 0, 0, 0])),
+    Shows(0, Ok((&[5, 0, 0, 0, 0, 0, 0, 0], 2))),
+    Admit(1, (2, 16), 0, Ok((1, 1))),
+    Shows(1, Ok((&[], 1))),
+    InvokeAt(0, 0, 1, Ok(2)),
+    InvokeAt(0, 1, 1, Err(2)),
+    InvokeAt(2, 0, 1, Err(1)),
+    Turn(0, 1000, TurnEnd::Ended),
+    Shows(
+        0,
+        Ok((&[5, 0, 0, 0, 0, 0, 0, 0, 5, 0, 0, 0, 0, 0, 0, 0], 3)),
+    ),
+    Shows(1, Ok((&[], 1))),
+    Shows(2, Err(1)),
+    Exports(1, Some(1), 0, Some(("f", &[], &[]))),
+    Exports(1, Some(1), 1, None),
+    Exports(2, None, 0, None),
+    Release(0, Ok(&[5, 0, 0, 0, 0, 0, 0, 0, 5, 0, 0, 0, 0, 0, 0, 0])),
     Release(0, Err(1)),
+    Shows(0, Err(1)),
     Turn(0, 1000, TurnEnd::Idle),
+];
+
+/// The functions that the pager exports, in its order.
+const EXPORTED: &[Step] = &[
+    Exports(0, Some(8), 0, Some(("emit", &[I32, I32], &[]))),
+    Exports(0, Some(8), 2, Some(("get8", &[I32], &[I32]))),
+    Exports(0, Some(8), 3, Some(("set", &[I32, I64], &[]))),
+    Exports(0, Some(8), 4, Some(("get", &[I32], &[I64]))),
+    Exports(0, Some(8), 5, Some(("two", &[I32, I32, I32], &[]))),
+    Exports(0, Some(8), 7, Some(("wide", &[], &[]))),
+    Exports(0, Some(8), 8, None),
 ];
 
 /// A place is used again, and a number never: who asks by the old number isn't heard.
@@ -180,7 +211,7 @@ const SHOWN_BY_NUMBER: &[Step] = &[
 ];
 
 /// All of them.
-pub const LIVES: [Life; 11] = [
+pub const LIVES: [Life; 12] = [
     Life("nobody is there", (4, 100, TAXED), &[], NOBODY),
     Life("modules are numbered", (4, 100, TAXED), &[], NUMBERED),
     Life("a call runs and ends", (1024, 4096, TAXED), &[], ENDED),
@@ -191,6 +222,7 @@ pub const LIVES: [Life; 11] = [
         FUELLED,
     ),
     Life("output is handed out", (1024, 4096, TAXED), &[], PUT_OUT),
+    Life("exports are told", (4, 100, TAXED), &[], EXPORTED),
     Life("a place is used again", (8, 64, TAXED), &[], USED_AGAIN),
     Life("a start traps", (1024, 4096, TAXED), &[], DEAD),
     Life("what is not admitted", (1024, 4096, TAXED), &[], REFUSED),

@@ -11,6 +11,7 @@ mod guest;
 mod life;
 mod lists;
 mod lives;
+mod looks;
 mod modules;
 mod paging;
 mod pair;

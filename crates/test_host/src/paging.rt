@@ -4,9 +4,10 @@
 use crate::life::{Life, Step};
 use Step::{
     Admit, Cancel, Done, Emit, Epoch, EvictBegin, EvictCommit, Failed, FetchBegin, FetchCommit,
-    FetchFails, Invoke, Offer, OfferAlike, Provide, Release, Report, ReportIs, Retry, Returned,
-    RunOut, Scan, Store, Turn, Waits,
+    FetchFails, Invoke, Offer, OfferAlike, Provide, Reads, ReadsNot, Release, Report, ReportIs,
+    Retry, Returned, RunOut, Scan, Store, Turn, Waits,
 };
+use wh_host::ReadError;
 use wh_host_model::TurnEnd;
 use wh_space_model::{EvictEnd, FetchEnd, Offer as Offered, SwapError, Tax};
 
@@ -58,6 +59,38 @@ const ANOTHER_TRY: &[Step] = &[
     Waits(A, true, true),
     Provide(A, 0, Ok(0)),
     Turn(A, 2, TurnEnd::Ended),
+];
+
+/// The first page leaves and comes back, and is read on its way and in its slot, where it stays; the device may fail then. Past
+/// the end, and of nobody, nothing is read.
+const READ: &[Step] = &[
+    Store(A, 8192, 9, TurnEnd::Frame),
+    EvictBegin(A, Some(7)),
+    Reads(A, 4095, 1, &[0, 7, 0]),
+    EvictCommit(false, EvictEnd::Evicted),
+    Reads(A, 0, 0, &[7, 0]),
+    Reads(A, 4095, 2, &[0, 7, 0]),
+    Reads(B, 0, 1, &[7]),
+    ReadsNot(A, 4095, 3, 1, ReadError::Device(SwapError::Read)),
+    Reads(A, 8191, 1, &[0, 0]),
+    Turn(A, 3, TurnEnd::Ended),
+    Reads(A, 8191, 1, &[0, 9, 0]),
+    Invoke(A, "get8", &[0], 2, Ok(4)),
+    Turn(A, 2, TurnEnd::Frame),
+    EvictBegin(A, Some(7)),
+    EvictCommit(false, EvictEnd::Evicted),
+    FetchBegin(A, true),
+    Reads(A, 4095, 3, &[0, 7, 0]),
+    ReadsNot(A, 0, 1, 1, ReadError::Device(SwapError::Read)),
+    FetchCommit(false, FetchEnd::Fetched),
+    Reads(A, 0, 1, &[7]),
+    Turn(A, 2, TurnEnd::Ended),
+    Reads(A, 65535, 1, &[0]),
+    Reads(A, 65536, 1, &[]),
+    ReadsNot(A, 65535, 2, 0, ReadError::Outside),
+    ReadsNot(A, 65537, 0, 0, ReadError::Outside),
+    ReadsNot(A, 18446744073709551615, 16, 0, ReadError::Outside),
+    ReadsNot(2, 0, 0, 0, ReadError::NoInstance),
 ];
 
 /// All four pages come to one frame, so three are free.
@@ -457,7 +490,7 @@ const DAMAGED: &[Step] = &[
 ];
 
 /// All of them.
-pub const PAGING: [Life; 19] = [
+pub const PAGING: [Life; 20] = [
     Life(
         "a store gets its frame",
         (4, 64, UNTAXED),
@@ -469,6 +502,12 @@ pub const PAGING: [Life; 19] = [
         (4, 64, UNTAXED),
         FOUR_FRAMES,
         ANOTHER_TRY,
+    ),
+    Life(
+        "bytes are read where they are",
+        (4, 64, UNTAXED),
+        FOUR_FRAMES,
+        READ,
     ),
     Life(
         "equal pages come to one frame",

@@ -13,7 +13,7 @@ use std::cell::Cell;
 use std::rc::Rc;
 use wh_host::{
     AdmitError, CallStatus, Eviction, Fetch, ForkError, Host, HostError, ModuleError, ModuleId,
-    Params, Quota, UnloadError,
+    Params, Quota, ReadError, UnloadError,
 };
 use wh_host_model::TurnEnd;
 use wh_kernels::PageHash;
@@ -82,9 +82,11 @@ impl Rig {
         fuel: u64,
     ) -> Result<InstId, AdmitError> {
         let params = Params {
-            shares: 100,
-            min,
-            max,
+            quota: Quota {
+                shares: 100,
+                min_frames: min,
+                max_frames: max,
+            },
             fuel,
             base: 0,
             salt: 0,
@@ -113,6 +115,17 @@ impl Rig {
         fuel: u64,
     ) -> Result<u32, HostError> {
         self.host.invoke(alloc, id, name, given, fuel)
+    }
+
+    /// Queues a call of the function at this place of those that its module exports, without arguments and with this fuel.
+    pub fn invoke_at(
+        &mut self,
+        alloc: Global,
+        id: InstId,
+        at: usize,
+        fuel: u64,
+    ) -> Result<u32, HostError> {
+        self.host.invoke_at(alloc, id, at, &[], fuel)
     }
 
     /// Runs a turn of at most `charges` charges.
@@ -226,6 +239,22 @@ impl Rig {
         let answer = self.host.provide(&mut self.device, id, &mut buf);
         self.failing.set(0);
         Ok(Some(answer))
+    }
+
+    /// Reads bytes of an instance's memory, while the device's call of this number fails.
+    pub fn read(
+        &mut self,
+        alloc: Global,
+        id: InstId,
+        at: u64,
+        into: &mut [u8],
+        failing: u32,
+    ) -> Result<Result<(), ReadError>> {
+        let mut buf = Box::new(alloc, [0; 4096])?;
+        self.failing.set(failing);
+        let answer = self.host.read(&mut self.device, id, at, into, &mut buf);
+        self.failing.set(0);
+        Ok(answer)
     }
 
     /// Runs turns and provisions until the instance can't go on; returns the fault, if the device failed.

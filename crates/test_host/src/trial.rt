@@ -203,6 +203,9 @@ impl Trial {
             45 => self.cancel(rig, &mut pair)?,
             _ => self.retry(rig, &pair)?,
         }
+        pair.follow(rig)?;
+        let at = self.some_address();
+        pair.look(rig, alloc, at)?;
         self.put_back(place, Some(pair))
     }
 

@@ -169,9 +169,11 @@ impl Roster {
 // What an instance is given.
 fn given(alloc: Global) -> Params {
     Params {
-        shares: 100,
-        min: 2,
-        max: 16,
+        quota: Quota {
+            shares: 100,
+            min_frames: 2,
+            max_frames: 16,
+        },
         fuel: 0,
         base: 0,
         salt: 0,

@@ -52,7 +52,8 @@ fn reads_module(alloc: Global) -> bool {
 }
 
 fn are_given(given: &Params) -> bool {
-    (given.shares, given.min, given.max, given.fuel) == (100, 2, 16, 0)
+    let quota = given.quota;
+    (quota.shares, quota.min_frames, quota.max_frames, given.fuel) == (100, 2, 16, 0)
         && (given.base, given.salt) == (0xFFFF_FFFF, 0xFFFF_FFFF_FFFF_FFFF)
         && given.inputs.as_slice() == [10, 0xFFFF_FFFF_FFFF_FFFF].as_slice()
 }

@@ -3,7 +3,7 @@
 use crate::tables::agree;
 use anyhow::{Result, ensure};
 use std::alloc::{AllocError, Global};
-use wh_host::{InstanceReport, Report};
+use wh_host::{HostUsage, InstanceReport, Report};
 use wh_model::ValType;
 use wh_replies::{
     Call, Caller, FaultPlace, ModuleRefusal, Reply, Status, signed_value, write_released,
@@ -123,7 +123,7 @@ fn outputs(alloc: Global) -> Result<String, AllocError> {
 
 fn report(alloc: Global) -> Result<String, AllocError> {
     let mut text = String::new(alloc);
-    let report = Report {
+    let usage = HostUsage {
         frames: 1024,
         used_frames: 1,
         slots: 4096,
@@ -131,15 +131,17 @@ fn report(alloc: Global) -> Result<String, AllocError> {
         shared_frames: 1,
         sharers: 3,
         tax: Tax { num: 3, den: 4 },
-        instances: Vec::from_slice(alloc, &ROWS)?,
+        instances: 3,
     };
+    let instances = Vec::from_slice(alloc, &ROWS)?;
+    let report = Report { usage, instances };
     write_report(&mut text, &report)?;
     Ok(text)
 }
 
 fn taxed_report(alloc: Global) -> Result<String, AllocError> {
     let mut text = String::new(alloc);
-    let report = Report {
+    let usage = HostUsage {
         frames: 8,
         used_frames: 8,
         slots: 4,
@@ -150,8 +152,10 @@ fn taxed_report(alloc: Global) -> Result<String, AllocError> {
             num: 999,
             den: 1000,
         },
-        instances: Vec::from_slice(alloc, &ROWS[2..])?,
+        instances: 1,
     };
+    let instances = Vec::from_slice(alloc, &ROWS[2..])?;
+    let report = Report { usage, instances };
     write_report(&mut text, &report)?;
     Ok(text)
 }

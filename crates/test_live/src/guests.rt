@@ -1,7 +1,7 @@
 // The modules of all instances, and what is asked of them.
 
 use std::alloc::Global;
-use wh_host::{Admit, Invoke, Load, ModuleId, Params};
+use wh_host::{Admit, Invoke, Load, ModuleId, Params, Quota};
 use wh_space_model::InstId;
 
 /// `s` stores a byte, and `l` loads one.
@@ -27,9 +27,11 @@ pub fn loading(alloc: Global, bytes: &[u8]) -> Load<'_> {
 /// Returns what an owner gives: two frames at least, and 16 at most.
 pub fn given(alloc: Global) -> Params {
     Params {
-        shares: 100,
-        min: 2,
-        max: 16,
+        quota: Quota {
+            shares: 100,
+            min_frames: 2,
+            max_frames: 16,
+        },
         fuel: 0,
         base: 0,
         salt: 0,

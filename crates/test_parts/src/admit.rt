@@ -3,7 +3,7 @@
 use crate::tables::agree;
 use anyhow::{Result, ensure};
 use std::alloc::{AllocError, Global};
-use wh_admit::{AdmitError, Admitted, Params, Room, admit};
+use wh_admit::{AdmitError, Admitted, Params, Quota, Room, admit};
 use wh_imports::Linked;
 use wh_load::load;
 
@@ -59,9 +59,11 @@ fn given(alloc: Global, numbers: (u64, u64, u64)) -> Result<Params, AllocError> 
     let (shares, min, max) = numbers;
     let inputs = vec![in alloc; 5, 6]?;
     Ok(Params {
-        shares,
-        min,
-        max,
+        quota: Quota {
+            shares,
+            min_frames: min,
+            max_frames: max,
+        },
         fuel: 1000,
         base: 7,
         salt: 8,

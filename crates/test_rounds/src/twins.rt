@@ -5,7 +5,7 @@ use crate::pair::Pair;
 use anyhow::{Context, Result, ensure};
 use std::alloc::Global;
 use test_random::Random;
-use wh_host::{Host, Params, RoundRunner, SeriesEnd};
+use wh_host::{Host, Params, Quota, RoundRunner, SeriesEnd};
 use wh_host_model::TurnEnd;
 use wh_kernels::FnvHash;
 use wh_space_model::{InstId, Tax};
@@ -50,9 +50,11 @@ fn more(times: &mut u32) {
 // What each instance is given.
 fn given(alloc: Global) -> Params {
     Params {
-        shares: 100,
-        min: 2,
-        max: 16,
+        quota: Quota {
+            shares: 100,
+            min_frames: 2,
+            max_frames: 16,
+        },
         fuel: 0,
         base: 0,
         salt: 0,
@@ -229,8 +231,7 @@ impl Twins {
         let one = self.together.report(alloc)?;
         let other = self.apart.report(alloc)?;
         ensure!(
-            one.used_frames == other.used_frames
-                && one.instances.as_slice() == other.instances.as_slice(),
+            one.usage == other.usage && one.instances.as_slice() == other.instances.as_slice(),
             "reports differ"
         );
         Ok(())

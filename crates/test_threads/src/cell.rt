@@ -32,6 +32,9 @@ pub const BYTES: [u8; 63] = [
     0x00, 0x20, 0x01, 0x3a, 0x00, 0x00, 0x0b, 0x07, 0x00, 0x20, 0x00, 0x2d, 0x00, 0x00, 0x0b,
 ];
 
+// How many runs there are at most until none has a turn any more.
+const MOST_RUNS: u32 = 100;
+
 // A cell, its owner's right and its shares.
 #[derive(Drop)]
 struct Begun<T: Ledger, C: Ledger, O: Ledger, E: Ledger, B: CellAgreements> {
@@ -227,7 +230,7 @@ fn a_turn_is_counted(rt: HostRuntime) -> Result<(), Fail> {
     Ok(())
 }
 
-// How many turns there were while two workers ran all calls; none where they couldn't.
+// How many turns there were while two workers ran all calls, until a run had none; none where they couldn't.
 fn run_turns<
     T: Ledger + Send + 'static,
     C: Ledger + Send + 'static,
@@ -241,10 +244,19 @@ fn run_turns<
         quantum: 2,
         workers: 2,
     };
-    match run_calls(rt, alloc, &begun.cell, &mut begun.shares, ids, manner) {
-        Ok(served) if served.end.is_ok() => served.turns,
-        Ok(_) | Err(_) => 0,
+    let mut turns: u64 = 0;
+    for _ in 0..MOST_RUNS {
+        match run_calls(rt, alloc, &begun.cell, &mut begun.shares, ids, manner) {
+            Ok(served) if served.end.is_ok() => {
+                if served.turns == 0 {
+                    return turns;
+                }
+                turns = turns.wrapping_add(served.turns);
+            }
+            Ok(_) | Err(_) => return 0,
+        }
     }
+    0
 }
 
 // How many turns all workers have counted.

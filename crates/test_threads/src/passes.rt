@@ -65,13 +65,13 @@ fn pass<
     let (in_book, by_threads) = (books.offers.low(), shares.offers());
     let offered = owned.scan(rt, alloc, FnvHash).unwrap_or(None);
     let (books, shares) = owned.counts();
-    let report = owned.host().report(alloc)?;
+    let usage = owned.host().usage();
     Ok(Passed {
         offered,
         in_book: books.offers.low().wrapping_sub(in_book),
         by_threads: shares.offers().wrapping_sub(by_threads),
-        frames: report.frames,
-        used_frames: report.used_frames,
+        frames: usage.frames,
+        used_frames: usage.used_frames,
     })
 }
 

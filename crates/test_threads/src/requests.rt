@@ -1,7 +1,7 @@
 //! What tests ask of a host.
 
 use std::alloc::Global;
-use wh_host::{Admit, Invoke, Load, ModuleId, Params};
+use wh_host::{Admit, Invoke, Load, ModuleId, Params, Quota};
 use wh_space_model::InstId;
 
 /// Asks for the module that these bytes spell.
@@ -12,9 +12,11 @@ pub fn loading(alloc: Global, bytes: &[u8]) -> Load<'_> {
 /// Returns what an owner gives: two frames at least, and 16 at most.
 pub fn given(alloc: Global) -> Params {
     Params {
-        shares: 100,
-        min: 2,
-        max: 16,
+        quota: Quota {
+            shares: 100,
+            min_frames: 2,
+            max_frames: 16,
+        },
         fuel: 0,
         base: 0,
         salt: 0,

@@ -3,6 +3,7 @@
 use clap::builder::ValueParser;
 use clap::{Arg, ArgAction, ArgMatches, Command, Error};
 use std::alloc::{AllocError, Global};
+use wh_settings::VERSION;
 
 /// What a file is looked at as.
 #[derive(Clone, Copy, Debug, PartialEq, Eq)]
@@ -14,9 +15,6 @@ pub enum Kind {
     /// A script.
     Script,
 }
-
-/// The version of the program, and of the host that it tells of.
-const VERSION: &str = "0.1.0";
 
 static KINDS: [&str; 3] = ["module", "settings", "script"];
 

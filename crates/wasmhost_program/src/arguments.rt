@@ -9,10 +9,7 @@ use clap::builder::ValueParser;
 use clap::error::ErrorKind;
 use clap::{Arg, ArgMatches, Command, Error};
 use std::alloc::{AllocError, Global};
-use wh_settings::Workers;
-
-/// The version of the program.
-const VERSION: &str = "0.1.0";
+use wh_settings::{VERSION, Workers};
 
 /// Why a command line isn't accepted.
 #[derive(Debug, Drop)]

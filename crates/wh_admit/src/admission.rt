@@ -19,15 +19,15 @@ use std::alloc::Global;
 use wh_imports::Linked;
 use wh_initial::{Parameters, instantiate};
 use wh_machine::Machine;
-use wh_params::{Params, Quota};
+use wh_params::Params;
 
 /// Makes what an instance begins with, where the numbers that its owner gives are admitted.
 ///
 /// # Errors
 /// `MemoryMin` or `SegmentBounds`, the first of them that holds; else `Memory` where a growth was refused.
 fn begin(alloc: Global, linked: &Linked, params: Params) -> Result<Admitted, AdmitError>
-    requires shares { AreShares params.shares }
-    requires frames { AreFrames params.min params.max }
+    requires shares { AreShares params.quota.shares }
+    requires frames { AreFrames params.quota.min_frames params.quota.max_frames }
     ensures ok { IfOk result
         (BeginsAs (view_module linked.now.valid.decoded) (view_params params)) }
     ensures err { IfErr result
@@ -35,9 +35,7 @@ fn begin(alloc: Global, linked: &Linked, params: Params) -> Result<Admitted, Adm
 {
     are_words(&params.inputs);
     let Params {
-        shares,
-        min,
-        max,
+        quota,
         fuel,
         base,
         salt,
@@ -47,16 +45,16 @@ fn begin(alloc: Global, linked: &Linked, params: Params) -> Result<Admitted, Adm
         base,
         salt,
         inputs,
-        page_limit: (max / FRAMES_OF_PAGE) as u32,
+        page_limit: (quota.max_frames / FRAMES_OF_PAGE) as u32,
     };
     let begun = instantiate(alloc, linked, parameters)?;
     let machine = Machine::new(alloc)?;
     Ok(Admitted {
         begun,
         machine,
-        shares: shares as u32,
-        min: min as u32,
-        max: max as u32,
+        shares: quota.shares as u32,
+        min: quota.min_frames as u32,
+        max: quota.max_frames as u32,
         fuel,
     })
 }
@@ -85,11 +83,6 @@ pub fn admit(
     let Some(linked) = linked else {
         return Err(AdmitError::NoModule);
     };
-    let quota = Quota {
-        shares: params.shares,
-        min_frames: params.min,
-        max_frames: params.max,
-    };
-    check_numbers(quota, room)?;
+    check_numbers(params.quota, room)?;
     begin(alloc, linked, params)
 }

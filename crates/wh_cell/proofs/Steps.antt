@@ -141,6 +141,31 @@ module _ {D : Type 0} (held : D → List (List ℕ)) (keeps honest : D → Type 
         came = comes_on_provided keeps honest faults l.left device device2 l.host h2 id result (subst (λ z. ComesFrom keeps honest faults l.left z l.host) one s.came) serves moves anyhow whole;
       }
 
+  -- the device was read under both locks, and nothing else was done
+  pub read_in_step : (l : LockedState D) (device device2 : D) (more : List SwapError) (known2 : KnownState D) → IsInStep held keeps honest faults l
+      → l.known.device ≡ Some device → known2 ≡ record l.known { device = Some device2 }
+      → ServesOn keeps honest faults device more device2 → held device2 ≡ held device
+      → IsInStep held keeps honest faults (record l { known = known2 })
+  read_in_step l device device2 more known2 s has is serves holds =
+      let one : s.device ≡ device = same_Some s.device device (sym s.agrees.has ∙ has) in record {
+        some = s.some;
+        fits = s.fits;
+        device = device2;
+        agrees = record {
+          has = ap (λ (k : KnownState D). k.device) is;
+          pass = s.agrees.pass
+              ∙ ap (λ (z : D). (let p : Pass = record { held = held z; out = l.known.out } in p)) one
+              ∙ ap (λ (z : List (List ℕ)). (let p : Pass = record { held = z; out = l.known.out } in p)) (sym holds)
+              ∙ ap (λ (k : KnownState D). (let p : Pass = record { held = held device2; out = k.out } in p)) (sym is);
+        };
+        led = λ right. s.led (subst honest (sym one) (serves.was_honest right));
+        came = comes_on_by keeps honest faults l.left device device2 more l.host l.host
+            (subst (λ (z : D). ComesFrom keeps honest faults l.left z l.host) one s.came) serves
+            (λ right w st. (w, record { events = []; faults_are = tt; work = refl }, st))
+            (λ w st. (w, record { steps = []; work = refl }, st))
+            (record { frames = refl; slots = refl; tax = refl });
+      }
+
   -- a ticket goes out
   pub begun_in_step : (l : LockedState D) (h2 : HostState) (known2 : KnownState D) (slot : ℕ) (errand : Errand) → IsInStep held keeps honest faults l → MovesOnly l.host h2
       → Passes l.host.space l.host.space.slots.held (out_with (pass_of l.host.space).out (Some slot) errand) h2.space

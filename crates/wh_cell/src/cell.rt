@@ -7,6 +7,7 @@ ghost use Rattle.wh_host.specs.Rolls.{IsRollOf};
 ghost use Rattle.wh_host.specs.Showing.{RepresentsReached};
 ghost use Rattle.wh_threads.specs.Counting.{IsZero};
 ghost use Rattle.wh_cell.specs.Calling.{IsMadeReady};
+ghost use Rattle.wh_cell.specs.Knowing.{NoneOut};
 ghost use Rattle.wh_cell.specs.Ledgers.{HasLedgers};
 ghost use Rattle.wh_cell.specs.LeftByOwner.{HasNoCharge, left_as};
 ghost use Rattle.wh_cell.specs.Locking.{IsInStep};
@@ -230,6 +231,16 @@ impl<D: SwapDev, T: Ledger, C: Ledger, O: Ledger, E: Ledger, B: CellAgreements> 
         ensures { IsInStep D.held D.keeps D.honest D.faults (mutex_guard_value result) }
     {
         let guard = self.both.locked.lock(rt);
+        guard.invariant();
+        guard
+    }
+
+    /// Acquires the lock of the swap device, whose calls are made by whoever has it: waits for one that is under way. No ticket is out
+    /// then. Whoever takes both locks takes this one first.
+    pub fn lock_device<R: Wait>(&self, rt: &R) -> MutexGuard<'_, Backing<D, B>>
+        ensures { NoneOut (mutex_guard_value result).out }
+    {
+        let guard = self.both.backing.lock(rt);
         guard.invariant();
         guard
     }

@@ -8,6 +8,7 @@ mod locked;
 mod moving;
 mod own_work;
 mod owner;
+mod reading;
 mod requests;
 mod rounding;
 mod showing;

@@ -19,7 +19,7 @@ use crate::error::ParseError;
 use crate::numbers::{i64_bits_in, number_in};
 use crate::words::{Words, words_in};
 use std::alloc::Global;
-use wh_params::Params;
+use wh_params::{Params, Quota};
 
 /// `NAME HEX`
 fn keep(alloc: Global, words: Words<'_>) -> Result<Command<'_>, ParseError>
@@ -136,10 +136,13 @@ fn given(alloc: Global, words: Words<'_>) -> Result<Params, ParseError>
     let base = words.next_i32_bits()?;
     let salt = words.next_i64_bits()?;
     let inputs = inputs(alloc, words)?;
-    Ok(Params {
+    let quota = Quota {
         shares,
-        min,
-        max,
+        min_frames: min,
+        max_frames: max,
+    };
+    Ok(Params {
+        quota,
         fuel,
         base,
         salt,

@@ -1,3 +1,4 @@
 pub mod Chains
+pub mod Counts
 pub mod Marks
 pub mod Parts

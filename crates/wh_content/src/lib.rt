@@ -2,6 +2,7 @@
 #![tactic(auto)]
 
 mod chains;
+mod counted_marks;
 mod entry;
 mod table;
 

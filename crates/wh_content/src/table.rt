@@ -1,14 +1,17 @@
 // The table as its caller sees it.
 
 ghost use Rattle.std.specs.Prelude.{◌≡◌, ◌+◌, ◌<◌, ◌%◌, Some, IfOk, IfSome, IfNone, length, get_or, replicate, slice_get, slice_set};
+ghost use Rattle.wh_content.specs.Counts.{is_shared, sharers_in};
 ghost use Rattle.wh_content.specs.Marks.{frame_of_entry, mark_of_entry, IsOnlyWith, IsWithout};
 ghost use Rattle.wh_space_model.specs.Breaks.{fewer_sharers};
+ghost use Rattle.wh_space_model.specs.Frames.{tally};
 ghost use Rattle.wh_space_model.specs.Sound.{HasHash};
 ghost use Rattle.wh_space_model.specs.declared.states.Mark.TheVariants.{Plain, Hint, Sharers, Unlisted};
 ghost use Rattle.wh_space_model.specs.Forks.{one_more};
 ghost use Rattle.wh_content.specs.Marks.{HasRoomForOne};
 
 use crate::chains::Chains;
+use crate::counted_marks::CountedMarks;
 use crate::entry::{ContentEntry, entry_under, hash_of};
 use std::alloc::{AllocError, Global};
 use std::marker::Model;
@@ -23,7 +26,7 @@ const _: () = prove!(size_of::<Mark>() <= 24);
 #[derive(Drop)]
 pub struct Table {
     frames: u32,
-    marks: Vec<Mark>,
+    marks: CountedMarks,
     // As many chains as frames. Their heads are the places after the frames.
     chains: Chains,
 }
@@ -36,7 +39,7 @@ impl Model for Table {
 
     ghost use Rattle.wh_content.specs.Parts.{IsIndexed};
 
-    ghost view = { λ a. a.marks.items };
+    ghost view = { λ a. a.marks };
 
     ghost invariant = { IsIndexed };
 }
@@ -57,7 +60,7 @@ impl Table {
     pub fn new(alloc: Global, frames: u32) -> Result<Table, AllocError>
         ensures { IfOk result (λ table. table ≡ replicate frames Plain) }
     {
-        let marks = vec![in alloc; Mark::Plain; frames as usize]?;
+        let marks = CountedMarks::new(alloc, frames)?;
         let chains = Chains::new(alloc, frames as usize * 2)?;
         Ok(Table {
             frames,
@@ -71,7 +74,7 @@ impl Table {
         requires { frame < length self.now }
         ensures { slice_get self.now frame ≡ Some result }
     {
-        self.marks[frame as usize]
+        self.marks.get(frame)
     }
 
     /// Returns the entry under this hash, if there is one.
@@ -125,15 +128,18 @@ impl Table {
         ensures { self.new
             ≡ slice_set self.old frame (fewer_sharers 1 (get_or self.old frame Plain)) }
     {
-        match self.marks[frame as usize] {
+        match self.marks.get(frame) {
             Mark::Sharers { hash, count } if count > 1 => {
-                self.marks[frame as usize] = Mark::Sharers {
-                    hash,
-                    count: count - 1,
-                };
+                self.marks.set(
+                    frame,
+                    Mark::Sharers {
+                        hash,
+                        count: count - 1,
+                    },
+                );
             }
             Mark::Unlisted { count } if count > 1 => {
-                self.marks[frame as usize] = Mark::Unlisted { count: count - 1 };
+                self.marks.set(frame, Mark::Unlisted { count: count - 1 });
             }
             Mark::Sharers { .. } | Mark::Unlisted { .. } => self.forget_frame(frame),
             Mark::Plain | Mark::Hint { .. } => {}
@@ -147,7 +153,7 @@ impl Table {
         ensures { self.new ≡ slice_set self.old frame (Unlisted sharers) }
     {
         self.forget_frame(frame);
-        self.marks[frame as usize] = Mark::Unlisted { count: sharers };
+        self.marks.set(frame, Mark::Unlisted { count: sharers });
     }
 
     /// Raises the reference count of this frame, which is one of the table's, by one. A frame that no page shares stays
@@ -157,18 +163,29 @@ impl Table {
         requires few { HasRoomForOne (get_or self.old frame Plain) }
         ensures { self.new ≡ slice_set self.old frame (one_more (get_or self.old frame Plain)) }
     {
-        match self.marks[frame as usize] {
+        match self.marks.get(frame) {
             Mark::Sharers { hash, count } => {
-                self.marks[frame as usize] = Mark::Sharers {
-                    hash,
-                    count: count + 1,
-                };
+                self.marks.set(
+                    frame,
+                    Mark::Sharers {
+                        hash,
+                        count: count + 1,
+                    },
+                );
             }
             Mark::Unlisted { count } => {
-                self.marks[frame as usize] = Mark::Unlisted { count: count + 1 };
+                self.marks.set(frame, Mark::Unlisted { count: count + 1 });
             }
             Mark::Plain | Mark::Hint { .. } => {}
         }
+    }
+
+    /// Returns, in O(1), the number of frames that pages share, and the number of pages that share one.
+    pub fn sharing(&self) -> (u32, u64)
+        ensures frames { result.0 ≡ tally is_shared self.now }
+        ensures sharers { result.1 ≡ tally sharers_in self.now }
+    {
+        (self.marks.shared(), self.marks.sharers())
     }
 
     /// Forgets what there is of this frame, which is one of the table's.
@@ -176,13 +193,13 @@ impl Table {
         requires { frame < length self.old }
         ensures { self.new ≡ slice_set self.old frame Plain }
     {
-        let Some(hash) = hash_of(self.marks[frame as usize]) else {
-            self.marks[frame as usize] = Mark::Plain;
+        let Some(hash) = hash_of(self.marks.get(frame)) else {
+            self.marks.set(frame, Mark::Plain);
             return;
         };
         let place = self.chains.behind(head_of(self.frames, hash), frame);
         self.chains.remove(place, frame);
-        self.marks[frame as usize] = Mark::Plain;
+        self.marks.set(frame, Mark::Plain);
     }
 
     // Puts a mark with this hash, which no other frame has.
@@ -195,6 +212,6 @@ impl Table {
         self.forget_frame(frame);
         let place = self.chains.behind(head_of(self.frames, hash), frame);
         self.chains.insert(place, frame);
-        self.marks[frame as usize] = mark;
+        self.marks.set(frame, mark);
     }
 }

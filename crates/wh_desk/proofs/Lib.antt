@@ -1,3 +1,4 @@
+mod EndsThere
 mod Nothing
 mod Others
 mod Owners

@@ -1,12 +1,12 @@
 -- What a host replies where there is no such instance, and no such module.
-use Rattle.std.proofs.Common.{◌≡◌, ◌<◌, None, refl, subst, sym, arith}
+use Rattle.std.proofs.Common.{◌≡◌, ◌<◌, inl, [], None, refl, subst, sym, arith}
 use Rattle.wh_space_model.specs.declared.plain.InstId.{InstId}
 use Rattle.wh_host_model.specs.Host.{World, NoInstance, has_no_instance, invoke_no_instance, no_one_to_refuel, no_one_to_cancel, no_one_to_retry, no_one_to_release, call_no_instance, isnt_admitted, admit_refused, fork_no_instance, no_one_to_fork, unload_no_module, no_module_to_unload, loaded_of}
 use Rattle.wh_host_model.specs.{AdmitFault, no_module, shares, min_max, frames, swap, instances, memory, segments, admit_rank}
 use Rattle.wh_host.specs.Hosting.{HostState, IsHost}
 use Rattle.wh_host.specs.declared.parts.ModuleId.{ModuleId}
 use Rattle.wh_desk.specs.declared.trace.Question.{Question}
-use Rattle.wh_desk.specs.declared.trace.Question.TheVariants.{Load, Unload, Admit, Fork, Invoke, Refuel, Cancel, Retry, Release, BeginEpoch, Status, Report, Transcript}
+use Rattle.wh_desk.specs.declared.trace.Question.TheVariants.{Load, Unload, Admit, Fork, Invoke, InvokeAt, Refuel, Cancel, Retry, Release, BeginEpoch, Status, Report, Transcript, Output, Ends, Exports, Read}
 use Rattle.wh_desk.specs.AsNone.{InstancesAsNone, ModulesAsNone, IsAbout}
 use Rattle.wh_desk.specs.Permits.{refusal}
 use Rattle.wh_desk.specs.Replying.{HostReplies}
@@ -19,6 +19,14 @@ of_this h (Fork asked quota) id about none =
     (_, refl, (λ w is. (fork_no_instance, w, refl, no_one_to_fork (subst (NoInstance w) (sym about) (none w is)), is)), tt, refl)
 of_this h (Invoke asked name given fuel) id about none =
     (_, refl, (λ w is. (invoke_no_instance, w, refl, has_no_instance (subst (NoInstance w) (sym about) (none w is)), is)), refl)
+of_this h (InvokeAt asked at given fuel) id about none = (
+  _,
+  refl,
+  (λ w is.
+      let gone = subst (NoInstance w) (sym about) (none w is) in
+      ([], (λ t l live loaded. absurd (gone t live)), invoke_no_instance, w, refl, has_no_instance gone, is)),
+  refl,
+)
 of_this h (Refuel asked fuel) id about none =
     (_, refl, (λ w is. (call_no_instance, w, refl, no_one_to_refuel (subst (NoInstance w) (sym about) (none w is)), is)), refl, refl)
 of_this h (Cancel asked) id about none =
@@ -32,6 +40,12 @@ of_this h (Status asked at) id about none =
     (_, refl, (λ w is t live. absurd (subst (NoInstance w) (sym about) (none w is) t live)), refl)
 of_this h Report id about none = absurd about
 of_this h (Transcript asked) id about none = (_, refl, (λ w is. subst (NoInstance w) (sym about) (none w is)), refl)
+of_this h (Output asked from most) id about none =
+    (_, refl, inl (refl, (λ w is. subst (NoInstance w) (sym about) (none w is))), refl)
+of_this h (Ends asked from most) id about none =
+    (_, refl, inl (refl, (λ w is. subst (NoInstance w) (sym about) (none w is))), refl)
+of_this h (Exports of) id about none = absurd about
+of_this h (Read asked at length) id about none = (_, refl, (λ w is. subst (NoInstance w) (sym about) (none w is)), refl)
 
 pub instances_as_none : InstancesAsNone
 instances_as_none h id question about none = of_this h question id about none
@@ -57,6 +71,7 @@ modules_as_none h of (Admit asked params) about none =
     (_, refl, (λ w is. (admit_refused no_module, w, refl, isnt_admitted (absent w asked of about (none w is), λ other less meets. absurd (one_at_least other less)), is)), tt, refl)
 modules_as_none h of (Fork asked quota) about none = absurd about
 modules_as_none h of (Invoke asked name given fuel) about none = absurd about
+modules_as_none h of (InvokeAt asked at given fuel) about none = absurd about
 modules_as_none h of (Refuel asked fuel) about none = absurd about
 modules_as_none h of (Cancel asked) about none = absurd about
 modules_as_none h of (Retry asked) about none = absurd about
@@ -65,3 +80,7 @@ modules_as_none h of BeginEpoch about none = absurd about
 modules_as_none h of (Status asked at) about none = absurd about
 modules_as_none h of Report about none = absurd about
 modules_as_none h of (Transcript asked) about none = absurd about
+modules_as_none h of (Output asked from most) about none = absurd about
+modules_as_none h of (Ends asked from most) about none = absurd about
+modules_as_none h of (Read asked at length) about none = absurd about
+modules_as_none h of (Exports asked) about none = (_, refl, (λ w is. absent w asked of about (none w is)), refl)

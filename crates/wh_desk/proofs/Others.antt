@@ -2,6 +2,7 @@
 use Rattle.std.proofs.Common.{◌≡◌, ◌≢◌, ⊎_elim, ℕ, ℤ, zero, suc, List, [], ◌∷◌, ◌++◌, length, Option, Some, None, get_or, refl, sym, ap, subst, ◌∙◌, arith}
 use Rattle.std.proofs.lemmas.List.{get_or-set_other}
 use Rattle.wh_space_model.specs.declared.plain.InstId.{InstId}
+use Rattle.wh_space_model.specs.declared.plain.SwapError.{SwapError}
 use Rattle.wh_space_model.specs.{Space, view}
 use Rattle.wh_host_model.specs.{Params, Quota, with_quota}
 use Rattle.wh_host_model.specs.Host.{Tenant as Instance, Loaded, World, loaded_of, promised, tenant, with_tenant, IsLive, IsInvoke, InvokeAnswer, is_invoked, has_no_instance, isnt_invoked, no_memory_to_invoke, CallAnswer, IsRefuel, is_refueled, no_one_to_refuel, no_call_to_refuel, IsCancel, is_cancelled, no_one_to_cancel, no_call_to_cancel, IsRetry, is_retried, no_one_to_retry, no_fault_to_retry, IsRelease, is_released, no_one_to_release, IsLoad, LoadAnswer, is_loaded, isnt_loaded, no_memory_to_load, IsAdmit, AdmitAnswer, is_admitted, isnt_admitted, no_memory_to_admit, IsFork, ForkAnswer, is_forked, no_one_to_fork, isnt_forked, no_memory_to_fork, IsUnload, UnloadAnswer, is_unloaded, no_module_to_unload, is_in_use, ComesAbout, Cancels}
@@ -17,7 +18,7 @@ use Rattle.wh_desk.specs.declared.principal.Principal.{Principal}
 use Rattle.wh_desk.specs.declared.principal.Principal.TheVariants.{Operator, Tenant}
 use Rattle.wh_desk.specs.declared.request.DeskReply.{DeskReply}
 use Rattle.wh_desk.specs.declared.trace.Question.{Question}
-use Rattle.wh_desk.specs.declared.trace.Question.TheVariants.{Load, Unload, Admit, Fork, Invoke, Refuel, Cancel, Retry, Release, BeginEpoch, Status, Report, Transcript}
+use Rattle.wh_desk.specs.declared.trace.Question.TheVariants.{Load, Unload, Admit, Fork, Invoke, InvokeAt, Refuel, Cancel, Retry, Release, BeginEpoch, Status, Report, Transcript, Output, Ends, Exports, Read}
 use Rattle.wh_desk.specs.declared.trace.TraceEntry.{TraceEntry}
 use Rattle.wh_desk.specs.Others.{KeepsOthers, KeepsOthersOf}
 use Rattle.wh_desk.specs.Permits.{IsModuleOf, IsTenants, MayAsk, OwnershipState, Permits}
@@ -215,6 +216,8 @@ asked owned t (Admit of params) reply h h2 may a =
     all_keep owned t h h2 (λ w is. let x = a.2 w is in (x.1, x.4, admitted w x.1 of.number (view_params params) x.0 x.4.comes x.3))
 asked owned t (Invoke id name given fuel) reply h h2 may a =
     others_keep owned t id h h2 may (λ w is. let x = a.2 w is in (x.1, x.4, invoked w x.1 id name given fuel x.0 x.3))
+asked owned t (InvokeAt id at given fuel) reply h h2 may a =
+    others_keep owned t id h h2 may (λ w is. let x = a.2 w is in (x.3, x.6, invoked w x.3 id x.0 given fuel x.2 x.5))
 asked owned t (Refuel id fuel) reply h h2 may a =
     others_keep owned t id h h2 may (λ w is. let x = a.2 w is in (x.1, x.4, refueled w x.1 id fuel x.0 x.3))
 asked owned t (Cancel id) reply h h2 may a =
@@ -227,12 +230,16 @@ asked owned t BeginEpoch reply h h2 may a = absurd may
 asked owned t (Status id at) reply h h2 may a = nothing_done owned t h h2 a.3
 asked owned t Report reply h h2 may a = absurd may
 asked owned t (Transcript id) reply h h2 may a = nothing_done owned t h h2 a.3
+asked owned t (Output id from most) reply h h2 may a = nothing_done owned t h h2 a.3
+asked owned t (Ends id from most) reply h h2 may a = nothing_done owned t h h2 a.3
+asked owned t (Exports of) reply h h2 may a = nothing_done owned t h h2 a.3
+asked owned t (Read id at length) reply h h2 may a = nothing_done owned t h h2 a.3
 
-by_who : {D : Type 0} (owned : OwnershipState) (who : Principal) (e : TraceEntry D) → e.who ≡ who → IsRight owned e → KeepsOthersOf owned who e.at.host e.left.host
-by_who owned Operator e is right = tt
-by_who owned (Tenant t) e is (by_host may answers device) = asked owned t e.question e.reply e.at.host e.left.host (subst (λ who. Permits owned who e.question) is may) answers
-by_who owned (Tenant t) e is (by_refusal may_not reply same) = nothing_done owned t e.at.host e.left.host (ap (λ (z : LeftState _). z.host) same)
+by_who : {D : Type 0} (keeps honest : D → Type 0) (faults : D → List SwapError) (owned : OwnershipState) (who : Principal) (e : TraceEntry D) → e.who ≡ who → IsRight keeps honest faults owned e → KeepsOthersOf owned who e.at.host e.left.host
+by_who keeps honest faults owned Operator e is right = tt
+by_who keeps honest faults owned (Tenant t) e is (by_host may answers device) = asked owned t e.question e.reply e.at.host e.left.host (subst (λ who. Permits owned who e.question) is may) answers
+by_who keeps honest faults owned (Tenant t) e is (by_refusal may_not reply same) = nothing_done owned t e.at.host e.left.host (ap (λ (z : LeftState _). z.host) same)
 
 -- Nor does any reply to a tenant.
-pub others_stay : {D : Type 0} (owned : OwnershipState) (e : TraceEntry D) → IsRight owned e → KeepsOthersOf owned e.who e.at.host e.left.host
-others_stay {D} owned e right = by_who owned e.who e refl right
+pub others_stay : {D : Type 0} (keeps honest : D → Type 0) (faults : D → List SwapError) (owned : OwnershipState) (e : TraceEntry D) → IsRight keeps honest faults owned e → KeepsOthersOf owned e.who e.at.host e.left.host
+others_stay {D} keeps honest faults owned e right = by_who keeps honest faults owned e.who e refl right

@@ -25,7 +25,7 @@ use Rattle.wh_desk.specs.declared.principal.Principal.{Principal}
 use Rattle.wh_desk.specs.declared.request.DeskReply.{DeskReply}
 use Rattle.wh_desk.specs.declared.request.DeskReply.TheVariants as says
 use Rattle.wh_desk.specs.declared.trace.Question.{Question}
-use Rattle.wh_desk.specs.declared.trace.Question.TheVariants.{Load, Unload, Admit, Fork, Invoke, Refuel, Cancel, Retry, Release, BeginEpoch, Status, Report, Transcript}
+use Rattle.wh_desk.specs.declared.trace.Question.TheVariants.{Load, Unload, Admit, Fork, Invoke, InvokeAt, Refuel, Cancel, Retry, Release, BeginEpoch, Status, Report, Transcript, Output, Ends, Exports, Read}
 use Rattle.wh_desk.specs.declared.trace.TraceEntry.{TraceEntry}
 use Rattle.wh_desk.specs.Bounded.{OwnsAll}
 use Rattle.wh_desk.specs.Permits.{OwnershipState, nothing_owned, owned_after, owner_of, refusal}
@@ -74,6 +74,8 @@ module _ (owned : OwnershipState) (h h2 : HostState) (who : Principal) (o : Owns
   asked_owns (Fork id quota) reply a = subst (Owns (Fork id quota)) (sym a.1) (fork_owns id quota a.0 a.2 a.4)
   asked_owns (Invoke id name given fuel) reply a =
       let x = a.2 o.0 o.1 in (x.1, x.4, invoked owned.modules owned.instances o.0 x.1 id name given fuel x.0 x.3 o.2)
+  asked_owns (InvokeAt id at given fuel) reply a =
+      let x = a.2 o.0 o.1 in (x.3, x.6, invoked owned.modules owned.instances o.0 x.3 id x.0 given fuel x.2 x.5 o.2)
   asked_owns (Refuel id fuel) reply a =
       let x = a.2 o.0 o.1 in (x.1, x.4, refueled owned.modules owned.instances o.0 x.1 id fuel x.0 x.3 o.2)
   asked_owns (Cancel id) reply a =
@@ -86,6 +88,10 @@ module _ (owned : OwnershipState) (h h2 : HostState) (who : Principal) (o : Owns
   asked_owns (Status id at) reply a = subst (OwnsAll owned) (sym a.3) o
   asked_owns Report reply a = subst (OwnsAll owned) (sym a.4) o
   asked_owns (Transcript id) reply a = subst (OwnsAll owned) (sym a.3) o
+  asked_owns (Output id from most) reply a = subst (OwnsAll owned) (sym a.3) o
+  asked_owns (Ends id from most) reply a = subst (OwnsAll owned) (sym a.3) o
+  asked_owns (Exports of) reply a = subst (OwnsAll owned) (sym a.3) o
+  asked_owns (Read id at length) reply a = subst (OwnsAll owned) (sym a.3) o
 
 -- a refusal gives nobody anything
 refused_owns : (who : Principal) (question : Question) (owned : OwnershipState) → owned_after who question (refusal question) owned ≡ owned
@@ -94,6 +100,7 @@ refused_owns who (Unload of) owned = refl
 refused_owns who (Admit of params) owned = refl
 refused_owns who (Fork id quota) owned = refl
 refused_owns who (Invoke id name given fuel) owned = refl
+refused_owns who (InvokeAt id at given fuel) owned = refl
 refused_owns who (Refuel id fuel) owned = refl
 refused_owns who (Cancel id) owned = refl
 refused_owns who (Retry id) owned = refl
@@ -102,11 +109,15 @@ refused_owns who BeginEpoch owned = refl
 refused_owns who (Status id at) owned = refl
 refused_owns who Report owned = refl
 refused_owns who (Transcript id) owned = refl
+refused_owns who (Output id from most) owned = refl
+refused_owns who (Ends id from most) owned = refl
+refused_owns who (Exports of) owned = refl
+refused_owns who (Read id at length) owned = refl
 
 -- nor does any reply leave it otherwise
-pub replied_owns : {D : Type 0} (owned : OwnershipState) (e : TraceEntry D) → IsRight owned e → OwnsAll owned e.at.host → OwnsAll (owned_after e.who e.question e.reply owned) e.left.host
-replied_owns owned e (by_host may replies device) o = asked_owns owned e.at.host e.left.host e.who o e.question e.reply replies
-replied_owns owned e (by_refusal may_not reply same) o =
+pub replied_owns : {D : Type 0} (keeps honest : D → Type 0) (faults : D → List SwapError) (owned : OwnershipState) (e : TraceEntry D) → IsRight keeps honest faults owned e → OwnsAll owned e.at.host → OwnsAll (owned_after e.who e.question e.reply owned) e.left.host
+replied_owns keeps honest faults owned e (by_host may replies device) o = asked_owns owned e.at.host e.left.host e.who o e.question e.reply replies
+replied_owns keeps honest faults owned e (by_refusal may_not reply same) o =
     subst (λ (z : DeskReply). OwnsAll (owned_after e.who e.question z owned) e.left.host) (sym reply)
     (subst (λ (z : OwnershipState). OwnsAll z e.left.host) (sym (refused_owns e.who e.question owned))
     (subst (λ (z : LeftState _). OwnsAll owned z.host) (sym same) o))

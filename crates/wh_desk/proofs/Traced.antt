@@ -58,11 +58,11 @@ module _ {D : Type 0} where
 module _ {D : Type 0} (held : D → List (List ℕ)) (keeps honest : D → Type 0) (faults : D → List SwapError) where
   pub follows_so : (t : Trace D) (e : TraceEntry D) (l : LockedState D) (owner : LeftState D) (owned : OwnershipState)
       → owner ≡ left_by t.first t.entries → owned ≡ owned_in t.entries → IsInStep held keeps honest faults l → e.at ≡ now_of l
-      → ComesOn keeps honest faults owner (now_of l) → IsRight owned e → Follows keeps honest faults t.first t.entries e
+      → ComesOn keeps honest faults owner (now_of l) → IsRight keeps honest faults owned e → Follows keeps honest faults t.first t.entries e
   follows_so t e l owner owned is_owner is_owned found at came right = record {
     came = subst (λ (z : LeftState D). ComesOn keeps honest faults z e.at) is_owner (subst (ComesOn keeps honest faults owner) (sym at) came);
     led = subst (IsLedThere honest) (sym at) (record { device = found.device; has = found.agrees.has; led = found.led });
-    right = subst (λ (z : OwnershipState). IsRight z e) is_owned right;
+    right = subst (λ (z : OwnershipState). IsRight keeps honest faults z e) is_owned right;
   }
 
 module _ {D : Type 0} (keeps honest : D → Type 0) (faults : D → List SwapError) where
@@ -79,7 +79,7 @@ module _ {D : Type 0} (keeps honest : D → Type 0) (faults : D → List SwapErr
   pub replies_so : (t t2 : Trace D) (e : TraceEntry D) → Follows keeps honest faults t.first t.entries e → t2 ≡ with_entry e t
       → Replies keeps honest faults t e.who e.question e.reply t2
   replies_so t t2 e follows is =
-      record { at = e.at; left = e.left; entered = is; follows = follows; own = others_stay (owned_in t.entries) e follows.right }
+      record { at = e.at; left = e.left; entered = is; follows = follows; own = others_stay keeps honest faults (owned_in t.entries) e follows.right }
 
   pub begins_so : (t : Trace D) (first : LeftState D) → t ≡ trace_from first
       → (frames slots : ℕ) × (tax : Tax) × IsNewHost first.host frames slots tax → IsTrace keeps honest faults t

@@ -6,7 +6,7 @@ use Rattle.wh_host_model.specs.Host.Happens.{NoInstance}
 use Rattle.wh_host.specs.declared.parts.ModuleId.{ModuleId}
 use Rattle.wh_host.specs.Hosting.{HostState, IsHost}
 use Rattle.wh_desk.specs.declared.trace.Question.{Question}
-use Rattle.wh_desk.specs.declared.trace.Question.TheVariants.{Load, Unload, Admit, Fork, Invoke, Refuel, Cancel, Retry, Release, BeginEpoch, Status, Report, Transcript}
+use Rattle.wh_desk.specs.declared.trace.Question.TheVariants.{Load, Unload, Admit, Fork, Invoke, InvokeAt, Refuel, Cancel, Retry, Release, BeginEpoch, Status, Report, Transcript, Output, Ends, Exports, Read}
 use Rattle.wh_desk.specs.Permits.{refusal}
 use Rattle.wh_desk.specs.Replying.{HostReplies}
 
@@ -17,6 +17,7 @@ IsAbout (Unload of) id = ⊥
 IsAbout (Admit of params) id = ⊥
 IsAbout (Fork asked quota) id = asked ≡ id
 IsAbout (Invoke asked name given fuel) id = asked ≡ id
+IsAbout (InvokeAt asked at given fuel) id = asked ≡ id
 IsAbout (Refuel asked fuel) id = asked ≡ id
 IsAbout (Cancel asked) id = asked ≡ id
 IsAbout (Retry asked) id = asked ≡ id
@@ -25,11 +26,16 @@ IsAbout BeginEpoch id = ⊥
 IsAbout (Status asked at) id = asked ≡ id
 IsAbout Report id = ⊥
 IsAbout (Transcript asked) id = asked ≡ id
+IsAbout (Output asked from most) id = asked ≡ id
+IsAbout (Ends asked from most) id = asked ≡ id
+IsAbout (Exports of) id = ⊥
+IsAbout (Read asked at length) id = asked ≡ id
 
 -- the question is for this module
 abbrev pub IsForModule : Question → ModuleId → Type 0
 IsForModule (Unload asked) of = asked ≡ of
 IsForModule (Admit asked params) of = asked ≡ of
+IsForModule (Exports asked) of = asked ≡ of
 IsForModule question of = ⊥
 
 -- Where there is no such instance, a host replies what a desk replies to who may not ask about it.

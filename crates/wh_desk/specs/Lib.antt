@@ -1,6 +1,7 @@
 pub mod AsNone
 pub mod Bounded
 pub mod Others
+pub mod OwnCopies
 pub mod Permits
 pub mod Questions
 pub mod Replying

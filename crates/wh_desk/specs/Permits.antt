@@ -6,13 +6,16 @@ use Rattle.wh_host.specs.declared.error.HostError.TheVariants.{NoInstance}
 use Rattle.wh_host.specs.declared.error.UnloadError.TheVariants as unloading
 use Rattle.wh_admit.specs.declared.error.AdmitError.TheVariants.{NoModule}
 use Rattle.wh_admit.specs.declared.fork_error.ForkError.TheVariants as forking
+use Rattle.wh_host.specs.declared.error.ReadError.TheVariants as reading
+use Rattle.wh_desk.specs.declared.error.DeskReadError.TheVariants.{Host}
+use Rattle.wh_desk.specs.declared.error.ExportsError.TheVariants as exporting
 use Rattle.wh_desk.specs.declared.principal.Principal.{Principal}
 use Rattle.wh_desk.specs.declared.principal.Principal.TheVariants.{Operator, Tenant}
 use Rattle.wh_desk.specs.declared.ownership.OwnedInstance.{OwnedInstance}
 use Rattle.wh_desk.specs.declared.ownership.OwnedModule.{OwnedModule}
 use Rattle.wh_desk.specs.declared.ownership.Ownership.{Ownership}
 use Rattle.wh_desk.specs.declared.trace.Question.{Question}
-use Rattle.wh_desk.specs.declared.trace.Question.TheVariants.{Load, Unload, Admit, Fork, Invoke, Refuel, Cancel, Retry, Release, BeginEpoch, Status, Report, Transcript}
+use Rattle.wh_desk.specs.declared.trace.Question.TheVariants.{Load, Unload, Admit, Fork, Invoke, InvokeAt, Refuel, Cancel, Retry, Release, BeginEpoch, Status, Report, Transcript, Output, Ends, Exports, Read}
 use Rattle.wh_desk.specs.declared.request.DeskReply.{DeskReply}
 use Rattle.wh_desk.specs.declared.request.DeskReply.TheVariants as says
 
@@ -69,14 +72,15 @@ IsModuleOf owned who of = Contains owned.modules (record { id = of; owner = who 
 abbrev pub MayAdmit : OwnershipState → ℕ → ModuleId → Type 0
 MayAdmit owned t of = IsModuleOf owned (Tenant t) of ⊎ IsModuleOf owned Operator of
 
--- What a tenant may ask: for a module; that one of its own goes; for an instance of its own modules and of the operator's; and
--- whatever is asked of its own instances, a copy too. Epochs and the report on the whole are the operator's.
+-- What a tenant may ask: for a module; that one of its own goes; for an instance of its own modules and of the operator's, and what
+-- these export; and whatever is asked of its own instances, a copy too. Epochs and the report on the whole are the operator's.
 abbrev pub MayAsk : OwnershipState → ℕ → Question → Type 0
 MayAsk owned t (Load bytes) = ⊤
 MayAsk owned t (Unload of) = IsModuleOf owned (Tenant t) of
 MayAsk owned t (Admit of params) = MayAdmit owned t of
 MayAsk owned t (Fork id quota) = IsTenants owned t id
 MayAsk owned t (Invoke id name given fuel) = IsTenants owned t id
+MayAsk owned t (InvokeAt id at given fuel) = IsTenants owned t id
 MayAsk owned t (Refuel id fuel) = IsTenants owned t id
 MayAsk owned t (Cancel id) = IsTenants owned t id
 MayAsk owned t (Retry id) = IsTenants owned t id
@@ -85,6 +89,10 @@ MayAsk owned t BeginEpoch = ⊥
 MayAsk owned t (Status id at) = IsTenants owned t id
 MayAsk owned t Report = ⊥
 MayAsk owned t (Transcript id) = IsTenants owned t id
+MayAsk owned t (Output id from most) = IsTenants owned t id
+MayAsk owned t (Ends id from most) = IsTenants owned t id
+MayAsk owned t (Exports of) = MayAdmit owned t of
+MayAsk owned t (Read id at length) = IsTenants owned t id
 
 -- the operator may ask for everything
 abbrev pub Permits : OwnershipState → Principal → Question → Type 0
@@ -99,6 +107,7 @@ refusal (Unload of) = says.Unloaded (Err unloading.NoModule)
 refusal (Admit of params) = says.Admitted (Err NoModule)
 refusal (Fork id quota) = says.Forked (Err forking.NoInstance)
 refusal (Invoke id name given fuel) = says.Invoked (Err NoInstance)
+refusal (InvokeAt id at given fuel) = says.Invoked (Err NoInstance)
 refusal (Refuel id fuel) = says.Done (Err NoInstance)
 refusal (Cancel id) = says.Done (Err NoInstance)
 refusal (Retry id) = says.Done (Err NoInstance)
@@ -107,3 +116,7 @@ refusal BeginEpoch = says.NotAllowed
 refusal (Status id at) = says.Status None
 refusal Report = says.NotAllowed
 refusal (Transcript id) = says.Transcript (Err NoInstance)
+refusal (Output id from most) = says.Output (Err NoInstance)
+refusal (Ends id from most) = says.Ends (Err NoInstance)
+refusal (Exports of) = says.Exports (Err exporting.NoModule)
+refusal (Read id at length) = says.Read (Err (Host reading.NoInstance))

@@ -54,7 +54,7 @@ module _ {D : Type 0} (keeps honest : D → Type 0) (faults : D → List SwapErr
   pub record Follows (first : LeftState D) (earlier : List (TraceEntry D)) (e : TraceEntry D) : Type 0 where
     pub came : ComesOn keeps honest faults (left_by first earlier) e.at
     pub led : IsLedThere honest e.at
-    pub right : IsRight (owned_in earlier) e
+    pub right : IsRight keeps honest faults (owned_in earlier) e
 
   -- each reply was, the first having found the host as it began
   abbrev pub AllFollow : LeftState D → List (TraceEntry D) → Type 0

@@ -1,9 +1,10 @@
 //! The desk: answers whoever may ask of a host that lies under a lock.
 
-ghost use Rattle.std.specs.Prelude.{◌≡◌, ◌+◌, ◌<◌, ℕ, IfOk, length};
+ghost use Rattle.std.specs.Prelude.{◌≡◌, ◌+◌, ◌<◌, ℕ, IfOk, IsSome, length};
 ghost use Rattle.wh_space_model.specs.declared.Tax.{Tax};
 ghost use Rattle.wh_host.specs.Hosting.{IsNewHost};
-ghost use Rattle.wh_desk.specs.Questions.{question_of};
+ghost use Rattle.wh_desk.specs.Permits.{Permits, ownership_of};
+ghost use Rattle.wh_desk.specs.Questions.{AsksForBytes, question_of};
 ghost use Rattle.wh_desk.specs.Tracing.{IsTrace, Replies, left_by, trace_from};
 
 use crate::ownership::Ownership;
@@ -15,9 +16,9 @@ use crate::trace::Trace;
 use std::alloc::{AllocError, Global};
 use std::marker::Model;
 use std::snapshot::Snapshot;
-use std::sync::Wait;
 use std::sync::ledger::{Blank, Book, Ledger, Share};
-use wh_cell::{CellAgreements, HostCell, Owner};
+use std::sync::{MutexGuard, Wait};
+use wh_cell::{Backing, CellAgreements, HostCell, Owner};
 use wh_swap::SwapDev;
 use wh_threads::{AgreementId, BlankAgreement};
 
@@ -41,6 +42,35 @@ pub struct HostDesk<
     ownership: Ownership,
     record: TraceRecord<D, N>,
     replies: Book<N>,
+}
+
+// The lock of the device, where who asks may have bytes read through it: it is taken before that of the host.
+fn lock_device<
+    'a,
+    D: SwapDev,
+    T: Ledger,
+    C: Ledger,
+    O: Ledger,
+    E: Ledger,
+    B: CellAgreements,
+    R: Wait,
+>(
+    rt: &R,
+    cell: &'a HostCell<D, T, C, O, E, B>,
+    ownership: &Ownership,
+    who: Principal,
+    request: &DeskRequest<'_>,
+) -> Option<MutexGuard<'a, Backing<D, B>>>
+    ensures { Permits (ownership_of ownership.now) who (question_of request.now)
+        → AsksForBytes (question_of request.now) → IsSome result }
+{
+    if !ownership.permits(who, request) {
+        return None;
+    }
+    match request {
+        DeskRequest::Read { .. } => Some(cell.lock_device(rt)),
+        _ => None,
+    }
 }
 
 impl<
@@ -170,12 +200,14 @@ impl<
         ensures parts { mine.new.parts ≡ mine.old.parts }
     {
         let asked = Snapshot::of(&request);
+        let device = lock_device(rt, &self.cell, &self.ownership, who, &request);
         let mut guard = self.cell.lock(rt);
         let locked = &mut *guard;
         locked.sync_owner(&mut self.owner);
         let at = Snapshot::of(&self.owner);
         let reply = respond(
             locked,
+            device,
             &mut self.owner,
             &mut self.ownership,
             who,

@@ -6,11 +6,12 @@ ghost use Rattle.wh_desk.specs.Bounded.{HasRoomToOwn};
 ghost use Rattle.wh_desk.specs.Permits.{IsModuleOf, IsTenants, MayAdmit, MayAsk, Permits, nothing_owned, owner_of, ownership_of, refusal};
 ghost use Rattle.wh_desk.specs.Questions.{question_of};
 
+use crate::error::{DeskReadError, ExportsError};
 use crate::principal::Principal;
 use crate::request::{DeskReply, DeskRequest};
 use std::alloc::{AllocError, Global};
 use wh_admit::MOST_INSTANCES;
-use wh_host::{AdmitError, ForkError, HostError, MOST_MODULES, ModuleId, UnloadError};
+use wh_host::{AdmitError, ForkError, HostError, MOST_MODULES, ModuleId, ReadError, UnloadError};
 use wh_space_model::InstId;
 
 /// A module that is there, and whose it is: whoever's asked for it.
@@ -86,6 +87,7 @@ impl Ownership {
             DeskRequest::Admit { of, .. } => self.may_admit(t, *of),
             DeskRequest::Fork { id, .. } => self.is_tenants(t, *id),
             DeskRequest::Invoke { id, .. } => self.is_tenants(t, *id),
+            DeskRequest::InvokeAt { id, .. } => self.is_tenants(t, *id),
             DeskRequest::Refuel { id, .. } => self.is_tenants(t, *id),
             DeskRequest::Cancel { id } => self.is_tenants(t, *id),
             DeskRequest::Retry { id } => self.is_tenants(t, *id),
@@ -94,6 +96,10 @@ impl Ownership {
             DeskRequest::Status { id, .. } => self.is_tenants(t, *id),
             DeskRequest::Report => false,
             DeskRequest::Transcript { id } => self.is_tenants(t, *id),
+            DeskRequest::Output { id, .. } => self.is_tenants(t, *id),
+            DeskRequest::Ends { id, .. } => self.is_tenants(t, *id),
+            DeskRequest::Exports { of } => self.may_admit(t, *of),
+            DeskRequest::Read { id, .. } => self.is_tenants(t, *id),
         }
     }
 
@@ -133,11 +139,17 @@ pub fn refuse(request: &DeskRequest<'_>) -> DeskReply
         DeskRequest::Unload { .. } => DeskReply::Unloaded(Err(UnloadError::NoModule)),
         DeskRequest::Admit { .. } => DeskReply::Admitted(Err(AdmitError::NoModule)),
         DeskRequest::Fork { .. } => DeskReply::Forked(Err(ForkError::NoInstance)),
-        DeskRequest::Invoke { .. } => DeskReply::Invoked(Err(none)),
+        DeskRequest::Invoke { .. } | DeskRequest::InvokeAt { .. } => DeskReply::Invoked(Err(none)),
         DeskRequest::Refuel { .. } => DeskReply::Done(Err(none)),
         DeskRequest::Cancel { .. } | DeskRequest::Retry { .. } => DeskReply::Done(Err(none)),
         DeskRequest::Release { .. } => DeskReply::Released(Err(none)),
         DeskRequest::Status { .. } => DeskReply::Status(None),
         DeskRequest::Transcript { .. } => DeskReply::Transcript(Err(none)),
+        DeskRequest::Output { .. } => DeskReply::Output(Err(none)),
+        DeskRequest::Ends { .. } => DeskReply::Ends(Err(none)),
+        DeskRequest::Exports { .. } => DeskReply::Exports(Err(ExportsError::NoModule)),
+        DeskRequest::Read { .. } => DeskReply::Read(Err(DeskReadError::Host(
+            ReadError::NoInstance,
+        ))),
     }
 }

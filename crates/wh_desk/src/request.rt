@@ -1,5 +1,7 @@
 // What a desk is asked, and what it replies.
 
+use crate::copying::DeskExport;
+use crate::error::{DeskReadError, ExportsError};
 use std::alloc::Global;
 use wh_host::{
     AdmitError, CallStatus, ForkError, HostError, ModuleError, ModuleId, Params, Quota, Report,
@@ -37,6 +39,13 @@ pub enum DeskRequest<'a> {
         given: &'a [i128],
         fuel: u64,
     },
+    /// Asks for a call as `Invoke` does, of the function at place `at`, from 0 on, of those that an instance's module exports.
+    InvokeAt {
+        id: InstId,
+        at: usize,
+        given: &'a [i128],
+        fuel: u64,
+    },
     /// Asks for `fuel` charges to be added to an instance's present call.
     Refuel {
         id: InstId,
@@ -67,6 +76,30 @@ pub enum DeskRequest<'a> {
     Transcript {
         id: InstId,
     },
+    /// Asks for what an instance has put out so far: at most `most` bytes, from the one at place `from` on, the first being at 0.
+    Output {
+        id: InstId,
+        from: usize,
+        most: usize,
+    },
+    /// Asks how calls of an instance have ended: at most `most` of those that have, from place `from` of its journal on, the start
+    /// being at 0.
+    Ends {
+        id: InstId,
+        from: usize,
+        most: usize,
+    },
+    /// Asks for the functions that a module exports. A tenant may ask of a module of which it may have instances.
+    Exports {
+        of: ModuleId,
+    },
+    /// Asks for `length` bytes of an instance's memory, from the one at address `at` on, as the instance sees them now; 65536 at
+    /// most.
+    Read {
+        id: InstId,
+        at: u64,
+        length: usize,
+    },
 }
 
 /// Is what a desk replies.
@@ -80,7 +113,7 @@ pub enum DeskReply {
     Admitted(Result<InstId, AdmitError>),
     /// To `Fork`: the copy, or why there is none.
     Forked(Result<InstId, ForkError>),
-    /// To `Invoke`: the call's place in the journal, or why it isn't taken.
+    /// To `Invoke` and `InvokeAt`: the call's place in the journal, or why it isn't taken.
     Invoked(Result<u32, HostError>),
     /// To `Refuel`, `Cancel` and `Retry`: that it is done, or why it isn't.
     Done(Result<(), HostError>),
@@ -94,6 +127,14 @@ pub enum DeskReply {
     Report(Result<Report, HostError>),
     /// To `Transcript`: what was asked of the instance, and its calls.
     Transcript(Result<Transcript, HostError>),
+    /// To `Output`: the bytes, in order; none from the end on.
+    Output(Result<Vec<u8>, HostError>),
+    /// To `Ends`: how far each of these calls is, in order.
+    Ends(Result<Vec<CallStatus>, HostError>),
+    /// To `Exports`: all that the module exports, in order.
+    Exports(Result<Vec<DeskExport>, ExportsError>),
+    /// To `Read`: the bytes, in order, or why they aren't read.
+    Read(Result<Vec<u8>, DeskReadError>),
     /// To what the operator alone may ask: nothing was done.
     NotAllowed,
 }

@@ -1,24 +1,27 @@
 // One request, under the lock.
 
-ghost use Rattle.std.specs.Prelude.{◌≡◌, OnErr};
+ghost use Rattle.std.specs.Prelude.{◌≡◌, IsSome, OnErr};
 ghost use Rattle.wh_cell.specs.Locking.{now_of};
 ghost use Rattle.wh_desk.specs.Bounded.{HasRoomToOwn, OwnsAll};
 ghost use Rattle.wh_desk.specs.Permits.{Permits, owned_after, ownership_of};
-ghost use Rattle.wh_desk.specs.Questions.{question_of};
-ghost use Rattle.wh_desk.specs.Replying.{IsRight};
+ghost use Rattle.wh_desk.specs.Questions.{ChangesCalls, AsksForBytes, OnlyLooks, question_of};
+ghost use Rattle.wh_desk.specs.Replying.{HostReplies, IsRight};
 ghost use Rattle.wh_desk.specs.Tracing.{entry};
 ghost use Rattle.wh_desk.specs.declared.request.DeskReply.TheVariants.{Admitted, Forked, Loaded, Released, Unloaded};
 ghost use Rattle.wh_desk.specs.declared.trace.Question.TheVariants as asked;
 
+use crate::copying::{ends, exports, output_from};
 use crate::ownership::{OwnedInstance, OwnedModule, Ownership, refuse};
 use crate::principal::Principal;
+use crate::reading::read;
 use crate::request::{DeskReply, DeskRequest};
 use std::alloc::Global;
+use std::sync::MutexGuard;
 use std::sync::ledger::Ledger;
-use wh_cell::{CellAgreements, Locked, Owner};
+use wh_cell::{Backing, CellAgreements, Locked, Owner};
 use wh_host::{
-    Admit, AdmitError, BeginEpoch, Cancel, Fork, ForkError, HostError, Invoke, Load, ModuleError,
-    ModuleId, Refuel, Release, Request, Retry, Unload, UnloadError,
+    Admit, AdmitError, BeginEpoch, Cancel, Fork, ForkError, Host, HostError, Invoke, InvokeAt,
+    Load, ModuleError, ModuleId, Refuel, Release, Request, Retry, Unload, UnloadError,
 };
 use wh_space_model::InstId;
 use wh_swap::SwapDev;
@@ -50,7 +53,7 @@ fn load<D: SwapDev, T: Ledger, C: Ledger, O: Ledger, E: Ledger, B: CellAgreement
     requires owns { OwnsAll (ownership_of ownership.old) owner.old.host }
     requires room { HasRoomToOwn ownership.old }
     requires permitted { Permits (ownership_of ownership.old) who (asked.Load request.bytes.now) }
-    ensures right { IsRight (ownership_of ownership.old)
+    ensures right { IsRight D.keeps D.honest D.faults (ownership_of ownership.old)
         (entry who (asked.Load request.entry.bytes.now) (Loaded result) owner.old owner.new) }
     ensures owned { ownership_of ownership.new ≡ owned_after who (asked.Load request.entry.bytes.now)
         (Loaded result) (ownership_of ownership.old) }
@@ -74,7 +77,7 @@ fn unload<D: SwapDev, T: Ledger, C: Ledger, O: Ledger, E: Ledger, B: CellAgreeme
     requires known { owner.old ≡ now_of locked.old }
     requires room { HasRoomToOwn ownership.old }
     requires permitted { Permits (ownership_of ownership.old) who (asked.Unload request.id) }
-    ensures right { IsRight (ownership_of ownership.old)
+    ensures right { IsRight D.keeps D.honest D.faults (ownership_of ownership.old)
         (entry who (asked.Unload request.id) (Unloaded result) owner.old owner.new) }
     ensures owned { ownership_of ownership.new ≡ owned_after who (asked.Unload request.id)
         (Unloaded result) (ownership_of ownership.old) }
@@ -99,7 +102,7 @@ fn admit<D: SwapDev, T: Ledger, C: Ledger, O: Ledger, E: Ledger, B: CellAgreemen
     requires room { HasRoomToOwn ownership.old }
     requires permitted { Permits (ownership_of ownership.old) who
         (asked.Admit request.of request.params) }
-    ensures right { IsRight (ownership_of ownership.old)
+    ensures right { IsRight D.keeps D.honest D.faults (ownership_of ownership.old)
         (entry who (asked.Admit request.of request.params) (Admitted result) owner.old owner.new) }
     ensures owned { ownership_of ownership.new ≡ owned_after who
         (asked.Admit request.of request.params) (Admitted result) (ownership_of ownership.old) }
@@ -125,7 +128,7 @@ fn fork<D: SwapDev, T: Ledger, C: Ledger, O: Ledger, E: Ledger, B: CellAgreement
     requires room { HasRoomToOwn ownership.old }
     requires permitted { Permits (ownership_of ownership.old) who
         (asked.Fork request.id request.quota) }
-    ensures right { IsRight (ownership_of ownership.old)
+    ensures right { IsRight D.keeps D.honest D.faults (ownership_of ownership.old)
         (entry who (asked.Fork request.id request.quota) (Forked result) owner.old owner.new) }
     ensures owned { ownership_of ownership.new ≡ owned_after who
         (asked.Fork request.id request.quota) (Forked result) (ownership_of ownership.old) }
@@ -151,7 +154,7 @@ fn release<D: SwapDev, T: Ledger, C: Ledger, O: Ledger, E: Ledger, B: CellAgreem
     requires owns { OwnsAll (ownership_of ownership.old) owner.old.host }
     requires room { HasRoomToOwn ownership.old }
     requires permitted { Permits (ownership_of ownership.old) who (asked.Release request.id) }
-    ensures right { IsRight (ownership_of ownership.old)
+    ensures right { IsRight D.keeps D.honest D.faults (ownership_of ownership.old)
         (entry who (asked.Release request.id) (Released result) owner.old owner.new) }
     ensures owned { ownership_of ownership.new ≡ owned_after who (asked.Release request.id)
         (Released result) (ownership_of ownership.old) }
@@ -163,9 +166,94 @@ fn release<D: SwapDev, T: Ledger, C: Ledger, O: Ledger, E: Ledger, B: CellAgreem
     Ok(output)
 }
 
-/// Replies to a request, and keeps whose is what then.
+// Has the host begin an epoch, which it never refuses.
+fn begin_epoch<D: SwapDev, T: Ledger, C: Ledger, O: Ledger, E: Ledger, B: CellAgreements>(
+    locked: &mut Locked<D, T, C, O, E, B>,
+    owner: &mut Owner<D, B>,
+) -> DeskReply
+    requires known { owner.old ≡ now_of locked.old }
+    ensures replies { HostReplies owner.old.host asked.BeginEpoch result owner.new.host }
+    ensures device { owner.new.device ≡ owner.old.device }
+{
+    let _ = ask(locked, owner, BeginEpoch);
+    DeskReply::Begun
+}
+
+// Has the host do what is asked about calls of an instance, or begin an epoch.
+fn change<D: SwapDev, T: Ledger, C: Ledger, O: Ledger, E: Ledger, B: CellAgreements>(
+    locked: &mut Locked<D, T, C, O, E, B>,
+    owner: &mut Owner<D, B>,
+    alloc: Global,
+    request: DeskRequest<'_>,
+) -> DeskReply
+    requires known { owner.old ≡ now_of locked.old }
+    requires changes { ChangesCalls (question_of request) }
+    ensures replies { HostReplies owner.old.host (question_of request.entry) result owner.new.host }
+    ensures device { owner.new.device ≡ owner.old.device }
+{
+    match request {
+        DeskRequest::Invoke {
+            id,
+            name,
+            given,
+            fuel,
+        } => {
+            let request = Invoke {
+                alloc,
+                id,
+                name,
+                given,
+                fuel,
+            };
+            DeskReply::Invoked(ask(locked, owner, request))
+        }
+        DeskRequest::InvokeAt {
+            id,
+            at,
+            given,
+            fuel,
+        } => {
+            let request = InvokeAt {
+                alloc,
+                id,
+                at,
+                given,
+                fuel,
+            };
+            DeskReply::Invoked(ask(locked, owner, request))
+        }
+        DeskRequest::Refuel { id, fuel } => {
+            DeskReply::Done(ask(locked, owner, Refuel { id, fuel }))
+        }
+        DeskRequest::Cancel { id } => DeskReply::Done(ask(locked, owner, Cancel { id })),
+        DeskRequest::Retry { id } => DeskReply::Done(ask(locked, owner, Retry { id })),
+        DeskRequest::BeginEpoch => begin_epoch(locked, owner),
+        _ => unreachable!(),
+    }
+}
+
+// Tells what is asked of the host, which is only looked at.
+fn look(host: &Host, alloc: Global, request: DeskRequest<'_>) -> DeskReply
+    requires looks { OnlyLooks (question_of request) }
+    ensures { HostReplies host.now (question_of request.entry) result host.now }
+{
+    match request {
+        DeskRequest::Status { id, at } => DeskReply::Status(host.call_status(id, at)),
+        DeskRequest::Report => DeskReply::Report(host.report(alloc)),
+        DeskRequest::Transcript { id } => DeskReply::Transcript(host.transcript(alloc, id)),
+        DeskRequest::Output { id, from, most } => {
+            DeskReply::Output(output_from(alloc, host, id, from, most))
+        }
+        DeskRequest::Ends { id, from, most } => DeskReply::Ends(ends(alloc, host, id, from, most)),
+        DeskRequest::Exports { of } => DeskReply::Exports(exports(alloc, host, of)),
+        _ => unreachable!(),
+    }
+}
+
+/// Replies to a request, and keeps whose is what then. A read has the lock of the device too.
 pub fn respond<D: SwapDev, T: Ledger, C: Ledger, O: Ledger, E: Ledger, B: CellAgreements>(
     locked: &mut Locked<D, T, C, O, E, B>,
+    device: Option<MutexGuard<'_, Backing<D, B>>>,
     owner: &mut Owner<D, B>,
     ownership: &mut Ownership,
     who: Principal,
@@ -173,9 +261,11 @@ pub fn respond<D: SwapDev, T: Ledger, C: Ledger, O: Ledger, E: Ledger, B: CellAg
     request: DeskRequest<'_>,
 ) -> DeskReply
     requires known { owner.old ≡ now_of locked.old }
+    requires device { Permits (ownership_of ownership.old) who (question_of request)
+        → AsksForBytes (question_of request) → IsSome device }
     requires owns { OwnsAll (ownership_of ownership.old) owner.old.host }
     requires room { HasRoomToOwn ownership.old }
-    ensures right { IsRight (ownership_of ownership.old)
+    ensures right { IsRight D.keeps D.honest D.faults (ownership_of ownership.old)
         (entry who (question_of request.entry) result owner.old owner.new) }
     ensures owned { ownership_of ownership.new ≡ owned_after who (question_of request.entry) result
         (ownership_of ownership.old) }
@@ -201,36 +291,23 @@ pub fn respond<D: SwapDev, T: Ledger, C: Ledger, O: Ledger, E: Ledger, B: CellAg
             let request = Fork { alloc, id, quota };
             DeskReply::Forked(fork(locked, owner, ownership, who, request))
         }
-        DeskRequest::Invoke {
-            id,
-            name,
-            given,
-            fuel,
-        } => {
-            let request = Invoke {
-                alloc,
-                id,
-                name,
-                given,
-                fuel,
-            };
-            DeskReply::Invoked(ask(locked, owner, request))
-        }
-        DeskRequest::Refuel { id, fuel } => {
-            DeskReply::Done(ask(locked, owner, Refuel { id, fuel }))
-        }
-        DeskRequest::Cancel { id } => DeskReply::Done(ask(locked, owner, Cancel { id })),
-        DeskRequest::Retry { id } => DeskReply::Done(ask(locked, owner, Retry { id })),
         DeskRequest::Release { id } => {
-            let request = Release { alloc, id };
-            DeskReply::Released(release(locked, owner, ownership, who, request))
+            DeskReply::Released(release(locked, owner, ownership, who, Release { alloc, id }))
         }
-        DeskRequest::BeginEpoch => {
-            let _ = ask(locked, owner, BeginEpoch);
-            DeskReply::Begun
+        DeskRequest::Invoke { .. }
+        | DeskRequest::InvokeAt { .. }
+        | DeskRequest::Refuel { .. }
+        | DeskRequest::Cancel { .. }
+        | DeskRequest::Retry { .. }
+        | DeskRequest::BeginEpoch => change(locked, owner, alloc, request),
+        DeskRequest::Status { .. }
+        | DeskRequest::Report
+        | DeskRequest::Transcript { .. }
+        | DeskRequest::Output { .. }
+        | DeskRequest::Ends { .. }
+        | DeskRequest::Exports { .. } => look(locked.host(), alloc, request),
+        DeskRequest::Read { id, at, length } => {
+            DeskReply::Read(read(locked, device, owner, alloc, id, at, length))
         }
-        DeskRequest::Status { id, at } => DeskReply::Status(locked.host().call_status(id, at)),
-        DeskRequest::Report => DeskReply::Report(locked.host().report(alloc)),
-        DeskRequest::Transcript { id } => DeskReply::Transcript(locked.transcript(alloc, id)),
     }
 }

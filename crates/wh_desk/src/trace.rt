@@ -30,6 +30,12 @@ pub enum Question {
         given: LinkedList<i128>,
         fuel: u64,
     },
+    InvokeAt {
+        id: InstId,
+        at: usize,
+        given: LinkedList<i128>,
+        fuel: u64,
+    },
     Refuel {
         id: InstId,
         fuel: u64,
@@ -51,6 +57,24 @@ pub enum Question {
     Report,
     Transcript {
         id: InstId,
+    },
+    Output {
+        id: InstId,
+        from: usize,
+        most: usize,
+    },
+    Ends {
+        id: InstId,
+        from: usize,
+        most: usize,
+    },
+    Exports {
+        of: ModuleId,
+    },
+    Read {
+        id: InstId,
+        at: u64,
+        length: usize,
     },
 }
 

@@ -6,3 +6,4 @@ mod Standing
 mod Goers
 mod Asked
 mod Steps
+mod ReadHere

@@ -6,3 +6,4 @@ pub mod Moved
 pub mod HandStates
 pub mod Stored
 pub mod ReleasedOutputs
+pub mod HandReads

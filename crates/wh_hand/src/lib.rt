@@ -11,16 +11,18 @@ mod going;
 mod hand;
 mod line;
 mod offer_pace;
+mod reading;
 mod releasing;
 mod running;
 mod sharing;
 mod telling;
 
 pub use hand::Hand;
+pub use reading::BytesError;
 pub use running::Ran;
 pub use wh_host::{
-    AdmitError, CallRequest, CallStatus, CallValue, Cancel, ForkError, HostError, InstanceReport,
-    Invoke, ModuleError, ModuleId, Params, Quota, Refuel, Report, Retry, Suspension, Transcript,
-    UnloadError,
+    AdmitError, CallRequest, CallStatus, CallValue, Cancel, ExportedFunc, ForkError, HostError,
+    HostUsage, InstanceReport, Invoke, InvokeAt, ModuleError, ModuleId, Params, Quota, Refuel,
+    Report, Retry, Suspension, Transcript, UnloadError,
 };
 pub use wh_space_model::{InstId, Tax};

@@ -1,14 +1,16 @@
 //! What a hand tells of its host.
 
-ghost use Rattle.std.specs.Prelude.{◌≡◌, IfErr, IfOk, option_map};
-ghost use Rattle.wh_host.specs.Reporting.{ReportsHost, view_report};
+ghost use Rattle.std.specs.Prelude.{◌≡◌, IfErr, IfNone, IfOk, IfSome, option_map};
+ghost use Rattle.wh_host.specs.LiveOutputs.{SaysNoInstance, ShowsJournalOutput, ShowsOutput};
+ghost use Rattle.wh_host.specs.ModuleExports.{CountsExports, HasNoExport, ShowsExport};
+ghost use Rattle.wh_host.specs.Reporting.{ReportsHost, ReportsUsage, view_report, view_usage};
 ghost use Rattle.wh_host.specs.Showing.{ShowsInstance};
-ghost use Rattle.wh_host.specs.Telling.{TellsChargesOf, TellsOf};
+ghost use Rattle.wh_host.specs.Telling.{CountsEnded, TellsChargesOf, TellsOf};
 ghost use Rattle.wh_transcript.specs.Transcripts.{IsReplayable};
 
 use crate::hand::Hand;
 use std::alloc::Global;
-use wh_host::{CallStatus, HostError, Report, Transcript};
+use wh_host::{CallStatus, ExportedFunc, HostError, HostUsage, ModuleId, Report, Transcript};
 use wh_space_model::InstId;
 
 impl Hand {
@@ -28,8 +30,53 @@ impl Hand {
         Some((status, charges))
     }
 
-    /// Reports how frames and slots are used and shared, and what each instance has of them, by number. Goes over all
-    /// frames and all pages.
+    /// Returns how many calls of an instance have ended, its start among them; `None` if there is no such instance. Takes O(1),
+    /// and allocates nothing.
+    pub fn ended_calls(&self, id: InstId) -> Option<usize>
+        ensures { CountsEnded self.now.host id result }
+    {
+        self.host.ended_calls(id)
+    }
+
+    /// Returns the bytes that an instance has put out so far, which are those that its journal gives, and which `release` would
+    /// keep. Takes O(1), and allocates nothing.
+    ///
+    /// # Errors
+    /// `NoInstance` if there is no such instance.
+    pub fn output_of(&self, id: InstId) -> Result<&[u8], HostError>
+        ensures shows { IfOk result (λ output. ShowsOutput self.now.host id output.now) }
+        ensures journal { IfOk result (λ output. ShowsJournalOutput self.now.host id output.now) }
+        ensures err { IfErr result (λ error. SaysNoInstance self.now.host id error) }
+    {
+        self.host.output_of(id)
+    }
+
+    /// Returns how many functions a module exports; `None` if there is no such module. It goes over the module's exports, and
+    /// allocates nothing.
+    pub fn export_count(&self, of: ModuleId) -> Option<usize>
+        ensures { CountsExports self.now.host of.number result }
+    {
+        self.host.export_count(of)
+    }
+
+    /// Returns the function at place `at`, from 0 on, of those that a module exports, in the module's order; `None` if there is
+    /// no such module or place. It goes over the module's exports and imports, and allocates nothing.
+    pub fn export_at(&self, of: ModuleId, at: usize) -> Option<ExportedFunc<'_>>
+        ensures some { IfSome result (λ x. ShowsExport self.now.host of.number at x.name.now
+            (record { params = x.params.now; results = x.results.now })) }
+        ensures none { IfNone result (HasNoExport self.now.host of.number at) }
+    {
+        self.host.export_at(of, at)
+    }
+
+    /// Returns how frames and slots are used and shared, and how many instances there are. Takes O(1), and allocates nothing.
+    pub fn usage(&self) -> HostUsage
+        ensures { ReportsUsage self.now.host (view_usage result) }
+    {
+        self.host.usage()
+    }
+
+    /// Reports how frames and slots are used and shared, and what each instance has of them, by number.
     ///
     /// # Errors
     /// `HostError::Memory` if the allocation for the instances fails.

@@ -1,18 +1,15 @@
 -- What keeps tickets, slots, frames and the tax as they are.
-use Rattle.std.proofs.Common.{◌≡◌, ℕ, ◌*◌, ◌==◌, nat_lt, cond, Bool, true, false, List, [], ◌∷◌, length, map, zero, suc, slice_get, Option, Some, None, inl, inr, refl, ap, ◌∙◌, arith, rules}
-use Rattle.wh_model.specs.declared.memory.Need.{Need}
+use Rattle.std.proofs.Common.{◌≡◌, ℕ, ◌*◌, List, [], ◌∷◌, length, map, zero, suc, slice_get, Some, inl, inr, refl, ap, ◌∙◌, arith, rules}
 use Rattle.wh_space_model.specs.declared.states.Offer.{Offer}
 use Rattle.wh_space_model.specs.declared.states.Offer.TheVariants.{Skipped, Zeroed, Hinted, Stale, Merged, FalseMatch}
 use Rattle.wh_space_model.specs.declared.states.Slot.{Slot}
 use Rattle.wh_space_model.specs.declared.states.Slot.TheVariants.{Vacant, Taken, Evicting, EvictVoid, Fetching, FetchVoid}
 use Rattle.wh_space_model.specs.Frames.{Pool}
 use Rattle.wh_space_model.specs.Parts.{Slots}
-use Rattle.wh_space_model.specs.{Claimed, Copies, IsSound, Pass, errand_for, pass_of, has_pins, unpinned, OffersAlone, OffersUnlisted, Space, Exits, released_use, Scans, ended, stood}
+use Rattle.wh_space_model.specs.{Claimed, Copies, IsSound, Pass, errand_for, pass_of, OffersAlone, OffersUnlisted, Space, Exits, released_use, Scans}
 use Rattle.wh_space_model.specs.Offers.{Offers}
 use Rattle.wh_space_model.proofs.Entered.{enters_soundly}
 use Rattle.wh_space_model.proofs.Forked.{IsKept, lent_first}
-use Rattle.wh_instance.specs.declared.stages.TurnResult.{TurnResult}
-use Rattle.wh_instance.specs.declared.stages.TurnResult.TheVariants as turned
 use Rattle.wh_host.specs.Backing.{KeepsBacking}
 
 -- there are as many slots where the same tickets are out

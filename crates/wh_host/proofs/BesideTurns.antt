@@ -1,5 +1,5 @@
 -- A turn of an instance that ran beside others is a turn of the host's definitions, once all is written back.
-use Rattle.std.proofs.Common.{◌≡◌, ◌≢◌, ◌∙◌, inl, inr, ℕ, ◌≤◌, ◌&&◌, Bool, min, Option, List, [], ◌∷◌, refl, sym, ap, subst, arith, rules}
+use Rattle.std.proofs.Common.{◌≡◌, ◌≢◌, ◌∙◌, inl, inr, ℕ, ◌≤◌, Bool, min, Option, List, [], ◌∷◌, refl, sym, ap, subst, arith, rules}
 use Rattle.std.proofs.Math.Nat.{min-eq_left}
 use Rattle.std.proofs.lemmas.Bool.{cases_lt}
 use Rattle.wh_model.specs.declared.memory.Need.{Need}
@@ -21,7 +21,6 @@ use Rattle.wh_instance.specs.Turned.{IsCame}
 use Rattle.wh_instance.specs.declared.computing.TurnOutcome.{TurnOutcome}
 use Rattle.wh_instance.specs.declared.computing.TurnOutcome.TheVariants as came
 use Rattle.wh_instance.specs.declared.stages.TurnResult.{TurnResult}
-use Rattle.wh_instance.specs.declared.stages.TurnResult.TheVariants as turned
 use Rattle.wh_host_model.specs.declared.plain.TurnEnd.{TurnEnd}
 use Rattle.wh_host_model.specs.declared.plain.TurnEnd.TheVariants as turn_answer
 use Rattle.wh_host.specs.Series.{IsWholeOrCut}

@@ -1,5 +1,5 @@
 -- The roll is that of whatever host the code's represents.
-use Rattle.std.proofs.Common.{◌≡◌, ℕ, zero, suc, ◌+◌, ◌<◌, ◌++◌, Option, Some, None, List, [], ◌∷◌, length, map, take, get_or, slice_get, refl, sym, ap, subst, ◌∙◌, arith, rules}
+use Rattle.std.proofs.Common.{◌≡◌, ℕ, zero, suc, ◌+◌, ◌++◌, Option, Some, None, List, [], ◌∷◌, length, map, take, get_or, slice_get, refl, sym, ap, subst, ◌∙◌, arith, rules}
 use Rattle.std.proofs.lemmas.List.{append-nil, append_assoc, length-append, map-append}
 use Rattle.wh_space_model.specs.{tickets}
 use Rattle.wh_host_model.specs.Host.{Loaded, Tenant, World, tenant}
@@ -10,7 +10,7 @@ use Rattle.wh_instance.specs.Tenancy.{RepresentsEach}
 use Rattle.wh_host.specs.declared.parts.LoadedModule.{LoadedModule}
 use Rattle.wh_host.specs.declared.parts.ModuleRef.{ModuleRef}
 use Rattle.wh_host.specs.declared.parts.InstanceEntry.{InstanceEntry}
-use Rattle.wh_host.specs.declared.parts.InstanceRef.{InstanceRef}
+use Rattle.wh_space_model.specs.declared.plain.InstId.{InstId}
 use Rattle.wh_host.specs.declared.rolling.RollInstance.{RollInstance}
 use Rattle.wh_host.specs.declared.rolling.RollModule.{RollModule}
 use Rattle.wh_host.specs.Hosting.{HostState, IsHost, AreListed, IsEntryOf, entry_at, module_in}
@@ -59,9 +59,9 @@ same_listed h w i t x st live is = search (rules, params_by, inputs_are, inputs_
 
 -- ---- all of them
 
-pub one_more_listed : (rs : List (Option InstanceEntry)) (instance_refs : List InstanceRef) (k : ℕ) (instance_ref : InstanceRef) → slice_get instance_refs k ≡ Some instance_ref → listed_refs rs (take (suc k) instance_refs) ≡ listed_refs rs (take k instance_refs) ++ listed_in instance_ref (entry_at rs instance_ref.place)
+pub one_more_listed : (rs : List (Option InstanceEntry)) (instance_refs : List InstId) (k : ℕ) (instance_ref : InstId) → slice_get instance_refs k ≡ Some instance_ref → listed_refs rs (take (suc k) instance_refs) ≡ listed_refs rs (take k instance_refs) ++ listed_in instance_ref (entry_at rs instance_ref.place)
 one_more_listed rs [] k instance_ref is = absurd (let bad : None ≡ Some instance_ref = is in cc bad)
-one_more_listed rs (z ∷ zs) zero instance_ref is = let same : z ≡ instance_ref = cc is in append-nil (listed_in z (entry_at rs z.place)) ∙ ap (λ (u : InstanceRef). listed_in u (entry_at rs u.place)) same
+one_more_listed rs (z ∷ zs) zero instance_ref is = let same : z ≡ instance_ref = cc is in append-nil (listed_in z (entry_at rs z.place)) ∙ ap (λ (u : InstId). listed_in u (entry_at rs u.place)) same
 one_more_listed rs (z ∷ zs) (suc k) instance_ref is =
     let first = listed_in z (entry_at rs z.place) in
     ap (λ more. first ++ more) (one_more_listed rs zs k instance_ref is) ∙ sym (append_assoc first (listed_refs rs (take k zs)) (listed_in instance_ref (entry_at rs instance_ref.place)))
@@ -69,7 +69,7 @@ one_more_listed rs (z ∷ zs) (suc k) instance_ref is =
 pub pushed_listed : (a b : List RollInstance) (e : RollInstance) (l : Listed) → b ≡ a ++ e ∷ [] → view_listed e ≡ l → map view_listed b ≡ map view_listed a ++ l ∷ []
 pushed_listed a b e l is same = ap (map view_listed) is ∙ map-append view_listed a (e ∷ []) ∙ ap (λ (z : Listed). map view_listed a ++ z ∷ []) same
 
-pub listed_step : (rs : List (Option InstanceEntry)) (instance_refs : List InstanceRef) (k : ℕ) (instance_ref : InstanceRef) (a b : List Listed) → slice_get instance_refs k ≡ Some instance_ref → a ≡ listed_refs rs (take k instance_refs) → b ≡ a ++ listed_in instance_ref (entry_at rs instance_ref.place) → b ≡ listed_refs rs (take (k + 1) instance_refs)
+pub listed_step : (rs : List (Option InstanceEntry)) (instance_refs : List InstId) (k : ℕ) (instance_ref : InstId) (a b : List Listed) → slice_get instance_refs k ≡ Some instance_ref → a ≡ listed_refs rs (take k instance_refs) → b ≡ a ++ listed_in instance_ref (entry_at rs instance_ref.place) → b ≡ listed_refs rs (take (k + 1) instance_refs)
 listed_step rs instance_refs k instance_ref a b at before more =
     let here = listed_in instance_ref (entry_at rs instance_ref.place) in
     let next : k + 1 ≡ suc k = omega arith in
@@ -88,14 +88,14 @@ all_same rs i (None ∷ ts) has = all_same rs (i + 1) ts (λ k t is. shifted rs 
 all_same rs i (Some t ∷ ts) has =
     let zero_more : i + 0 ≡ i = omega arith in
     let h = subst (λ n. IsListedAt rs n t) zero_more (has 0 t refl) in
-    let instance_ref : InstanceRef = record { number = i; place = t.place } in
+    let instance_ref : InstId = record { number = i; place = t.place } in
     let first : listed_in instance_ref (entry_at rs t.place) ≡ listed_as i t ∷ [] = ap (listed_in instance_ref) h.1 ∙ ap (λ l. l ∷ []) h.2 in
     let tail = all_same rs (i + 1) ts (λ k u is. shifted rs i k u (has (suc k) u is)) in
     ap (λ a. a ++ listed_refs rs (refs_by (i + 1) ts)) first ∙ ap (λ b. listed_as i t ∷ b) tail
 
 -- ---- the whole
 
-pub roll_is : (h : HostState) (instance_refs : List InstanceRef) (modules : List ListedModule) (next out : ℕ) (instances : List Listed) → AreInstanceRefs h instance_refs → modules ≡ listed_modules h.modules h.module_refs → next ≡ h.next → out ≡ tickets h.space → instances ≡ listed_refs h.entries instance_refs
+pub roll_is : (h : HostState) (instance_refs : List InstId) (modules : List ListedModule) (next out : ℕ) (instances : List Listed) → AreInstanceRefs h instance_refs → modules ≡ listed_modules h.modules h.module_refs → next ≡ h.next → out ≡ tickets h.space → instances ≡ listed_refs h.entries instance_refs
     → IsRollOf h (record { modules = modules; next = next; tickets_out = out; instances = instances })
 roll_is h instance_refs modules next out instances are e1 e2 e3 e4 w st =
     let numbered : modules ≡ all_modules 0 w.modules = e1 ∙ modules_as 0 h.modules h.module_refs w.modules (let keeps = st.modules in keeps.listed) in

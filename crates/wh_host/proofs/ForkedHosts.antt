@@ -1,5 +1,5 @@
 -- A fork, and the host that it leaves.
-use Rattle.std.proofs.Common.{◌≡◌, ◌≢◌, ◌/◌, ℕ, ◌+◌, ◌<◌, ◌≤◌, ◌⊎◌, ⊎_elim, inl, inr, true, false, Some, None, [], ◌∷◌, ◌++◌, Err, get_or, length, slice_get, refl, sym, ap, subst, ◌∙◌, arith}
+use Rattle.std.proofs.Common.{◌≡◌, ◌≢◌, ◌/◌, ℕ, ◌+◌, ◌<◌, ◌≤◌, ⊎_elim, inl, inr, true, false, Some, None, [], ◌∷◌, ◌++◌, Err, get_or, length, refl, sym, ap, subst, ◌∙◌, arith}
 use Rattle.slab.specs.Slab.{Slab, Updates}
 use Rattle.wh_model.specs.Format.{Module}
 use Rattle.wh_model.specs.Execution.{IsInitial, first_size, last_size, memory_min, needs_more, segment_bounds}

@@ -12,7 +12,7 @@ use Rattle.wh_host.specs.declared.parts.LoadedModule.{LoadedModule}
 use Rattle.wh_host.specs.declared.parts.ModuleRef.{ModuleRef}
 use Rattle.wh_host.specs.Hosting.{AreListed, IsKeptAt, HoldsModules, entry_at, loaded_as, module_in}
 use Rattle.wh_host.specs.Loading.{KeepsModule}
-use Rattle.wh_host.specs.ModuleLists.{HasNoRef, HasRef, HasRefAt, Rise}
+use Rattle.wh_host.specs.ModuleLists.{HasNoRef, HasRef, Rise}
 use Rattle.wh_host.specs.Unloading.{IsOf, HasUser, LeavesModule, Uses}
 
 -- ---- values

@@ -19,9 +19,13 @@ mod Paged
 mod Carrying
 mod Offering
 mod Showings
+mod PutOut
+mod ExportsThere
+mod Exporters
 mod Tellings
 mod Ordering
 mod Sharings
+mod Reading
 mod Reports
 mod Enrolling
 mod Charges

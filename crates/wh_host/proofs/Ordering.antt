@@ -8,7 +8,7 @@ use Rattle.std.proofs.lemmas.List.Sums.{sum_by-append, sum_by-cons}
 use Rattle.wh_space_model.specs.{one_if, tally}
 use Rattle.wh_host_model.specs.Host.{Tenant}
 use Rattle.wh_space_model.proofs.Tally.{one_other, one_same}
-use Rattle.wh_host.specs.declared.parts.InstanceRef.{InstanceRef}
+use Rattle.wh_space_model.specs.declared.plain.InstId.{InstId}
 use Rattle.wh_host.specs.InstanceRefs.{ref_at, refs_below, refs_by}
 
 -- ---- two lists in order that have the same numbers equally often are the same
@@ -46,11 +46,11 @@ same_lists low low2 (x ∷ xs) (y ∷ ys) up up2 often =
 
 -- ---- lists of numbers, by their order
 
-from_sorted : (x : InstanceRef) (xs : List InstanceRef) → IsNonDecreasingBy (λ (s : InstanceRef). s.number) (x ∷ xs) → Rises x.number (map (λ (s : InstanceRef). s.number) xs)
+from_sorted : (x : InstId) (xs : List InstId) → IsNonDecreasingBy (λ (s : InstId). s.number) (x ∷ xs) → Rises x.number (map (λ (s : InstId). s.number) xs)
 from_sorted x [] up = tt
 from_sorted x (y ∷ ys) up = (up 0 1 x (omega arith) (omega arith), from_sorted y ys (λ i j d low high. up (suc i) (suc j) d (omega (arith, low)) (omega (arith, high))))
 
-rises_all : (xs : List InstanceRef) → IsNonDecreasingBy (λ (s : InstanceRef). s.number) xs → Rises 0 (map (λ (s : InstanceRef). s.number) xs)
+rises_all : (xs : List InstId) → IsNonDecreasingBy (λ (s : InstId). s.number) xs → Rises 0 (map (λ (s : InstId). s.number) xs)
 rises_all [] up = tt
 rises_all (x ∷ xs) up = (omega arith, from_sorted x xs up)
 
@@ -58,22 +58,22 @@ lower_still : (low low2 : ℕ) (xs : List ℕ) → low ≤ low2 → Rises low2 x
 lower_still low low2 [] less up = tt
 lower_still low low2 (x ∷ xs) less up = (let a = up.0 in omega (arith, a, less), up.1)
 
-by_rises : (i : ℕ) (ts : List (Option Tenant)) → Rises i (map (λ (s : InstanceRef). s.number) (refs_by i ts))
+by_rises : (i : ℕ) (ts : List (Option Tenant)) → Rises i (map (λ (s : InstId). s.number) (refs_by i ts))
 by_rises i [] = tt
 by_rises i (None ∷ ts) = lower_still i (i + 1) _ (omega arith) (by_rises (i + 1) ts)
 by_rises i (Some t ∷ ts) = (omega arith, lower_still i (i + 1) _ (omega arith) (by_rises (i + 1) ts))
 
 -- ---- how often a number stands in them
 
-abbrev number_times : ℕ → List InstanceRef → ℕ
-number_times n xs = sum_by (λ (s : InstanceRef). one_if n s.number) xs
+abbrev number_times : ℕ → List InstId → ℕ
+number_times n xs = sum_by (λ (s : InstId). one_if n s.number) xs
 
-abbrev numbers_of : List InstanceRef → List ℕ
-numbers_of xs = map (λ (s : InstanceRef). s.number) xs
+abbrev numbers_of : List InstId → List ℕ
+numbers_of xs = map (λ (s : InstId). s.number) xs
 
-times_of : (n : ℕ) (xs : List InstanceRef) → number_times n xs ≡ tally (one_if n) (numbers_of xs)
+times_of : (n : ℕ) (xs : List InstId) → number_times n xs ≡ tally (one_if n) (numbers_of xs)
 times_of n [] = refl
-times_of n (x ∷ xs) = let a = sum_by-cons (λ (s : InstanceRef). one_if n s.number) x xs in let b = times_of n xs in omega (arith, a, b)
+times_of n (x ∷ xs) = let a = sum_by-cons (λ (s : InstId). one_if n s.number) x xs in let b = times_of n xs in omega (arith, a, b)
 
 -- by place
 
@@ -86,7 +86,7 @@ seat_once n None p is = absurd (cc is)
 seat_once n (Some m) p is = let same : n ≡ m = cc is in let e = one_same n m same in omega (arith, e)
 
 one_below_more : (n : ℕ) (who : ℕ → Option ℕ) (k : ℕ) → number_times n (refs_below who (suc k)) ≡ number_times n (refs_below who k) + number_times n (ref_at (who k) k)
-one_below_more n who k = sum_by-append (λ (s : InstanceRef). one_if n s.number) (refs_below who k) (ref_at (who k) k)
+one_below_more n who k = sum_by-append (λ (s : InstId). one_if n s.number) (refs_below who k) (ref_at (who k) k)
 
 never_below : (n : ℕ) (who : ℕ → Option ℕ) (k : ℕ) → ((p : ℕ) → p < k → who p ≢ Some n) → number_times n (refs_below who k) ≡ 0
 never_below n who zero other = refl
@@ -130,7 +130,7 @@ by_times i (suc k) (Some t ∷ ts) =
 
 -- ---- each is who is live
 
-abbrev pub IsSeatOf : List (Option Tenant) → InstanceRef → Type 0
+abbrev pub IsSeatOf : List (Option Tenant) → InstId → Type 0
 IsSeatOf ts s = (t : Tenant) × (get_or ts s.number None ≡ Some t) × (t.place ≡ s.place)
 
 pub all_also : {X : Type 0} (P Q : X → Type 0) → ((x : X) → P x → Q x) → (xs : List X) → AllByRecursion P xs → AllByRecursion Q xs
@@ -150,7 +150,7 @@ all_append : {X : Type 0} (P : X → Type 0) (xs ys : List X) → AllByRecursion
 all_append P [] ys h more = more
 all_append P (x ∷ xs) ys h more = (h.0, all_append P xs ys h.1 more)
 
-abbrev IsSeatFrom : ℕ → List (Option Tenant) → InstanceRef → Type 0
+abbrev IsSeatFrom : ℕ → List (Option Tenant) → InstId → Type 0
 IsSeatFrom i ts s = (k : ℕ) × (t : Tenant) × (s.number ≡ i + k) × (get_or ts k None ≡ Some t) × (t.place ≡ s.place)
 
 by_seats : (i : ℕ) (ts : List (Option Tenant)) → AllByRecursion (IsSeatFrom i ts) (refs_by i ts)
@@ -162,13 +162,13 @@ by_seats i (Some t ∷ ts) =
 pub all_by : (ts : List (Option Tenant)) → AllByRecursion (IsSeatOf ts) (refs_by 0 ts)
 all_by ts = all_also (IsSeatFrom 0 ts) (IsSeatOf ts) (λ s h. (h.1, (let at : s.number ≡ h.0 = (let e = h.2 in omega (arith, e)) in rw at h.3), h.4)) (refs_by 0 ts) (by_seats 0 ts)
 
-same_seat : (s z : InstanceRef) → s.number ≡ z.number → s.place ≡ z.place → s ≡ z
+same_seat : (s z : InstId) → s.number ≡ z.number → s.place ≡ z.place → s ≡ z
 same_seat s z number place = search rules
 
 one_tenant : (t u : Tenant) → Some t ≡ Some u → t ≡ u
 one_tenant t u e = cc e
 
-same_by_numbers : (ts : List (Option Tenant)) (xs ys : List InstanceRef) → numbers_of xs ≡ numbers_of ys → AllByRecursion (IsSeatOf ts) xs → AllByRecursion (IsSeatOf ts) ys → xs ≡ ys
+same_by_numbers : (ts : List (Option Tenant)) (xs ys : List InstId) → numbers_of xs ≡ numbers_of ys → AllByRecursion (IsSeatOf ts) xs → AllByRecursion (IsSeatOf ts) ys → xs ≡ ys
 same_by_numbers ts [] [] e h g = refl
 same_by_numbers ts [] (y ∷ ys) e h g = absurd (cc e)
 same_by_numbers ts (x ∷ xs) [] e h g = absurd (cc e)
@@ -202,9 +202,9 @@ all_below who (suc n) ts all = all_append (IsSeatOf ts) (refs_below who n) (ref_
   here (Some i) is = (all n i is, tt)
 
 -- in order they are the instances by number
-pub in_order : (who : ℕ → Option ℕ) (n : ℕ) (ts : List (Option Tenant)) (xs : List InstanceRef) → AreSeated who n ts → IsPermutation (refs_below who n) xs → IsNonDecreasingBy (λ (s : InstanceRef). s.number) xs → xs ≡ refs_by 0 ts
+pub in_order : (who : ℕ → Option ℕ) (n : ℕ) (ts : List (Option Tenant)) (xs : List InstId) → AreSeated who n ts → IsPermutation (refs_below who n) xs → IsNonDecreasingBy (λ (s : InstId). s.number) xs → xs ≡ refs_by 0 ts
 in_order who n ts xs are moved up =
-    let often : AsOften (numbers_of xs) (numbers_of (refs_by 0 ts)) = λ i. sym (times_of i xs) ∙ sum_by-IsPermutation (λ (s : InstanceRef). one_if i s.number) (refs_below who n) xs moved ∙ times_below who n ts are i (get_or ts i None) refl ∙ sym (by_zero i) in
+    let often : AsOften (numbers_of xs) (numbers_of (refs_by 0 ts)) = λ i. sym (times_of i xs) ∙ sum_by-IsPermutation (λ (s : InstId). one_if i s.number) (refs_below who n) xs moved ∙ times_below who n ts are i (get_or ts i None) refl ∙ sym (by_zero i) in
     let numbers = same_lists 0 0 (numbers_of xs) (numbers_of (refs_by 0 ts)) (rises_all xs up) (by_rises 0 ts) often in
     let all = from_all (IsSeatOf ts) xs (All-permutation (IsSeatOf ts) (refs_below who n) xs moved (to_all (IsSeatOf ts) (refs_below who n) (all_below who n ts are.all))) in
     same_by_numbers ts xs (refs_by 0 ts) numbers all (all_by ts)

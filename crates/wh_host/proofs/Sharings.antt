@@ -1,9 +1,9 @@
 -- How many frames are shared, by what the content table has.
-use Rattle.std.proofs.Common.{◌≡◌, ℕ, zero, suc, ◌+◌, min, Some, List, [], ◌∷◌, length, slice_get, refl, sym, subst, ◌∙◌, arith, rules}
+use Rattle.std.proofs.Common.{◌≡◌, ℕ, zero, suc, ◌+◌, min, Some, List, [], ◌∷◌, length, slice_get, refl, sym, subst, arith, rules}
 use Rattle.wh_space_model.specs.{tally, Space, numbers_below, sharers, FramesAreSound, IsSound, Names}
 use Rattle.wh_space_model.specs.declared.states.Mark.{Mark}
 use Rattle.wh_space_model.specs.declared.states.Mark.TheVariants.{Plain, Hint, Sharers, Unlisted}
-use Rattle.wh_space.specs.Counts.{is_shared, sharers_in}
+use Rattle.wh_space.specs.{is_shared, sharers_in}
 use Rattle.wh_host.specs.Reporting.{all_sharers, shared_frames}
 
 -- from the front

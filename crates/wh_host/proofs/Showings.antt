@@ -1,5 +1,5 @@
 -- What the code has of an instance is its transcript.
-use Rattle.std.proofs.Common.{◌≡◌, ◌≤◌, ℕ, List, Some, length, slice_get, refl, sym, ap, subst, ◌∙◌}
+use Rattle.std.proofs.Common.{◌≡◌, ◌≤◌, ℕ, List, Some, length, refl, sym, subst, ◌∙◌}
 use Rattle.wh_model.specs.Linking.{IsAccepted}
 use Rattle.wh_model.specs.Execution.{begins, IsInitial}
 use Rattle.wh_model.specs.Execution.Replay.{Replay}

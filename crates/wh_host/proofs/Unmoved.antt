@@ -1,8 +1,7 @@
 -- What is written down of an instance in memory moves nothing there.
-use Rattle.std.proofs.Common.{◌≡◌, ◌≢◌, ◌∙◌, ℕ, [], get_or, rules}
+use Rattle.std.proofs.Common.{◌≡◌, ◌≢◌, ℕ, [], get_or, rules}
 use Rattle.wh_space_model.specs.{Space, claim, view}
 use Rattle.wh_instance.specs.declared.stages.TurnResult.{TurnResult}
-use Rattle.wh_instance.specs.declared.stages.TurnResult.TheVariants as turned
 use Rattle.wh_overlay.specs.LaidBack.{LooksSame}
 use Rattle.wh_space.specs.StepViews.{KeepsRest}
 use Rattle.wh_host.specs.Lent.{settled_in}

@@ -20,6 +20,9 @@ pub mod Requests
 pub mod Admitting
 pub mod Sharing
 pub mod Showing
+pub mod LiveOutputs
+pub mod HostReads
+pub mod ModuleExports
 pub mod Telling
 pub mod Reporting
 pub mod InstanceRefs

@@ -5,7 +5,11 @@ use Rattle.wh_space_model.specs.Frames.{tally}
 use Rattle.wh_space_model.specs.Charges.{active_of, charged_of}
 use Rattle.wh_space_model.specs.Parts.{Space, numbers_below, sharers}
 use Rattle.wh_space_model.specs.States.{count_of, swapped}
+use Rattle.wh_space_model.specs.declared.plain.InstId.{InstId}
+use Rattle.wh_host_model.specs.Host.Admission.{live_count}
+use Rattle.wh_host_model.specs.Host.Happens.{IsLive}
 use Rattle.wh_host_model.specs.Host.Worlds.{Tenant, World}
+use Rattle.wh_host.specs.declared.report.HostUsage.{HostUsage}
 use Rattle.wh_host.specs.declared.report.InstanceReport.{InstanceReport}
 use Rattle.wh_host.specs.declared.report.Report.{Report}
 use Rattle.wh_host.specs.Hosting.{HostState, IsHost}
@@ -34,7 +38,7 @@ view_row x = record {
 }
 
 -- and of the whole
-pub record ReportState : Type 0 where
+pub record UsageState : Type 0 where
   pub frames : ℕ
   pub used_frames : ℕ
   pub slots : ℕ
@@ -42,19 +46,26 @@ pub record ReportState : Type 0 where
   pub shared_frames : ℕ
   pub sharers : ℕ
   pub tax : Tax
+  pub instances : ℕ
+
+abbrev pub view_usage : HostUsage → UsageState
+view_usage x = record {
+  frames = x.frames;
+  used_frames = x.used_frames;
+  slots = x.slots;
+  used_slots = x.used_slots;
+  shared_frames = x.shared_frames;
+  sharers = x.sharers;
+  tax = x.tax;
+  instances = x.instances;
+}
+
+pub record ReportState : Type 0 where
+  pub usage : UsageState
   pub instances : List ReportRow
 
 abbrev pub view_report : Report → ReportState
-view_report r = record {
-  frames = r.frames;
-  used_frames = r.used_frames;
-  slots = r.slots;
-  used_slots = r.used_slots;
-  shared_frames = r.shared_frames;
-  sharers = r.sharers;
-  tax = r.tax;
-  instances = map view_row r.instances.items;
-}
+view_report r = record { usage = view_usage r.usage; instances = map view_row r.instances.items }
 
 -- how many frames pages share, and how many pages share one
 abbrev pub shared_frames : Space → ℕ
@@ -83,9 +94,9 @@ rows_in s number [] = []
 rows_in s number (None ∷ ts) = rows_in s (number + 1) ts
 rows_in s number (Some t ∷ ts) = row_in s number t ∷ rows_in s (number + 1) ts
 
--- the report on memory: frames in use are all but the free ones, slots in use all but the vacant ones
-abbrev pub report_with : Space → List ReportRow → ReportState
-report_with s instances = record {
+-- of memory and so many instances: frames in use are all but the free ones, slots in use all but the vacant ones
+abbrev pub usage_with : Space → ℕ → UsageState
+usage_with s live = record {
   frames = length s.pool.frames;
   used_frames = length s.pool.frames - length s.pool.free;
   slots = length s.slots.uses;
@@ -93,12 +104,23 @@ report_with s instances = record {
   shared_frames = shared_frames s;
   sharers = all_sharers s;
   tax = s.tax;
-  instances = instances;
+  instances = live;
 }
 
+abbrev pub report_with : Space → ℕ → List ReportRow → ReportState
+report_with s live rows = record { usage = usage_with s live; instances = rows }
+
 abbrev pub report_of : World → ReportState
-report_of w = report_with w.space (rows_in w.space 0 w.tenants)
+report_of w = report_with w.space (live_count w.tenants) (rows_in w.space 0 w.tenants)
 
 -- for whatever host it stands, this is its report
 abbrev pub ReportsHost : HostState → ReportState → Type 0
 ReportsHost h report = (w : World) → IsHost h w → report ≡ report_of w
+
+-- so its frames and slots are used
+abbrev pub ReportsUsage : HostState → UsageState → Type 0
+ReportsUsage h usage = (w : World) → IsHost h w → usage ≡ usage_with w.space (live_count w.tenants)
+
+-- this is reported of an instance
+abbrev pub ReportsInstance : HostState → InstId → ReportRow → Type 0
+ReportsInstance h id row = (w : World) → IsHost h w → (t : Tenant) × IsLive w id t × (row ≡ row_in w.space id.number t)

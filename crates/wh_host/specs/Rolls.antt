@@ -7,7 +7,7 @@ use Rattle.wh_params.specs.View.{view_params}
 use Rattle.wh_instance.specs.Tenancy.{suspension_of}
 use Rattle.wh_host.specs.declared.parts.LoadedModule.{LoadedModule}
 use Rattle.wh_host.specs.declared.parts.InstanceEntry.{InstanceEntry}
-use Rattle.wh_host.specs.declared.parts.InstanceRef.{InstanceRef}
+use Rattle.wh_space_model.specs.declared.plain.InstId.{InstId}
 use Rattle.wh_host.specs.declared.parts.ModuleRef.{ModuleRef}
 use Rattle.wh_host.specs.declared.rolling.RollInstance.{RollInstance}
 use Rattle.wh_host.specs.declared.rolling.RollModule.{RollModule}
@@ -117,7 +117,7 @@ listed_modules ms (module_ref ∷ module_refs) =
     listed_module module_ref (module_in ms module_ref.place) ++ listed_modules ms module_refs
 
 -- what the code has of who has a seat
-abbrev pub listed_by : InstanceRef → InstanceEntry → Listed
+abbrev pub listed_by : InstId → InstanceEntry → Listed
 listed_by instance_ref x = record {
   number = instance_ref.number;
   place = instance_ref.place;
@@ -130,11 +130,11 @@ listed_by instance_ref x = record {
   waiting_for = suspension_of x.tenant.waiting_for;
 }
 
-abbrev pub listed_in : InstanceRef → Option InstanceEntry → List Listed
+abbrev pub listed_in : InstId → Option InstanceEntry → List Listed
 listed_in instance_ref None = []
 listed_in instance_ref (Some x) = listed_by instance_ref x ∷ []
 
-abbrev pub listed_refs : List (Option InstanceEntry) → List InstanceRef → List Listed
+abbrev pub listed_refs : List (Option InstanceEntry) → List InstId → List Listed
 listed_refs rs [] = []
 listed_refs rs (instance_ref ∷ instance_refs) =
     listed_in instance_ref (entry_at rs instance_ref.place) ++ listed_refs rs instance_refs

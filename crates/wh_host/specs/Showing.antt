@@ -1,5 +1,5 @@
 -- What a host shows of one of its instances.
-use Rattle.std.specs.Prelude.{◌≡◌, ◌++◌, ℕ, List, Some, slice_get, Result, Ok, Err}
+use Rattle.std.specs.Prelude.{◌≡◌, ◌++◌, ℕ, List, Some, Result, Ok, Err}
 use Rattle.wh_space_model.specs.declared.plain.InstId.{InstId}
 use Rattle.wh_host_model.specs.Host.Worlds.{Tenant, Loaded, World, journal, loaded_of}
 use Rattle.wh_host_model.specs.Owners.{Params}

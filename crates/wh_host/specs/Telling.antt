@@ -1,9 +1,9 @@
 -- What a host tells of one call.
-use Rattle.std.specs.Prelude.{◌≡◌, ◌++◌, ℕ, option_map, slice_get, Option, Some, None}
+use Rattle.std.specs.Prelude.{◌≡◌, ◌++◌, ℕ, length, option_map, slice_get, Option, Some, None}
 use Rattle.wh_space_model.specs.declared.plain.InstId.{InstId}
 use Rattle.wh_host_model.specs.Host.Worlds.{Tenant, World, journal}
 use Rattle.wh_host_model.specs.Owners.{Entry}
-use Rattle.wh_host_model.specs.Host.Happens.{IsLive}
+use Rattle.wh_host_model.specs.Host.Happens.{IsLive, NoInstance as NobodyThere}
 use Rattle.wh_journal.specs.Calls.{JournalState}
 use Rattle.wh_instance.specs.declared.stages.CallStatus.{CallStatus}
 use Rattle.wh_instance.specs.Told.{IsCallStatus, waits_at}
@@ -31,6 +31,17 @@ AreChargesTold w id at (Some charges) =
 -- for whatever host it stands
 abbrev pub TellsChargesOf : HostState → InstId → ℕ → Option ℕ → Type 0
 TellsChargesOf h id at told = (w : World) → IsHost h w → AreChargesTold w id at told
+
+-- ---- how many calls have ended
+
+-- so many of the instance have, or there is no such instance
+abbrev pub IsEndedCount : World → InstId → Option ℕ → Type 0
+IsEndedCount w id None = NobodyThere w id
+IsEndedCount w id (Some count) = (t : Tenant) × IsLive w id t × (count ≡ length t.ended)
+
+-- for whatever host it stands
+abbrev pub CountsEnded : HostState → InstId → Option ℕ → Type 0
+CountsEnded h id count = (w : World) → IsHost h w → IsEndedCount w id count
 
 -- within the crate: what the code has of it
 abbrev pub charges_in_journal : JournalState → ℕ → Option ℕ

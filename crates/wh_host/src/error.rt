@@ -6,6 +6,7 @@ ghost use Rattle.wh_host.specs.CallRequests.{host_number};
 use thiserror::Error;
 use wh_instance::InvokeError;
 use wh_load::LoadError;
+use wh_space_model::SwapError;
 
 /// Why a host doesn't do what is asked of an instance.
 #[derive(Clone, Copy, Debug, PartialEq, Eq, Error)]
@@ -36,6 +37,20 @@ impl HostError {
             HostError::Memory => 7,
         }
     }
+}
+
+/// Why a host doesn't read bytes of an instance.
+#[derive(Clone, Copy, Debug, PartialEq, Eq, Error)]
+pub enum ReadError {
+    /// No instance of this number lies at this place.
+    #[error("no such instance is there")]
+    NoInstance,
+    /// Its memory has fewer bytes.
+    #[error("its memory has fewer bytes")]
+    Outside,
+    /// The swap device failed.
+    #[error("the swap device failed: {0:?}")]
+    Device(SwapError),
 }
 
 /// Why a host doesn't let a module go.

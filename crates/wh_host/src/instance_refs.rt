@@ -3,12 +3,13 @@
 ghost use Rattle.std.specs.Prelude.{◌≡◌, ◌<◌, Some, IfOk, length, slice_get};
 ghost use Rattle.std.specs.List.Sorted.{IsNonDecreasingBy, IsPermutation};
 ghost use Rattle.wh_host.specs.InstanceRefs.{AreInOrder, AreInstanceRefs, number_at, refs_below};
-ghost use Rattle.wh_host.specs.declared.parts.InstanceRef.{InstanceRef as OneInstanceRef};
+ghost use Rattle.wh_space_model.specs.declared.plain.InstId.{InstId as OneInstance};
 
 use crate::host::Host;
-use crate::parts::{InstanceEntry, InstanceRef};
+use crate::parts::InstanceEntry;
 use slab::Slab;
 use std::alloc::{AllocError, Global};
+use wh_space_model::InstId;
 
 // The number of the instance that has this place, if one has it.
 fn number_at(entries: &Slab<InstanceEntry>, place: usize) -> Option<u64>
@@ -21,7 +22,7 @@ fn number_at(entries: &Slab<InstanceEntry>, place: usize) -> Option<u64>
 }
 
 /// Returns the reference at this place.
-pub fn ref_at(instance_refs: &[InstanceRef], at: usize) -> InstanceRef
+pub fn ref_at(instance_refs: &[InstId], at: usize) -> InstId
     requires { at < length instance_refs.now }
     ensures { slice_get instance_refs.now at ≡ Some result }
 {
@@ -33,23 +34,23 @@ fn refs_below(
     alloc: Global,
     entries: &Slab<InstanceEntry>,
     places: usize,
-) -> Result<Vec<InstanceRef>, AllocError>
+) -> Result<Vec<InstId>, AllocError>
     ensures { IfOk result (λ instance_refs.
         instance_refs.items ≡ refs_below (number_at entries.now.slots) places) }
 {
     let mut instance_refs = Vec::new(alloc);
     for place in 0..places {
         if let Some(number) = number_at(entries, place) {
-            instance_refs.push(InstanceRef { number, place })?;
+            instance_refs.push(InstId { number, place })?;
         }
     }
     Ok(instance_refs)
 }
 
 // By number.
-fn sort_refs(instance_refs: &mut Vec<InstanceRef>)
+fn sort_refs(instance_refs: &mut Vec<InstId>)
     ensures same { IsPermutation instance_refs.old.items instance_refs.new.items }
-    ensures sorted { IsNonDecreasingBy (λ (instance_ref : OneInstanceRef). instance_ref.number) instance_refs.new.items }
+    ensures sorted { IsNonDecreasingBy (λ (instance_ref : OneInstance). instance_ref.number) instance_refs.new.items }
 {
     instance_refs.sort_unstable_by_key(|instance_ref| instance_ref.number);
 }
@@ -59,7 +60,7 @@ fn refs_in_order(
     alloc: Global,
     entries: &Slab<InstanceEntry>,
     places: usize,
-) -> Result<Vec<InstanceRef>, AllocError>
+) -> Result<Vec<InstId>, AllocError>
     ensures { IfOk result (λ instance_refs. AreInOrder entries.now.slots places instance_refs.items) }
 {
     let mut instance_refs = refs_below(alloc, entries, places)?;
@@ -69,7 +70,7 @@ fn refs_in_order(
 
 impl Host {
     // Its instances by number.
-    pub(crate) fn instance_refs(&self, alloc: Global) -> Result<Vec<InstanceRef>, AllocError>
+    pub(crate) fn instance_refs(&self, alloc: Global) -> Result<Vec<InstId>, AllocError>
         ensures { IfOk result (λ instance_refs. AreInstanceRefs self.now instance_refs.items) }
     {
         refs_in_order(alloc, &self.entries, self.memory.places())

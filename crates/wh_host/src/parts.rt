@@ -31,13 +31,6 @@ pub struct ModuleRef {
     pub place: usize,
 }
 
-/// An instance by its number, and its place.
-#[derive(Clone, Copy, Debug, PartialEq, Eq)]
-pub struct InstanceRef {
-    pub number: u64,
-    pub place: usize,
-}
-
 /// What the owner of an instance has given it, but for the words of its input, which its store keeps.
 #[derive(Clone, Copy, Debug, PartialEq, Eq)]
 pub struct StoredParams {

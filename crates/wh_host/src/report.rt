@@ -29,9 +29,9 @@ pub struct InstanceReport {
     ghost active_within: { active ≤ charged },
 }
 
-/// How the frames, slots and pages of a host are used.
-#[derive(Drop)]
-pub struct Report {
+/// How the frames and slots of a host are used, and how many instances it has.
+#[derive(Clone, Copy, Debug, PartialEq, Eq)]
+pub struct HostUsage {
     /// How many frames there are.
     pub frames: u32,
     /// How many of these are in use.
@@ -46,8 +46,17 @@ pub struct Report {
     pub sharers: u64,
     /// The tax on idle pages.
     pub tax: Tax,
-    /// What it says of each instance, by number.
-    pub instances: Vec<InstanceReport>,
+    /// How many instances there are.
+    pub instances: usize,
     ghost frames_within: { used_frames ≤ frames },
     ghost slots_within: { used_slots ≤ slots },
+}
+
+/// How the frames, slots and pages of a host are used.
+#[derive(Drop)]
+pub struct Report {
+    /// What it says of the whole.
+    pub usage: HostUsage,
+    /// What it says of each instance, by number.
+    pub instances: Vec<InstanceReport>,
 }

@@ -3,20 +3,22 @@
 ghost use Rattle.std.specs.Prelude.{◌≡◌, ◌≤◌, IfErr, IfOk, map};
 ghost use Rattle.std.specs.List.{All};
 ghost use Rattle.wh_space_model.specs.Sound.{IsSound};
-ghost use Rattle.wh_host.specs.Reporting.{ReportsHost, report_with, view_report, view_row};
+ghost use Rattle.wh_host.specs.LiveOutputs.{SaysNoInstance};
+ghost use Rattle.wh_host.specs.Reporting.{ReportsHost, ReportsInstance, ReportsUsage, usage_with, view_report, view_row, view_usage};
 ghost use Rattle.wh_host.specs.InstanceRefs.{CanBeShown, row_by, rows_by};
 
 use crate::error::HostError;
 use crate::host::Host;
 use crate::instance_refs::ref_at;
-use crate::parts::{InstanceEntry, InstanceRef};
-use crate::report::{InstanceReport, Report};
+use crate::parts::InstanceEntry;
+use crate::report::{HostUsage, InstanceReport, Report};
 use slab::Slab;
 use std::alloc::{AllocError, Global};
 use wh_space::Memory;
+use wh_space_model::InstId;
 
 // What is reported of who has this place.
-fn row_of(memory: &Memory, instance_ref: InstanceRef, entry: &InstanceEntry) -> InstanceReport
+fn row_of(memory: &Memory, instance_ref: InstId, entry: &InstanceEntry) -> InstanceReport
     requires { entry.now.given.shares ≤ 1000000 }
     ensures { view_row result ≡ row_by memory.now instance_ref entry.now }
 {
@@ -39,7 +41,7 @@ fn all_rows(
     alloc: Global,
     memory: &Memory,
     entries: &Slab<InstanceEntry>,
-    instance_refs: &[InstanceRef],
+    instance_refs: &[InstId],
 ) -> Result<Vec<InstanceReport>, AllocError>
     requires { All (CanBeShown entries.now.slots) instance_refs.now }
     ensures { IfOk result (λ rows.
@@ -55,14 +57,14 @@ fn all_rows(
     Ok(rows)
 }
 
-// The report on memory, with this of the instances.
-fn report_over(memory: &Memory, instances: Vec<InstanceReport>) -> Report
+// How the memory of so many instances is used.
+fn usage_over(memory: &Memory, instances: usize) -> HostUsage
     requires { IsSound memory.now }
-    ensures { view_report result ≡ report_with memory.now (map view_row instances.items) }
+    ensures { view_usage result ≡ usage_with memory.now instances }
 {
     let slots = memory.slots();
     let (shared_frames, sharers) = memory.sharing();
-    Report {
+    HostUsage {
         frames: memory.frames(),
         used_frames: memory.used(),
         slots,
@@ -82,12 +84,41 @@ impl Host {
         self.memory.invariant();
         let instance_refs = self.instance_refs(alloc)?;
         let rows = all_rows(alloc, &self.memory, &self.entries, &instance_refs)?;
-        Ok(report_over(&self.memory, rows))
+        Ok(Report {
+            usage: usage_over(&self.memory, self.live),
+            instances: rows,
+        })
+    }
+
+    /// Returns how frames and slots are used and shared, and how many instances there are. Takes O(1), and allocates nothing.
+    pub fn usage(&self) -> HostUsage
+        ensures { ReportsUsage self.now (view_usage result) }
+    {
+        self.memory.invariant();
+        usage_over(&self.memory, self.live)
+    }
+
+    /// Returns what the report says of an instance. Takes O(1), and allocates nothing.
+    ///
+    /// # Errors
+    /// `NoInstance`.
+    pub fn usage_of(&self, id: InstId) -> Result<InstanceReport, HostError>
+        ensures ok { IfOk result (λ row. ReportsInstance self.now id (view_row row)) }
+        ensures err { IfErr result (λ error. SaysNoInstance self.now id error) }
+    {
+        let Some(entry) = self.entries.get(id.place) else {
+            return Err(HostError::NoInstance);
+        };
+        if !entry.has_number(id.number) {
+            return Err(HostError::NoInstance);
+        }
+        Ok(row_of(&self.memory, id, entry))
     }
 
     /// Returns the report: how frames and slots are used and shared, and of each instance by number its parameters, how many
     /// frames are charged to it, on how many of these a page was touched, and how many of its pages are swapped. A frame that
-    /// many pages share is charged to the first of them, by number and then by page. It goes over all frames and all pages.
+    /// many pages share is charged to the first of them, by number and then by page. Each instance takes O(1), but for
+    /// their order.
     ///
     /// # Errors
     /// `Memory` where room for the instances is refused.

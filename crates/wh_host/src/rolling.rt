@@ -7,7 +7,7 @@ use crate::error::HostError;
 use crate::host::Host;
 use crate::instance_refs::ref_at;
 use crate::module_refs::module_ref_at;
-use crate::parts::{InstanceEntry, InstanceRef, LoadedModule, ModuleId, ModuleRef};
+use crate::parts::{InstanceEntry, LoadedModule, ModuleId, ModuleRef};
 use crate::showing::params_of;
 use slab::Slab;
 use std::alloc::{AllocError, Global};
@@ -145,7 +145,7 @@ fn all_loaded(
 // What the roll says of who has this place.
 fn enrolled_by(
     alloc: Global,
-    instance_ref: InstanceRef,
+    instance_ref: InstId,
     entry: &InstanceEntry,
 ) -> Result<RollInstance, AllocError>
     ensures { IfOk result (λ enrolled. view_listed enrolled ≡ listed_by instance_ref entry.now) }
@@ -172,7 +172,7 @@ fn enrolled_by(
 fn all_enrolled(
     alloc: Global,
     entries: &Slab<InstanceEntry>,
-    instance_refs: &[InstanceRef],
+    instance_refs: &[InstId],
 ) -> Result<Vec<RollInstance>, AllocError>
     ensures { IfOk result (λ list.
         map view_listed list.items ≡ listed_refs entries.now.slots instance_refs.now) }

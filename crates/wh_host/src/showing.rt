@@ -1,7 +1,8 @@
 //! What a host shows of one of its instances.
 
-ghost use Rattle.std.specs.Prelude.{◌≡◌, IfOk};
+ghost use Rattle.std.specs.Prelude.{◌≡◌, IfErr, IfOk};
 ghost use Rattle.wh_params.specs.View.{view_params};
+ghost use Rattle.wh_host.specs.LiveOutputs.{SaysNoInstance, ShowsJournalOutput, ShowsOutput};
 ghost use Rattle.wh_host.specs.Showing.{RepresentsReached, ShowsInstance, given_with, shown_of};
 ghost use Rattle.wh_transcript.specs.Transcripts.{IsReplayable};
 
@@ -10,7 +11,7 @@ use crate::host::{Host, module_at};
 use crate::parts::{InstanceEntry, StoredParams};
 use std::alloc::{AllocError, Global};
 use std::sync::Arc;
-use wh_admit::Params;
+use wh_admit::{Params, Quota};
 use wh_space_model::InstId;
 use wh_transcript::Transcript;
 
@@ -20,9 +21,11 @@ pub fn params_of(alloc: Global, given: StoredParams, inputs: &[u64]) -> Result<P
 {
     let inputs = Vec::from_slice(alloc, inputs)?;
     Ok(Params {
-        shares: u64::from(given.shares),
-        min: u64::from(given.min),
-        max: u64::from(given.max),
+        quota: Quota {
+            shares: u64::from(given.shares),
+            min_frames: u64::from(given.min),
+            max_frames: u64::from(given.max),
+        },
         fuel: given.fuel,
         base: given.base,
         salt: given.salt,
@@ -70,5 +73,25 @@ impl Host {
             Ok(transcript) => Ok(transcript),
             Err(_) => Err(HostError::Memory),
         }
+    }
+
+    /// Returns the bytes that an instance has put out so far, which `release` would return now. Takes O(1), and allocates
+    /// nothing.
+    ///
+    /// # Errors
+    /// `NoInstance`.
+    pub fn output_of(&self, id: InstId) -> Result<&[u8], HostError>
+        ensures shows { IfOk result (λ output. ShowsOutput self.now id output.now) }
+        // Where events alone have led to this host, they are what the instance's journal gives.
+        ensures journal { IfOk result (λ output. ShowsJournalOutput self.now id output.now) }
+        ensures err { IfErr result (λ error. SaysNoInstance self.now id error) }
+    {
+        let Some(entry) = self.entries.get(id.place) else {
+            return Err(HostError::NoInstance);
+        };
+        if !entry.has_number(id.number) {
+            return Err(HostError::NoInstance);
+        }
+        Ok(entry.tenant.output())
     }
 }

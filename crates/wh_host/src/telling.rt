@@ -2,7 +2,7 @@
 
 ghost use Rattle.std.specs.Prelude.{◌≡◌};
 ghost use Rattle.wh_host.specs.TicketsOut.{IsPresentCall};
-ghost use Rattle.wh_host.specs.Telling.{TellsChargesOf, TellsOf, charges_in_journal};
+ghost use Rattle.wh_host.specs.Telling.{CountsEnded, TellsChargesOf, TellsOf, charges_in_journal};
 
 use crate::host::{Host, module_at};
 use wh_instance::{CallStatus, HostInstance};
@@ -48,6 +48,20 @@ impl Host {
             return 0;
         }
         entry.tenant.present_call()
+    }
+
+    /// Returns how many calls of an instance have ended, its start among them; `None` where there is no such instance. Takes
+    /// O(1), and allocates nothing.
+    pub fn ended_calls(&self, id: InstId) -> Option<usize>
+        ensures { CountsEnded self.now id result }
+    {
+        let Some(entry) = self.entries.get(id.place) else {
+            return None;
+        };
+        if !entry.has_number(id.number) {
+            return None;
+        }
+        Some(entry.tenant.present_call())
     }
 
     /// Returns the charges that the call at place `at` of the instance's journal took, the start being at 0; `None` where there

@@ -60,6 +60,13 @@ impl HostInstance {
         self.journal.ended_len()
     }
 
+    /// Returns the bytes that the host functions `put` and `emit` have written for it. Takes O(1), and allocates nothing.
+    pub fn output(&self) -> &[u8]
+        ensures { HasOutput self.now result.now }
+    {
+        &self.store.output
+    }
+
     /// Takes out the bytes that the host functions `put` and `emit` have written for it, when it is released. Allocates
     /// nothing.
     pub fn take_output(&mut self, alloc: Global) -> Vec<u8>

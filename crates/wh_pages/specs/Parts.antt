@@ -1,5 +1,7 @@
 -- What the parts of a page table represent.
-use Rattle.std.specs.Prelude.{ℕ, ◌≤◌, length, map, take}
+use Rattle.std.specs.Prelude.{ℕ, ◌≡◌, ◌≤◌, length, map, take}
+use Rattle.wh_space_model.specs.Frames.{tally}
+use Rattle.wh_space_model.specs.States.{swapped}
 use Rattle.wh_space_model.specs.declared.states.Page.{Page}
 use Rattle.wh_space_model.specs.declared.states.Page.TheVariants.{Untouched, Private, Shared, Leaving, LeavingShared, Coming, Swapped}
 use Rattle.wh_pages.specs.declared.entry.EntryKind.{EntryKind}
@@ -30,8 +32,9 @@ page_table_of a = record {
   max = a.max;
 }
 
--- there is an entry for each page that there may be
+-- there is an entry for each page that there may be, and the swapped ones are counted
 pub record HasRows (a : Inside) : Type 0 where
   pub within : a.len ≤ a.max
   pub room : a.max ≤ length a.rows
   pub most : a.max ≤ 65536
+  pub swapped : a.swapped ≡ tally swapped (map page_of (take a.len a.rows))

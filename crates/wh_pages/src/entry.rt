@@ -4,7 +4,7 @@ ghost use Rattle.std.specs.Bool.{MatchBool};
 ghost use Rattle.std.specs.Prelude.{◌≡◌, ◌≤◌, None, false, cond};
 ghost use Rattle.wh_space_model.specs.declared.states.Page.TheVariants.{Untouched as UntouchedPage};
 ghost use Rattle.wh_space_model.specs.Moves.{frame_of};
-ghost use Rattle.wh_space_model.specs.States.{resident};
+ghost use Rattle.wh_space_model.specs.States.{resident, swapped};
 ghost use Rattle.wh_pages.specs.Leaves.{IsSoughtEntry};
 ghost use Rattle.wh_pages.specs.Parts.{page_of};
 ghost use Rattle.wh_pages.specs.Table.{own_frame_of};
@@ -79,6 +79,23 @@ impl PageEntry {
             | EntryKind::Leaving
             | EntryKind::LeavingShared => 1,
             EntryKind::Untouched | EntryKind::Coming | EntryKind::Swapped => 0,
+        }
+    }
+
+    /// Returns 1 if the page is swapped, else 0.
+    #[inline(always)]
+    pub fn swaps(self) -> u32
+        ensures is { result ≡ swapped (page_of self) }
+        ensures one { result ≤ 1 }
+    {
+        match self.kind {
+            EntryKind::Swapped => 1,
+            EntryKind::Untouched
+            | EntryKind::Private
+            | EntryKind::Shared
+            | EntryKind::Leaving
+            | EntryKind::LeavingShared
+            | EntryKind::Coming => 0,
         }
     }
 

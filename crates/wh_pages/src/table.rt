@@ -1,7 +1,9 @@
 // The table as its caller sees it.
 
 ghost use Rattle.std.specs.Prelude.{◌≡◌, ℕ, ◌*◌, ◌↔◌, ◌+◌, ◌<◌, ◌≤◌, ◌++◌, [], ◌∷◌, true, false, IsTrue, IsFalse, Some, IfOk, IfSome, IfNone, length, replicate, slice_get, slice_set};
+ghost use Rattle.wh_space_model.specs.Frames.{tally};
 ghost use Rattle.wh_space_model.specs.Moves.{frame_of};
+ghost use Rattle.wh_space_model.specs.States.{swapped};
 ghost use Rattle.wh_pages.specs.Parts.{page_of};
 ghost use Rattle.wh_space_model.specs.declared.states.Page.TheVariants.{Untouched};
 ghost use Rattle.wh_pages.specs.Seeking.{IsFirstFrom, IsSought};
@@ -24,6 +26,8 @@ pub struct PageTable {
     rows: Rows,
     len: u32,
     max: u32,
+    // How many pages are swapped.
+    swapped: u32,
 }
 
 impl Model for PageTable {
@@ -48,7 +52,12 @@ impl PageTable {
         ensures { IfOk result (λ table. table ≡ record { pages = []; touched = []; max = max }) }
     {
         let rows = Rows::new(alloc, max.div_ceil(LEAF))?;
-        Ok(PageTable { rows, len: 0, max })
+        Ok(PageTable {
+            rows,
+            len: 0,
+            max,
+            swapped: 0,
+        })
     }
 
     /// Returns the number of pages.
@@ -67,6 +76,13 @@ impl PageTable {
         ensures most { result ≤ 65536 }
     {
         self.max
+    }
+
+    /// Returns, in O(1), the number of pages that are swapped.
+    pub fn swapped(&self) -> u32
+        ensures { result ≡ tally swapped self.now.pages }
+    {
+        self.swapped
     }
 
     /// Returns the page at this place, which is below `len`.
@@ -204,6 +220,7 @@ impl PageTable {
         ensures { self.new ≡ record self.old { pages = []; touched = [] } }
     {
         self.len = 0;
+        self.swapped = 0;
     }
 
     // Gives the page at this place this mark.
@@ -223,6 +240,8 @@ impl PageTable {
           touched = slice_set self.old.touched at entry.touched;
         } }
     {
+        let old = self.rows.get(at);
+        self.swapped = self.swapped - old.swaps() + entry.swaps();
         self.rows.set(at, entry);
     }
 

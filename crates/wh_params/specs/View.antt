@@ -8,9 +8,9 @@ view_quota q = record { shares = q.shares; min = q.min_frames; max = q.max_frame
 
 abbrev pub view_params : Params → host.Params
 view_params p = record {
-  shares = p.shares;
-  min = p.min;
-  max = p.max;
+  shares = p.quota.shares;
+  min = p.quota.min_frames;
+  max = p.quota.max_frames;
   fuel = p.fuel;
   base = p.base;
   salt = p.salt;

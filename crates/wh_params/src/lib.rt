@@ -16,13 +16,8 @@ pub struct Quota {
 /// What the owner of an instance gives it.
 #[derive(Debug, Drop)]
 pub struct Params {
-    /// Its shares of memory, against those of the other instances; 1 to 1000000 are admitted.
-    pub shares: u64,
-    /// How many frames of 4096 bytes it may keep in any case; 2 to `max` are admitted.
-    pub min: u64,
-    /// To how many frames of 4096 bytes its memory may come; up to 65536 are admitted. 16 of them are one page of 65536
-    /// bytes, and what is left over gives none.
-    pub max: u64,
+    /// How much memory it may have.
+    pub quota: Quota,
     /// How many charges its start may take.
     pub fuel: u64,
     /// The value of the host's global `base`.

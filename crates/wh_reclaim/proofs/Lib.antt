@@ -7,3 +7,4 @@ pub mod Going
 pub mod Providing
 pub mod Together
 pub mod Whole
+pub mod SlotBytes

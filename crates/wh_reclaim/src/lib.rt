@@ -4,6 +4,7 @@
 mod begin;
 mod choice;
 mod commit;
+mod reading;
 mod ready;
 mod tax;
 mod tickets;
@@ -11,6 +12,7 @@ mod tickets;
 pub use begin::{evict_begin, fetch_begin};
 pub use choice::{PageOf, page_to_take};
 pub use commit::{evict_commit, fetch_commit};
+pub use reading::read_bytes;
 pub use ready::provide;
 pub use tax::{cmp_rho, weight};
 pub use tickets::{Buf, EvictTicket, FetchTicket};

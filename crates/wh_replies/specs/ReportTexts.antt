@@ -2,7 +2,7 @@
 use Rattle.std.specs.Prelude.{ℕ, List, flat_map, ◌++◌}
 use Rattle.wh_space_model.specs.declared.Tax.{Tax}
 use Rattle.wh_script_model.specs.Texts.{Row, frames_text, row_text, shared_text, slots_text}
-use Rattle.wh_host.specs.Reporting.{ReportRow, ReportState}
+use Rattle.wh_host.specs.Reporting.{ReportRow, ReportState, UsageState}
 
 abbrev pub row_of : Tax → ReportRow → Row
 row_of tax row = record {
@@ -22,8 +22,8 @@ abbrev pub rows_text : Tax → List ReportRow → List ℕ
 rows_text tax rows = flat_map (λ row. row_text (row_of tax row)) rows
 
 -- the first three lines
-abbrev pub head_text : ReportState → List ℕ
-head_text r = frames_text r.frames r.used_frames ++ slots_text r.slots r.used_slots ++ shared_text r.shared_frames r.sharers
+abbrev pub head_text : UsageState → List ℕ
+head_text u = frames_text u.frames u.used_frames ++ slots_text u.slots u.used_slots ++ shared_text u.shared_frames u.sharers
 
 abbrev pub report_text : ReportState → List ℕ
-report_text r = head_text r ++ rows_text r.tax r.instances
+report_text r = head_text r.usage ++ rows_text r.usage.tax r.instances

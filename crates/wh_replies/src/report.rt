@@ -2,12 +2,12 @@
 
 ghost use Rattle.std.specs.Prelude.{◌≡◌, ◌++◌, ◌≤◌, ◌-◌, ◌*◌, Some, OnOk, map, string_bytes};
 ghost use Rattle.wh_script_model.specs.Texts.{frames_text, slots_text, shared_text, column, row_weight, rho_text, row_text};
-ghost use Rattle.wh_host.specs.Reporting.{view_report, view_row};
+ghost use Rattle.wh_host.specs.Reporting.{view_report, view_row, view_usage};
 ghost use Rattle.wh_replies.specs.ReportTexts.{row_of, rows_text, head_text, report_text};
 
 use std::alloc::AllocError;
 use std::fmt;
-use wh_host::{InstanceReport, Report};
+use wh_host::{HostUsage, InstanceReport, Report};
 use wh_space_model::Tax;
 
 // Appends `# frames N used U free F` to a text.
@@ -112,13 +112,13 @@ fn write_rows(text: &mut String, tax: Tax, instances: &[InstanceReport]) -> Resu
 }
 
 // Appends the first three lines to a text.
-fn write_head(text: &mut String, report: &Report) -> Result<(), AllocError>
+fn write_head(text: &mut String, usage: HostUsage) -> Result<(), AllocError>
     ensures { OnOk result
-        (string_bytes text.new ≡ string_bytes text.old ++ head_text (view_report report.now)) }
+        (string_bytes text.new ≡ string_bytes text.old ++ head_text (view_usage usage)) }
 {
-    write_frames(text, report.frames, report.used_frames)?;
-    write_slots(text, report.slots, report.used_slots)?;
-    write_shared(text, report.shared_frames, report.sharers)
+    write_frames(text, usage.frames, usage.used_frames)?;
+    write_slots(text, usage.slots, usage.used_slots)?;
+    write_shared(text, usage.shared_frames, usage.sharers)
 }
 
 /// Appends a report to a text: three lines on frames, slots and shared frames, and one for each instance, whose last
@@ -130,6 +130,6 @@ pub fn write_report(text: &mut String, report: &Report) -> Result<(), AllocError
     ensures { OnOk result
         (string_bytes text.new ≡ string_bytes text.old ++ report_text (view_report report.now)) }
 {
-    write_head(text, report)?;
-    write_rows(text, report.tax, &report.instances)
+    write_head(text, report.usage)?;
+    write_rows(text, report.usage.tax, &report.instances)
 }

@@ -1,6 +1,6 @@
 //! A host that its owner has alone: what is asked of it between two runs of its calls, and the runs.
 
-ghost use Rattle.std.specs.Prelude.{◌≡◌, ◌+◌, ◌-◌, ◌/◌, ◌^◌, ◌≤◌, ◌<◌, ◌⊎◌, Ok, Some, IfNone, IfOk, IfSome, OnErr, OnOk};
+ghost use Rattle.std.specs.Prelude.{◌≡◌, ◌+◌, ◌-◌, ◌/◌, ◌^◌, ◌≤◌, ◌<◌, ◌⊎◌, Ok, Some, IfErr, IfNone, IfOk, IfSome, OnErr, OnOk, length};
 ghost use Rattle.crossbeam_channel.specs.Claims.{view};
 ghost use Rattle.wh_model.specs.declared.memory.Need.{Need};
 ghost use Rattle.wh_host_model.specs.Host.Happens.{AwaitsFrame};
@@ -9,6 +9,7 @@ ghost use Rattle.wh_space_model.specs.Offers.{OffersOf};
 ghost use Rattle.wh_space_model.specs.Stores.{Epochs};
 ghost use Rattle.wh_reclaim.specs.Together.{AreTogether};
 ghost use Rattle.wh_host.specs.Backing.{KeepsBacking};
+ghost use Rattle.wh_host.specs.HostReads.{ReadsBytes, RefusesRead, read_faults};
 ghost use Rattle.wh_host.specs.Hosting.{IsHost};
 ghost use Rattle.wh_host.specs.Paging.{MovesAnyhow, MovesOnly, MovesWith, WaitsFor, provide_fault};
 ghost use Rattle.wh_host.specs.Rolls.{IsRollOf};
@@ -42,7 +43,7 @@ use std::sync::Wait;
 use std::sync::ledger::Ledger;
 use std::thread::Threads;
 use wh_cell::{Backing, CellAgreements, CellParts, HostCell, Locked, Owner, Parts};
-use wh_host::{BeginEpoch, Host, HostError, Request, Roll, Transcript};
+use wh_host::{BeginEpoch, Host, HostError, ReadError, Request, Roll, Transcript};
 use wh_host_model::TurnEnd;
 use wh_kernels::PageHash;
 use wh_space_model::{InstId, Offer, SwapError};
@@ -251,6 +252,35 @@ impl<D: SwapDev, T: Ledger, C: Ledger, O: Ledger, E: Ledger, B: CellAgreements> 
             unreachable!();
         };
         locked.ask(&mut self.owner, request)
+    }
+
+    /// Reads `into.len()` bytes of an instance's memory, from the one at address `at` on, as the instance sees them between two of
+    /// its turns. A page in swap is read through the device, and stays there: the host is as it was, and nothing is counted. Takes
+    /// no memory.
+    ///
+    /// # Errors
+    /// `NoInstance`; `Outside` if the memory has fewer bytes; `Device` with the fault of the device's call that failed, and what
+    /// `into` holds is left open then.
+    pub fn read(&mut self, id: InstId, at: u64, into: &mut [u8]) -> Result<(), ReadError>
+        ensures reads { OnOk result (IfSome self.new.device (λ after. D.honest after
+            → ReadsBytes self.old.host id at into.new)) }
+        ensures err { IfErr result (RefusesRead self.old.host id at (length into.old)) }
+        ensures length { length into.new ≡ length into.old }
+        ensures host { self.new.host ≡ self.old.host }
+        ensures serves { (before : _) → self.old.device ≡ Some before → IfSome self.new.device
+            (λ after. ServesOn D.keeps D.honest D.faults before (read_faults result) after) }
+        ensures books { self.new.books ≡ self.old.books }
+        ensures own { self.new.own ≡ self.old.own }
+    {
+        let Some(locked) = &mut self.locked else {
+            unreachable!();
+        };
+        let Some(backing) = &mut self.backing else {
+            unreachable!();
+        };
+        let read = locked.read(backing, id, at, into);
+        locked.sync_owner(&mut self.owner);
+        read
     }
 
     /// Begins a new epoch: no page is marked as touched. It goes over all pages.

@@ -105,6 +105,9 @@ fn staff_of<
 /// `run_config.workers` threads do, and those of several instances that compute for long at once, by as many threads;
 /// meanwhile a scanner offers pages, and a reclaimer makes steps ready that wait for frames.
 ///
+/// It ends sooner where each call waits for a frame, and did so eight times with no more than 31 turns between two: threads would
+/// only wake each other then. Who wants all calls run asks again until no turn was dispatched, or makes steps ready itself.
+///
 /// Returns what was dispatched and run, however it ended. If it ended well, each dispatched turn was received once, the
 /// workers' counts have grown by as many, and for each 64 turns a page was offered. No count gets smaller.
 ///

@@ -15,3 +15,6 @@ pub use laws::one_reading;
 pub use reading::read_settings;
 pub use settings::{HashKind, Settings};
 pub use workers::Workers;
+
+/// The version that the programs tell.
+pub const VERSION: &str = "0.1.0";

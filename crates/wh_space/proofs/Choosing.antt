@@ -3,7 +3,7 @@ use Rattle.std.proofs.Common.{◌≡◌, ◌∙◌, inl, inr, ℕ, ◌+◌, ◌<
 use Rattle.std.specs.Prelude.{MatchBool}
 use Rattle.wh_space_model.specs.declared.states.Page.{Page}
 use Rattle.wh_space_model.specs.declared.states.Page.TheVariants.{Untouched, Private, Shared, Leaving, LeavingShared, Coming, Swapped}
-use Rattle.wh_space_model.specs.{IsTouched, touchers_in, CanBeTaken, CanLeave, stays, Occupant, Space, occupant_at, at, page_at, resident, frame_of}
+use Rattle.wh_space_model.specs.{IsTouched, touchers_in, CanBeTaken, CanLeave, stays, Occupant, Space, occupant_at, page_at, resident, frame_of}
 use Rattle.wh_space_model.proofs.Putting.{there_of}
 use Rattle.wh_space.specs.declared.occupant_entry.OccupantEntry.{OccupantEntry}
 use Rattle.wh_pages.specs.Seeking.{IsFirstFrom}

@@ -1,5 +1,5 @@
 -- Pages that go with their instance: what of the slots is left.
-use Rattle.std.proofs.Common.{◌≡◌, ◌≢◌, ◌==◌, ◌⊎◌, inl, inr, ℕ, ◌+◌, ◌<◌, ◌≤◌, cond, nat_lt, Bool, true, false, List, [], ◌∷◌, Option, Some, None, length, get_or, slice_get, slice_set, refl, sym, ◌∙◌, ap, subst, arith, length-set, rules}
+use Rattle.std.proofs.Common.{◌≡◌, ◌≢◌, ◌==◌, ◌⊎◌, inl, inr, ℕ, ◌+◌, ◌<◌, ◌≤◌, cond, nat_lt, List, [], ◌∷◌, Option, Some, None, length, get_or, slice_get, slice_set, refl, sym, ◌∙◌, ap, subst, arith, length-set, rules}
 use Rattle.std.proofs.lemmas.Bool.Decides.{nat_tests}
 use Rattle.wh_space_model.specs.{one_if, tally, ticket_of, Occupant, Slots, Space, occupant_at, released_use, IsUsed, LeavesBy, SlotsAreSound, comes_from, count, count_of, lies_in, page_at}
 use Rattle.wh_space_model.specs.declared.states.Page.{Page}

@@ -1,5 +1,5 @@
 -- Instances by number, as the page tables know them and as the memory does.
-use Rattle.std.proofs.Common.{◌<◌, ◌^◌, ◌∙◌, ℕ, Option, sym, subst, rules}
+use Rattle.std.proofs.Common.{◌<◌, ◌^◌, ℕ, Option, sym, subst, rules}
 use Rattle.std.proofs.lemmas.List.{length-map}
 use Rattle.wh_space_model.specs.declared.plain.InstId.{InstId}
 use Rattle.wh_tables.specs.Line.{ComesLater, IsAbove, IsNextIn}

@@ -1,6 +1,5 @@
 pub mod Arrivals
 pub mod Claiming
-pub mod Counts
 pub mod Lendable
 pub mod TicketOwners
 pub mod Occupancy
@@ -19,3 +18,5 @@ pub mod Steps
 pub mod Transits
 pub mod StepViews
 pub mod Shedding
+pub mod SlotReads
+pub use Rattle.wh_content.specs.Counts.{is_shared, sharers_in}

@@ -7,32 +7,8 @@ ghost use Rattle.wh_space_model.specs.Errands.{is_ticket, tickets};
 ghost use Rattle.wh_space_model.specs.States.{count_of, swapped};
 
 use crate::memory::Memory;
-use wh_space_model::{Page, Slot};
+use wh_space_model::Slot;
 use wh_swap::Slots;
-use wh_tables::Tables;
-
-// 1 where the page is in a slot, and is neither on its way there nor back.
-fn one_if_swapped(page: Page) -> u32
-    ensures is { result ≡ swapped page }
-    ensures one { result ≤ 1 }
-{
-    if matches!(page, Page::Swapped(_)) {
-        1
-    } else {
-        0
-    }
-}
-
-// How many pages of the instance at a place are in slots.
-fn swapped_in(tables: &Tables, place: usize) -> u32
-    ensures { result ≡ count_of swapped tables.now.pages place }
-{
-    let mut pages: u32 = 0;
-    for at in 0..tables.len_at(place) {
-        pages += one_if_swapped(tables.page(place, at));
-    }
-    pages
-}
 
 // 1 where a ticket is out for the slot.
 fn one_if_ticket(used: Slot) -> u32
@@ -79,12 +55,12 @@ impl Memory {
         self.slots.vacant()
     }
 
-    /// Returns the number of pages of the instance at this place that are in slots; 0 if nobody is there. Looks at its
-    /// pages.
+    /// Returns the number of pages of the instance at this place that are in slots; 0 if nobody is there. Takes O(1):
+    /// the count is kept.
     pub fn swapped_at(&self, place: usize) -> u32
         ensures { result ≡ count_of swapped self.now.tables place }
     {
-        swapped_in(&self.tables, place)
+        self.tables.swapped(place)
     }
 
     /// Returns the number of frames that are charged to the instance at this place, and on how many of these a page of

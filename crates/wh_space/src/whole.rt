@@ -1,12 +1,13 @@
 // Pages that are read beside others, who read them too.
 
-ghost use Rattle.std.specs.Prelude.{◌≡◌, ◌+◌, ◌*◌, ◌≤◌, ℕ, [], IsTrue, IsFalse, IfSome, IfNone, MatchBool, Some, get_or, length};
+ghost use Rattle.std.specs.Prelude.{◌≡◌, ◌+◌, ◌*◌, ◌<◌, ◌≤◌, ℕ, [], IsTrue, IsFalse, IfSome, IfNone, MatchBool, Some, get_or, length};
 ghost use Rattle.wh_space_model.specs.Parts.{view};
 ghost use Rattle.wh_space_model.specs.Ready.{IsAtHand};
 ghost use Rattle.wh_space_model.specs.States.{page_at};
 ghost use Rattle.wh_space_model.specs.declared.states.Page.TheVariants.{Private};
 ghost use Rattle.wh_model.specs.Execution.Store.{bytes_at};
 ghost use Rattle.wh_space.specs.Merges.{IsNotPrivate};
+ghost use Rattle.wh_space.specs.SlotReads.{LiesInSlot};
 
 use crate::loads::read_page;
 use crate::memory::Memory;
@@ -37,6 +38,22 @@ impl Memory {
             return false;
         }
         read_page(&self.pool, self.tables.page(place, number), offset, into)
+    }
+
+    /// Returns the slot that has the bytes of a page of the instance at this place: the one in which the page is, or from which it is
+    /// on its way. Returns `None` where there is no such page, or its bytes are at hand.
+    pub fn slot_at(&self, place: usize, number: u32) -> Option<u32>
+        ensures slot { IfSome result (LiesInSlot self.now place number) }
+        ensures hand { IfNone result (number < length (get_or self.now.tables place [])
+            → IsAtHand (page_at self.now.tables place number)) }
+    {
+        if number >= self.tables.len_at(place) {
+            return None;
+        }
+        match self.tables.page(place, number) {
+            Page::Swapped(slot) | Page::Coming(slot) => Some(slot),
+            _ => None,
+        }
     }
 
     /// Returns the bytes of a page of the instance at this place that has a frame of its own, and isn't leaving it.

@@ -1,5 +1,5 @@
 -- Pages that are looked for among those of an instance.
-use Rattle.std.proofs.Common.{◌≡◌, ◌∙◌, ℕ, ◌<◌, ◌≤◌, Bool, List, [], ◌∷◌, Option, Some, None, length, get_or, slice_get, zero, suc, arith, rules}
+use Rattle.std.proofs.Common.{◌≡◌, ℕ, ◌<◌, ◌≤◌, Bool, List, [], ◌∷◌, Option, Some, None, length, get_or, slice_get, zero, suc, arith, rules}
 use Rattle.wh_space_model.specs.declared.states.Page.{Page}
 use Rattle.wh_pages.specs.Seeking.{IsFirstFrom, IsSought}
 use Rattle.wh_pages.specs.Table.{PageTableState}

@@ -1,5 +1,5 @@
 -- The links of all pages as they lie in memory, a row for each instance.
-use Rattle.std.proofs.Common.{◌≡◌, ℕ, ◌<◌, ◌++◌, List, [], ◌∷◌, Option, Some, zero, suc, refl, sym, ap, ◌∙◌, subst, map, length, get_or, slice_get, slice_set, arith, rules}
+use Rattle.std.proofs.Common.{◌≡◌, ℕ, ◌<◌, ◌++◌, List, [], ◌∷◌, Option, Some, zero, suc, refl, sym, ap, subst, map, length, get_or, slice_get, slice_set, arith, rules}
 use Rattle.std.proofs.lemmas.List.{length-map}
 use Rattle.std.specs.Global.{Vec as Items}
 use Rattle.std.specs.Vec.{with_item}

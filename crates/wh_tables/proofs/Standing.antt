@@ -1,5 +1,5 @@
 -- On which frame a page stands: on one at most, and what one page that is another one now changes of that.
-use Rattle.std.proofs.Common.{◌≡◌, ◌≢◌, ℕ, inl, inr, List, Some, ap, ◌∙◌, arith, rules}
+use Rattle.std.proofs.Common.{◌≡◌, ◌≢◌, ℕ, inl, inr, List, Some, ap, arith, rules}
 use Rattle.wh_space_model.specs.{one_if, at, page_at, put, stands_on}
 use Rattle.wh_space_model.proofs.Tally.{one_other}
 use Rattle.wh_space_model.specs.declared.states.Page.{Page}

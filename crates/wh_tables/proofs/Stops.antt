@@ -1,5 +1,5 @@
 -- Walks along links, from their start or from a member on: orders of stops, and links there and back.
-use Rattle.std.proofs.Common.{◌≡◌, ◌⊎◌, inl, inr, Option, Some, None, refl, sym, ap, ◌∙◌, subst, rules}
+use Rattle.std.proofs.Common.{◌≡◌, inl, inr, Option, Some, None, refl, sym, ap, ◌∙◌, subst, rules}
 use Rattle.wh_tables.specs.PageLinks.{IsEarlierStop, IsStop, LeadsToNearest, Turned, stop_of}
 use Rattle.wh_tables.proofs.Linking.{IsOrder}
 

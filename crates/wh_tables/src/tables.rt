@@ -3,7 +3,7 @@
 ghost use Rattle.std.specs.Prelude.{ℕ, ◌≡◌, ◌≢◌, ◌<◌, ◌≤◌, ◌+◌, ◌^◌, ◌++◌, [], true, false, Some, None, IfOk, IfSome, IfNone, MatchBool, OnErr, OnOk, length, map, replicate, get_or, slice_set};
 ghost use Rattle.wh_space_model.specs.Places.{with_row};
 ghost use Rattle.wh_space_model.specs.Moves.{frame_of};
-ghost use Rattle.wh_space_model.specs.States.{page_at, put};
+ghost use Rattle.wh_space_model.specs.States.{count_of, page_at, put, swapped};
 ghost use Rattle.wh_space_model.specs.declared.states.Page.{Page};
 ghost use Rattle.wh_space_model.specs.declared.states.Page.TheVariants.{Untouched};
 ghost use Rattle.wh_space_model.specs.Charges.{IsFirstOn, IsOnFrame, active_in, charged_in, touchers_in};
@@ -110,6 +110,17 @@ impl Tables {
         ensures { page_at self.now.pages place number ≡ Some result }
     {
         self.tables[place].page(number)
+    }
+
+    /// Returns, in O(1), the number of pages of the instance at this place that are swapped.
+    pub fn swapped(&self, place: usize) -> u32
+        ensures { result ≡ count_of swapped self.now.pages place }
+    {
+        if place < self.tables.len() {
+            self.tables[place].swapped()
+        } else {
+            0
+        }
     }
 
     /// Returns the first resident page of the instance at this place, from this number on; with `idle`, the first of

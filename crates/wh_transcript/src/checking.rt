@@ -76,9 +76,7 @@ fn are_same(params: &Params, others: &Params) -> bool
         (view_params params.now ≡ view_params others.now)
         (¬ (view_params params.now ≡ view_params others.now)) }
 {
-    params.shares == others.shares
-        && params.min == others.min
-        && params.max == others.max
+    params.quota == others.quota
         && params.fuel == others.fuel
         && params.base == others.base
         && params.salt == others.salt

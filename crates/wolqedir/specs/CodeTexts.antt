@@ -9,7 +9,7 @@ most_number family = get_or (0 ∷ 13 ∷ 11 ∷ 3 ∷ 2 ∷ 9 ∷ 8 ∷ 10 ∷ 
 
 -- it is one of the library's own, or a family with one of its numbers
 abbrev pub IsLibraryCode : ℕ → Type 0
-IsLibraryCode code = (code < 9) ⊎ ((1 ≤ code % 256) × (code % 256 ≤ most_number (code / 256)))
+IsLibraryCode code = (code < 10) ⊎ ((1 ≤ code % 256) × (code % 256 ≤ most_number (code / 256)))
 
 -- A sentence is copied for a code; for none that is answered, and what could be written is as it was.
 abbrev pub TellsText : ℕ → (room room2 : List ℕ) → (len len2 answer : ℕ) → Type 0

@@ -20,9 +20,11 @@ use Rattle.wh_host.specs.declared.error.ModuleError.{ModuleError}
 use Rattle.wh_host.specs.declared.error.ModuleError.TheVariants.{Bytes, ModulesFull, Memory}
 use Rattle.wh_host.specs.declared.error.UnloadError.{UnloadError}
 use Rattle.wh_host.specs.declared.error.UnloadError.TheVariants.{NoModule, InUse}
+use Rattle.wh_hand.specs.declared.reading.BytesError.{BytesError}
+use Rattle.wh_hand.specs.declared.reading.BytesError.TheVariants as reads
 
 -- the handle holds no host; room was refused; it holds one already; no such tax; not UTF-8; no such instance, call or code; frames
--- and slots are 2^32 together or more; an instance of the module is there
+-- and slots are 2^32 together or more; an instance of the module is there; the instance's memory has fewer bytes
 abbrev pub none_code : ℕ
 none_code = 1
 
@@ -46,6 +48,9 @@ large_code = 7
 
 abbrev pub in_use_code : ℕ
 in_use_code = 8
+
+abbrev pub outside_code : ℕ
+outside_code = 9
 
 -- why a module isn't linked
 abbrev pub link_error_code : LinkError → ℕ
@@ -72,6 +77,11 @@ unload_error_code InUse = in_use_code
 -- why a host doesn't do what is asked of it
 abbrev pub host_error_code : HostError → ℕ
 host_error_code e = 1536 + host_number e
+
+-- why bytes of an instance aren't read: as where something else is asked of one that isn't there; or its memory has fewer
+abbrev pub bytes_error_code : BytesError → ℕ
+bytes_error_code reads.NoInstance = host_error_code asks.NoInstance
+bytes_error_code reads.Outside = outside_code
 
 -- Why an instance isn't copied: as where something else is asked of one that isn't there; as where one with the quota isn't
 -- admitted, memory that is refused among it; or by a number of its own family.

@@ -20,12 +20,12 @@ use Rattle.wh_host.specs.declared.error.ModuleError.{ModuleError}
 use Rattle.wh_host.specs.declared.error.UnloadError.{UnloadError}
 use Rattle.wh_host.specs.declared.parts.ModuleId.{ModuleId}
 use Rattle.wh_host.specs.Admitting.{AnswersAdmit}
-use Rattle.wh_host.specs.CallRequests.{AnswersCall, AnswersInvoke}
+use Rattle.wh_host.specs.CallRequests.{AnswersCall, AnswersInvoke, AnswersInvokeAt}
 use Rattle.wh_host.specs.Backing.{KeepsBacking}
 use Rattle.wh_host.specs.ForkAnswers.{AnswersFork, claim_by}
 use Rattle.wh_host.specs.Loading.{AnswersLoad}
 use Rattle.wh_host.specs.Paging.{MovesOnly}
-use Rattle.wh_host.specs.Reporting.{ReportState, ReportsHost}
+use Rattle.wh_host.specs.Reporting.{ReportState, ReportsHost, ReportsUsage, UsageState}
 use Rattle.wh_host.specs.Sharing.{CanScan}
 use Rattle.wh_host.specs.Telling.{TellsChargesOf, TellsOf}
 use Rattle.wh_host.specs.Unloading.{AnswersUnload}
@@ -126,6 +126,16 @@ pub record ExportInvokes (id : InstId) (name : List ℕ) (args : List ℤ) (fuel
     pub output : h2.output ≡ h.output
     pub told : TellsCaller (λ at. at) answer call call2
 
+-- by the place of a function among those that the instance's module exports
+pub record ExportInvokesAt (id : InstId) (at : ℕ) (args : List ℤ) (fuel call call2 code : ℕ) (h h2 : HandState) : Type 0 where
+  pub answer : Result ℕ HostError
+  pub answered : code ≡ code_by host_error_code answer
+  pub asks : AnswersInvokeAt h.host id at args fuel answer h2.host
+  pub err : OnErr answer (h2 ≡ h)
+  pub backing : KeepsBacking h.host.space h2.host.space
+  pub output : h2.output ≡ h.output
+  pub told : TellsCaller (λ at. at) answer call call2
+
 -- of the present call of an instance
 pub record ExportAsks (request : World → CallAnswer → World → Type 0) (code : ℕ) (h h2 : HandState) : Type 0 where
   pub answer : Result Unit HostError
@@ -203,16 +213,15 @@ pub record ExportTellsTaken (room room2 : List ℕ) (len2 code : ℕ) (h h2 : Ha
   pub laid : room2 ≡ laid_in h.output room
   pub counted : len2 ≡ length h.output
 
--- the numbers of the host's report
-pub record ExportTellsReport (report report2 : RawReport) (code : ℕ) (h h2 : HandState) : Type 0 where
-  pub answer : Result ReportState HostError
-  pub answered : code ≡ code_by host_error_code answer
+-- how the host is used
+pub record ExportTellsReport (report2 : RawReport) (code : ℕ) (h h2 : HandState) : Type 0 where
+  pub answered : code ≡ 0
   pub same : h2 ≡ h
-  pub ok : IfOk answer (ReportsHost h.host)
-  pub err : IfErr answer (λ error. error ≡ Memory)
-  pub told : TellsCaller raw_report_of answer report report2
+  pub usage : UsageState
+  pub reports : ReportsUsage h.host usage
+  pub told : report2 ≡ raw_report_of usage
 
--- those of its instances, by number
+-- what it has of its instances, by number
 pub record ExportTellsInstances (room room2 : List RawInstanceReport) (len len2 code : ℕ) (h h2 : HandState) : Type 0 where
   pub answer : Result ReportState HostError
   pub answered : code ≡ code_by host_error_code answer

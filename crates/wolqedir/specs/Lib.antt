@@ -6,3 +6,4 @@ pub mod ExportContracts
 pub mod Shapes
 pub mod CodeTexts
 pub mod Transcribed
+pub mod LiveContracts

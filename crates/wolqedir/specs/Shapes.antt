@@ -1,5 +1,5 @@
 -- What C reads and writes, and what it represents.
-use Rattle.std.specs.Prelude.{ℕ, Bool, true, false, List, length, Option, Some, None}
+use Rattle.std.specs.Prelude.{ℕ, Bool, true, false, List, Option, Some, None}
 use Rattle.wh_model.specs.declared.ValType.{ValType}
 use Rattle.wh_model.specs.declared.ValType.TheVariants.{I32, I64}
 use Rattle.wh_space_model.specs.declared.plain.InstId.{InstId}
@@ -9,7 +9,7 @@ use Rattle.wh_instance.specs.declared.stages.CallStatus.TheVariants.{Returned, T
 use Rattle.wh_instance.specs.declared.stages.CallValue.{CallValue}
 use Rattle.wh_instance.specs.declared.stages.Suspension.{Suspension}
 use Rattle.wh_instance.specs.declared.stages.Suspension.TheVariants.{Fuel, Frame, Device}
-use Rattle.wh_host.specs.Reporting.{ReportRow, ReportState}
+use Rattle.wh_host.specs.Reporting.{ReportRow, UsageState}
 use Rattle.wh_hand.specs.declared.running.Ran.{Ran}
 use Rattle.wolqedir.specs.declared.shapes.RawInstance.{RawInstance}
 use Rattle.wolqedir.specs.declared.shapes.RawParams.{RawParams}
@@ -89,8 +89,8 @@ shown_status (Trapped trap taken) charges =
 shown_status (Cancelled taken) charges = record { kind = 8; code = 0; bits = 0; value = 0; charges = charges }
 shown_status Dead charges = record { kind = 9; code = 0; bits = 0; value = 0; charges = charges }
 
--- the numbers of a report, and those of an instance
-abbrev pub raw_report_of : ReportState → RawReport
+-- how a host is used, and what it has of an instance
+abbrev pub raw_report_of : UsageState → RawReport
 raw_report_of r = record {
   frames = r.frames;
   used_frames = r.used_frames;
@@ -100,7 +100,7 @@ raw_report_of r = record {
   tax_num = r.tax.num;
   tax_den = r.tax.den;
   sharers = r.sharers;
-  instances = length r.instances;
+  instances = r.instances;
 }
 
 abbrev pub raw_row_of : ReportRow → RawInstanceReport

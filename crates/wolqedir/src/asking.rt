@@ -3,7 +3,7 @@
 ghost use Rattle.std.specs.Prelude.{◌≡◌, IfOk, ⊤};
 ghost use Rattle.wh_host_model.specs.Host.Happens.{IsCancel, IsRefuel, IsRetry};
 ghost use Rattle.wolqedir.specs.Codes.{code_by, host_error_code};
-ghost use Rattle.wolqedir.specs.ExportContracts.{ExportAsks, ExportInvokes, ExportReleases, ServesHandle, ServesNamed, TellsCaller};
+ghost use Rattle.wolqedir.specs.ExportContracts.{ExportAsks, ExportInvokes, ExportInvokesAt, ExportReleases, ServesHandle, ServesNamed, ServesWithRoom, TellsCaller};
 ghost use Rattle.wolqedir.specs.Shapes.{id_of};
 
 use crate::codes::{DONE, MEMORY, NAME, NONE, of_host};
@@ -11,7 +11,7 @@ use crate::handle::Handle;
 use crate::shapes::{RawInstance, named};
 use std::alloc::{AllocError, Global};
 use std::str;
-use wh_hand::{Cancel, HostError, Invoke, Refuel, Retry};
+use wh_hand::{Cancel, HostError, Invoke, InvokeAt, Refuel, Retry};
 
 // The code of what was answered.
 fn code_of(answer: Result<(), HostError>) -> u32
@@ -97,6 +97,42 @@ pub extern "C" fn wq_invoke(
         alloc,
         id: named(instance),
         name,
+        given: &args,
+        fuel,
+    });
+    handle.put(hand);
+    tell_place(answer, call)
+}
+
+/// Queues a call as `wq_invoke` does, of the function at place `at` of those that the instance's module exports: that by the name
+/// which `wq_export_at` tells.
+///
+/// It answers MEMORY where there is no room for a copy of the arguments, NONE, or a code of the family H; H2 where there is no
+/// such place.
+#[unsafe(no_mangle)]
+pub extern "C" fn wq_invoke_at(
+    alloc: Global,
+    handle: &mut Handle,
+    instance: &RawInstance,
+    at: usize,
+    args: &[i64],
+    fuel: u64,
+    call: &mut u32,
+) -> u32
+    ensures { ServesWithRoom handle.old.slot.held
+        (ExportInvokesAt (id_of instance.now) at args.now fuel call.old call.new result)
+        result handle.new.slot.held (call.new ≡ call.old) }
+{
+    let Ok(args) = widened(alloc, args) else {
+        return MEMORY;
+    };
+    let Some(mut hand) = handle.take(alloc) else {
+        return NONE;
+    };
+    let answer = hand.ask(InvokeAt {
+        alloc,
+        id: named(instance),
+        at,
         given: &args,
         fuel,
     });

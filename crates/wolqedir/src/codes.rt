@@ -2,9 +2,9 @@
 //! steps of 256 and the number that scripts show after the family's letter.
 
 ghost use Rattle.std.specs.Prelude.{◌≡◌};
-ghost use Rattle.wolqedir.specs.Codes.{admit_error_code, fork_error_code, host_error_code, link_error_code, module_error_code, swap_code, trap_code, unload_error_code};
+ghost use Rattle.wolqedir.specs.Codes.{admit_error_code, bytes_error_code, fork_error_code, host_error_code, link_error_code, module_error_code, swap_code, trap_code, unload_error_code};
 
-use wh_hand::{AdmitError, ForkError, HostError, ModuleError, UnloadError};
+use wh_hand::{AdmitError, BytesError, ForkError, HostError, ModuleError, UnloadError};
 use wh_imports::LinkError;
 use wh_load::LoadError;
 use wh_model::Trap;
@@ -28,6 +28,8 @@ pub const UNKNOWN: u32 = 6;
 pub const LARGE: u32 = 7;
 /// An instance of the module is there.
 pub const IN_USE: u32 = 8;
+/// The instance's memory has fewer bytes.
+pub const OUTSIDE: u32 = 9;
 
 // Why a module isn't linked: L and the number of its fault.
 fn of_link(error: LinkError) -> u32
@@ -74,6 +76,16 @@ pub fn of_host(error: HostError) -> u32
     ensures { result ≡ host_error_code error }
 {
     0x600 + u32::from(error.number())
+}
+
+/// Returns the code for why bytes of an instance aren't read: that of H for an instance that isn't there; OUTSIDE.
+pub fn of_bytes(error: BytesError) -> u32
+    ensures { result ≡ bytes_error_code error }
+{
+    match error {
+        BytesError::NoInstance => of_host(HostError::NoInstance),
+        BytesError::Outside => OUTSIDE,
+    }
 }
 
 /// Returns the code for why an instance isn't copied: that of F and the number of its fault; that of H for an instance that

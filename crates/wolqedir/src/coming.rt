@@ -18,9 +18,11 @@ fn given(alloc: Global, params: &RawParams, inputs: &[u64]) -> Result<wh_hand::P
 {
     let inputs = Vec::from_slice(alloc, inputs)?;
     Ok(wh_hand::Params {
-        shares: params.shares,
-        min: params.min,
-        max: params.max,
+        quota: Quota {
+            shares: params.shares,
+            min_frames: params.min,
+            max_frames: params.max,
+        },
         fuel: params.fuel,
         base: params.base,
         salt: params.salt,

@@ -12,6 +12,7 @@ mod codes;
 mod coming;
 mod handle;
 mod hosting;
+mod looking;
 mod rooms;
 mod running;
 mod sealing;

@@ -1,12 +1,12 @@
 //! What C reads and writes, field by field.
 
 ghost use Rattle.std.specs.Prelude.{◌≡◌, IfOk, map};
-ghost use Rattle.wh_host.specs.Reporting.{view_report, view_row};
-ghost use Rattle.wolqedir.specs.Shapes.{bits_of_result, id_of, instance_of, progress_as, raw_report_of, raw_row_of, standing_code, standing_kind, shown_status, word_of};
+ghost use Rattle.wh_host.specs.Reporting.{view_row, view_usage};
+ghost use Rattle.wolqedir.specs.Shapes.{bits_of_result, id_of, instance_of, progress_as, raw_report_of, raw_row_of, standing_code, standing_kind, shown_status, type_bits, word_of};
 
 use crate::codes::{of_swap, of_trap};
 use std::alloc::{AllocError, Global};
-use wh_hand::{CallStatus, CallValue, InstId, InstanceReport, Ran, Report, Suspension};
+use wh_hand::{CallStatus, CallValue, HostUsage, InstId, InstanceReport, Ran, Suspension};
 use wh_model::ValType;
 
 /// An instance, as it was admitted.
@@ -61,7 +61,7 @@ pub struct Progress {
 
 /// How far a call is.
 #[repr(C)]
-#[derive(Drop)]
+#[derive(Clone, Copy)]
 pub struct RawStatus {
     /// 1 waits behind another call, 2 goes on, 3 waits for fuel, 4 for a frame, 5 for the swap device; 6 has returned,
     /// 7 trapped, 8 was cancelled, 9 did nothing after a start that failed.
@@ -74,6 +74,18 @@ pub struct RawStatus {
     pub value: u64,
     /// How many charges it has taken.
     pub charges: u64,
+}
+
+/// A function that a module exports.
+#[repr(C)]
+#[derive(Drop)]
+pub struct RawExport {
+    /// How many bytes its name has.
+    pub name_len: usize,
+    /// How many parameters it has.
+    pub params: usize,
+    /// How many results it has: 1 or 0.
+    pub results: usize,
 }
 
 /// How the frames, slots and pages of a host are used.
@@ -137,6 +149,16 @@ pub fn name_of(id: InstId) -> RawInstance
     RawInstance {
         place: id.place,
         number: id.number,
+    }
+}
+
+/// Returns how many bits a value of this type has.
+pub fn bits_of_type(of: ValType) -> u8
+    ensures { result ≡ type_bits of }
+{
+    match of {
+        ValType::I32 => 32,
+        ValType::I64 => 64,
     }
 }
 
@@ -217,20 +239,20 @@ pub fn progress_of(ran: Ran) -> Progress
     }
 }
 
-/// Converts the numbers of a report for C.
-pub fn raw_report(report: &Report) -> RawReport
-    ensures { result ≡ raw_report_of (view_report report.now) }
+/// Converts how a host is used for C.
+pub fn raw_report(usage: HostUsage) -> RawReport
+    ensures { result ≡ raw_report_of (view_usage usage) }
 {
     RawReport {
-        frames: report.frames,
-        used_frames: report.used_frames,
-        slots: report.slots,
-        used_slots: report.used_slots,
-        shared_frames: report.shared_frames,
-        tax_num: report.tax.num,
-        tax_den: report.tax.den,
-        sharers: report.sharers,
-        instances: report.instances.len(),
+        frames: usage.frames,
+        used_frames: usage.used_frames,
+        slots: usage.slots,
+        used_slots: usage.used_slots,
+        shared_frames: usage.shared_frames,
+        tax_num: usage.tax.num,
+        tax_den: usage.tax.den,
+        sharers: usage.sharers,
+        instances: usage.instances,
     }
 }
 

@@ -69,24 +69,18 @@ pub extern "C" fn wq_taken(
 
 /// Tells how the frames, slots and pages of the host are used, and how many instances it has.
 ///
-/// It answers NONE, or H7 where there is no room for the report.
+/// It answers NONE or 0.
 #[unsafe(no_mangle)]
 pub extern "C" fn wq_report_of(alloc: Global, handle: &mut Handle, report: &mut RawReport) -> u32
-    ensures { ServesHandle handle.old.slot.held (ExportTellsReport report.old report.new result)
+    ensures { ServesHandle handle.old.slot.held (ExportTellsReport report.new result)
         result handle.new.slot.held (report.new ≡ report.old) }
 {
     let Some(hand) = handle.take(alloc) else {
         return NONE;
     };
-    let told = hand.report(alloc);
+    *report = raw_report(hand.usage());
     handle.put(hand);
-    match told {
-        Ok(told) => {
-            *report = raw_report(&told);
-            DONE
-        }
-        Err(error) => of_host(error),
-    }
+    DONE
 }
 
 /// Copies as many rows as there is room for of what the instances of the host have of its memory, by number, and tells how many

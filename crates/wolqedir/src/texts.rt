@@ -3,17 +3,18 @@
 ghost use Rattle.std.specs.Prelude.{◌≡◌, MatchOption, length};
 ghost use Rattle.wolqedir.specs.CodeTexts.{IsLibraryCode, most_number};
 
-// The library's own codes: 0 to 8.
-const OWN: [&str; 9] = [
+// The library's own codes: 0 to 9.
+const OWN: [&str; 10] = [
     "it was done",
     "no host is in the handle",
     "memory was refused",
     "the handle holds a host already",
     "the tax isn't a fraction below one with a denominator of 1 to 1000",
     "the name isn't UTF-8",
-    "no such instance, call or code",
+    "no such instance, call, module, export or code",
     "frames and slots are 2^32 together or more",
     "an instance of the module is there",
+    "the memory has fewer bytes",
 ];
 
 // Why bytes are no module: D1 to D13.
@@ -134,7 +135,7 @@ fn sentences(family: u32) -> &'static [&'static str]
 pub fn sentence(code: u32) -> Option<&'static str>
     ensures { MatchOption result (¬ IsLibraryCode code) (λ _. IsLibraryCode code) }
 {
-    if code < 9 {
+    if code < 10 {
         return Some(OWN[code as usize]);
     }
     let number = (code % 256) as usize;

@@ -1,4 +1,4 @@
-use Rattle.std.proofs.Common.{◌*◌, rules}
+use Rattle.std.proofs.Common.{rules}
 use Rattle.wh_host.proofs.BesideTurns.{may_run, ran_beside}
 use Rattle.wh_host.proofs.beside.run_beside.Goals as goal
 

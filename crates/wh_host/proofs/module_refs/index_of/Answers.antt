@@ -1,4 +1,4 @@
-use Rattle.std.proofs.Common.{◌≡◌, arith, rules, ltb, ap, sym, ◌∙◌}
+use Rattle.std.proofs.Common.{arith, rules, ltb, ap, sym, ◌∙◌}
 use Rattle.std.proofs.lemmas.List.Sorted.{IsPartitionPoint-from_clause, IsPartitionedBy-ltb}
 use Rattle.std.proofs.lemmas.Option.{same_Some, slice_get_within}
 use Rattle.wh_host.specs.declared.parts.ModuleRef.{ModuleRef}

@@ -1,4 +1,4 @@
-use Rattle.std.proofs.Common.{[], rules}
+use Rattle.std.proofs.Common.{rules}
 use Rattle.wh_space.proofs.LeavingPages.{next_page}
 use Rattle.wh_space.proofs.leaving.let_pages_go.Goals as goal
 

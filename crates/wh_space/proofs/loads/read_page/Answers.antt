@@ -1,4 +1,4 @@
-use Rattle.std.proofs.Common.{[], ◌∙◌, sym, rules}
+use Rattle.std.proofs.Common.{◌∙◌, sym, rules}
 use Rattle.wh_space_model.proofs.Reading.{read_zeros}
 use Rattle.wh_space.proofs.loads.read_page.Goals as goal
 

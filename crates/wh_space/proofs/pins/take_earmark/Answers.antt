@@ -1,4 +1,4 @@
-use Rattle.std.proofs.Common.{◌∷◌, [], rules}
+use Rattle.std.proofs.Common.{rules}
 use Rattle.wh_space.proofs.Earmarked.{earmark_goes}
 use Rattle.wh_space.proofs.pins.take_earmark.Goals as goal
 

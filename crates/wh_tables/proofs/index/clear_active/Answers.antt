@@ -1,4 +1,4 @@
-use Rattle.std.proofs.Common.{◌<◌, ◌∙◌, rules}
+use Rattle.std.proofs.Common.{rules}
 use Rattle.wh_tables.proofs.Mapping.{one_more}
 use Rattle.wh_tables.proofs.index.clear_active.Goals as goal
 

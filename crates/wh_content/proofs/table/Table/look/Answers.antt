@@ -7,7 +7,7 @@ use Rattle.wh_content.proofs.table.Table.look.Goals as goal
 pub mark-requires : goal.mark-requires
 mark-requires c =
     let a = c.self.inside in
-    let marks = a.marks.items in
+    let marks = a.marks in
     let inv = c.self.invariant in
     let is = led_on a.frames marks a.chains inv.chains _ c.loop-frame.place (omega arith) c.loop-frame.invariant.place
     c.in-Some.frame c.in-Some.ensures.link in
@@ -16,7 +16,7 @@ mark-requires c =
 pub loop-frame-preserved : goal.loop-frame-preserved
 loop-frame-preserved c =
     let a = c.self.inside in
-    let marks = a.marks.items in
+    let marks = a.marks in
     let chains = c.self.invariant.chains in
     let frame = c.in-Some.frame in
     let place = c.loop-frame.invariant.place in
@@ -36,6 +36,6 @@ loop-frame-preserved c =
 pub returns-clause-none : goal.returns-clause-none
 returns-clause-none c =
     let a = c.self.inside in
-    rw (← c.self.view_is) (λ f. none_from a.frames a.marks.items a.chains c.self.invariant.chains _ c.loop-frame.place
+    rw (← c.self.view_is) (λ f. none_from a.frames a.marks a.chains c.self.invariant.chains _ c.loop-frame.place
     (omega arith) c.loop-frame.invariant.place 0 c.args.hash refl c.in_default.ensures.link
     c.loop-frame.invariant.without f (omega arith))

@@ -11,7 +11,7 @@ insert-requires-clause-last c =
     let n = a.frames in
     let f = c.args.frame in
     let b = c.args.hash % n in
-    let marks = a.marks.items in
+    let marks = a.marks in
     let inv = c.self.invariant in
     let forgot = c.self.view_is ∙ c.forget_frame.ensures in
     let below : b < n = omega arith in
@@ -26,7 +26,7 @@ invariant_of-self c =
     let f = c.args.frame in
     let b = c.args.hash % n in
     let old = c.args.self.now in
-    let marks = a.marks.items in
+    let marks = a.marks in
     let inv = c.self.invariant in
     let forgot = c.self.view_is ∙ c.forget_frame.ensures in
     let there = put_within old marks f n Plain forgot inv.many c.requires.within in
@@ -38,13 +38,13 @@ invariant_of-self c =
     let low = leads_before n marks a.chains inv.chains b c.behind-place.result below at f plain behind.last in
     record {
       few = inv.few;
-      many = simp length-set inv.many;
-      apart = apart_put marks f c.args.mark inv.apart within (λ h also. rw forgot (only_plain old f c.args.hash h
-          c.args.mark c.requires.within c.requires.alone c.requires.hash also));
+      many = rw c.set.ensures (simp length-set inv.many);
+      apart = rw c.set.ensures (apart_put marks f c.args.mark inv.apart within (λ h also. rw forgot (only_plain old f c.args.hash h
+          c.args.mark c.requires.within c.requires.alone c.requires.hash also)));
       places = rw c.insert.ensures (simp length-set inv.places);
-      chains = rw c.insert.ensures (inserted n b c.behind-place.result f marks a.chains c.args.mark inv.many there below
+      chains = rw (c.set.ensures, c.insert.ensures) (inserted n b c.behind-place.result f marks a.chains c.args.mark inv.many there below
           inv.chains plain (c.args.hash, c.requires.hash, refl) at behind.behind behind.within low);
     }
 
 pub returns : goal.returns
-returns c = rw (c.self.view_is ∙ c.forget_frame.ensures) (set-set c.args.self.now c.args.frame Plain c.args.mark)
+returns c = rw (c.set.ensures, c.self.view_is ∙ c.forget_frame.ensures) (set-set c.args.self.now c.args.frame Plain c.args.mark)

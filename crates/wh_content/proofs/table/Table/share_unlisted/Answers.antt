@@ -13,7 +13,7 @@ set_twice (z ∷ xs) (suc i) x y = ap (λ zs. z ∷ zs) (set_twice xs i x y)
 pub invariant_of-self : goal.invariant_of-self
 invariant_of-self c =
     let a = c.self.inside in
-    let marks = a.marks.items in
+    let marks = a.marks in
     let f = c.args.frame in
     let inv = c.self.invariant in
     let is : marks ≡ slice_set c.args.self.now f Plain = c.self.view_is ∙ c.forget_frame.ensures in
@@ -21,14 +21,14 @@ invariant_of-self c =
     let found : slice_get marks f ≡ Some Plain = rw is (set_same c.args.self.now f Plain c.requires) in
     record {
       few = inv.few;
-      many = simp length-set inv.many;
-      apart = apart_put marks f _ inv.apart within (λ hash has. absurd has);
+      many = rw c.set.ensures (simp length-set inv.many);
+      apart = rw c.set.ensures (apart_put marks f _ inv.apart within (λ hash has. absurd has));
       places = inv.places;
-      chains = remarked a.frames f Plain (Unlisted c.args.sharers) marks a.chains within found (λ h x. x) (λ h x. x) inv.chains;
+      chains = rw c.set.ensures (remarked a.frames f Plain (Unlisted c.args.sharers) marks a.chains within found (λ h x. x) (λ h x. x) inv.chains);
     }
 
 pub returns : goal.returns
 returns c =
     let f = c.args.frame in
-    let is : c.self.inside.marks.items ≡ slice_set c.args.self.now f Plain = c.self.view_is ∙ c.forget_frame.ensures in
-    rw is (set_twice c.args.self.now f Plain (Unlisted c.args.sharers))
+    let is : c.self.inside.marks ≡ slice_set c.args.self.now f Plain = c.self.view_is ∙ c.forget_frame.ensures in
+    rw (c.set.ensures, is) (set_twice c.args.self.now f Plain (Unlisted c.args.sharers))

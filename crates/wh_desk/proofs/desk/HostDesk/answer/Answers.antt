@@ -42,7 +42,7 @@ invariant_of-self g c = (
   owned_so (e g c) c.self.inside.record c.change.new.self _ _ (is g c) c.self.invariant.2 c.respond-reply.ensures.owned,
   counted_so (e g c) c.self.inside.record c.change.new.self _ _ (is g c) c.self.invariant.3 c.add.ensures.total,
   subst (λ (z : OwnershipState). OwnsAll z c.respond-reply.new.owner.host) (sym c.respond-reply.ensures.owned)
-      (replied_owns _ (e g c) c.respond-reply.ensures.right (owns g c)),
+      (replied_owns g.D.SwapDev.keeps g.D.SwapDev.honest g.D.SwapDev.faults _ (e g c) c.respond-reply.ensures.right (owns g c)),
   c.respond-reply.ensures.room,
 )
 

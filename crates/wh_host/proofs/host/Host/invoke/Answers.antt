@@ -1,4 +1,4 @@
-use Rattle.std.proofs.Common.{refl, sym, ◌∙◌, rules}
+use Rattle.std.proofs.Common.{refl, sym, rules}
 use Rattle.wh_host_model.specs.Host.{invoke_ok, invoke_no_instance, has_no_instance}
 use Rattle.wh_instance.specs.Invoked.{refusal_of}
 use Rattle.wh_host.specs.CallRequests.{refusal_answer}

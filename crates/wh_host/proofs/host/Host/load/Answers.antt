@@ -1,6 +1,5 @@
-use Rattle.std.proofs.Common.{◌<◌, ◌∙◌, List, Option, length, refl, sym, subst, arith, rules}
+use Rattle.std.proofs.Common.{◌<◌, length, refl, sym, subst, arith}
 use Rattle.wh_host_model.specs.Host.{modules_full, host_out_of_memory, load_ok, load_refused, load_out_of_memory}
-use Rattle.wh_host.specs.declared.parts.LoadedModule.{LoadedModule}
 use Rattle.wh_host.specs.Hosting.{IsHost}
 use Rattle.wh_host.proofs.Requests.{bytes_refused, kept_here, modules_are_full, no_room_to_keep}
 use Rattle.wh_host.proofs.Fields.{host_of, shown_host}

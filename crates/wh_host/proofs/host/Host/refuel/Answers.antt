@@ -1,4 +1,4 @@
-use Rattle.std.proofs.Common.{refl, sym, ◌∙◌, rules}
+use Rattle.std.proofs.Common.{refl, sym, rules}
 use Rattle.wh_host_model.specs.Host.{Refuels, refuel, call_ok, call_no_instance, call_no_call, is_refueled, no_one_to_refuel, no_call_to_refuel}
 use Rattle.wh_host.proofs.Hosts.{asked_here, kept_back, put_back, refuel_stays}
 use Rattle.wh_host.proofs.Fields.{another_there, host_of, nobody_there, some_host, shown_host, unmoved_there}

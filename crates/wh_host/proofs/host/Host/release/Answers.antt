@@ -1,4 +1,4 @@
-use Rattle.std.proofs.Common.{ap, ◌≡◌, ◌+◌, ◌-◌, Some, None, refl, sym, subst, ◌∙◌, arith, rules}
+use Rattle.std.proofs.Common.{ap, ◌≡◌, ◌+◌, ◌-◌, Some, None, refl, sym, subst, arith, rules}
 use Rattle.wh_host_model.specs.Host.{no_one_to_release}
 use Rattle.wh_space_model.specs.{Exits}
 use Rattle.wh_host.specs.Hosting.{HostState}

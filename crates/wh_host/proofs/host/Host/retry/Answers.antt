@@ -1,4 +1,4 @@
-use Rattle.std.proofs.Common.{refl, sym, ◌∙◌, rules}
+use Rattle.std.proofs.Common.{refl, sym, rules}
 use Rattle.wh_host_model.specs.Host.{Retries, retry, call_ok, call_no_instance, call_no_call, is_retried, no_one_to_retry, no_fault_to_retry}
 use Rattle.wh_host.proofs.Hosts.{asked_here, kept_back, put_back, retry_stays}
 use Rattle.wh_host.proofs.Fields.{another_there, host_of, nobody_there, some_host, shown_host, unmoved_there}

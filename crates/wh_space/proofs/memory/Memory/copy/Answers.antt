@@ -1,4 +1,4 @@
-use Rattle.std.proofs.Common.{ap, subst, ◌∙◌, ◌≡◌, ◌*◌, ◌/◌, ◌<◌, [], length, get_or, arith}
+use Rattle.std.proofs.Common.{ap, subst, ◌∙◌, ◌≡◌, ◌*◌, ◌/◌, [], length, get_or, arith}
 use Rattle.wh_space_model.specs.{LendsFirst, Space, Enters, IsSound}
 use Rattle.wh_space.specs.Arrivals.{claimed}
 use Rattle.wh_space.proofs.Copying.{may_lend_all, whole_table}

@@ -1,4 +1,4 @@
-use Rattle.std.proofs.Common.{◌≡◌, [], refl, arith, rules}
+use Rattle.std.proofs.Common.{◌≡◌, refl, arith, rules}
 use Rattle.wh_space_model.specs.declared.states.Slot.TheVariants.{Evicting}
 use Rattle.wh_space_model.specs.{CanLeave, Space, departing}
 use Rattle.wh_space_model.proofs.Begun.{is_sound_begun}

@@ -1,4 +1,4 @@
-use Rattle.std.proofs.Common.{◌≤◌, ◌/◌, List, ℕ, [], length, subst, sym, arith, rules}
+use Rattle.std.proofs.Common.{List, ℕ, subst, sym, arith, rules}
 use Rattle.std.specs.Bool.{MatchBool}
 use Rattle.wh_space.specs.Steps.{CanStep}
 use Rattle.wh_space_model.proofs.Deciding.{no_bytes_are_ready}

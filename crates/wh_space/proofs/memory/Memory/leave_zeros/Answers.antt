@@ -1,4 +1,4 @@
-use Rattle.std.proofs.Common.{refl, subst, sym, ap, ◌∙◌, ◌≡◌, length, cond, nat_lt, ◌++◌, [], ◌∷◌}
+use Rattle.std.proofs.Common.{refl, subst, sym, ap, ◌≡◌, length, cond, nat_lt, ◌++◌, [], ◌∷◌}
 use Rattle.wh_space_model.specs.{Pool, MayBeListed, Space, sharers, IsSound}
 use Rattle.wh_space.specs.Listing.{zeros_left}
 use Rattle.wh_space.specs.Parts.{IsWell, space_of}

@@ -1,4 +1,4 @@
-use Rattle.std.proofs.Common.{◌≤◌, rules}
+use Rattle.std.proofs.Common.{rules}
 use Rattle.wh_space.proofs.Copying.{lending_on}
 use Rattle.wh_space.proofs.memory.Memory.lend_all.Goals as goal
 

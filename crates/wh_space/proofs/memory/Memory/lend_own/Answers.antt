@@ -1,4 +1,4 @@
-use Rattle.std.proofs.Common.{refl, ap, ◌∙◌, ◌≡◌, List, arith, rules}
+use Rattle.std.proofs.Common.{refl, ap, ◌∙◌, List, arith, rules}
 use Rattle.wh_space_model.specs.declared.states.Page.{Page}
 use Rattle.wh_space_model.specs.declared.states.Page.TheVariants.{Private, Shared}
 use Rattle.wh_space_model.specs.{put}

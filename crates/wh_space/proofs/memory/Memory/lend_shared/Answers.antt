@@ -1,4 +1,4 @@
-use Rattle.std.proofs.Common.{refl, subst, sym, ◌∙◌, ◌≡◌, ◌+◌, ◌<◌, ◌^◌, Some, arith, rules}
+use Rattle.std.proofs.Common.{refl, subst, sym, ◌≡◌, ◌+◌, ◌<◌, ◌^◌, Some, arith, rules}
 use Rattle.wh_content.specs.Marks.{HasRoomForOne}
 use Rattle.wh_space_model.specs.declared.states.Mark.{Mark}
 use Rattle.wh_space_model.specs.declared.states.Mark.TheVariants.{Plain, Hint, Sharers, Unlisted}

@@ -1,4 +1,4 @@
-use Rattle.std.proofs.Common.{◌∙◌, length-set, rules}
+use Rattle.std.proofs.Common.{length-set, rules}
 use Rattle.wh_space_model.specs.{FindsHint}
 use Rattle.wh_space_model.proofs.Listed.{listed_for_sound}
 use Rattle.wh_space_model.proofs.Putting.{there_of}

@@ -1,4 +1,4 @@
-use Rattle.std.proofs.Common.{◌≡◌, ◌<◌, Some, sym, ap, ◌∙◌, arith, rules}
+use Rattle.std.proofs.Common.{◌≡◌, Some, sym, ap, ◌∙◌, arith, rules}
 use Rattle.wh_space_model.specs.{Space, page_at}
 use Rattle.wh_space.specs.Steps.{frame_shared}
 use Rattle.wh_space.proofs.Besides.{sheds_few, within_pool}

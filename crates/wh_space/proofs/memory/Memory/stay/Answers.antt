@@ -1,4 +1,4 @@
-use Rattle.std.proofs.Common.{◌≡◌, Some, slice_get, refl, subst, ◌∙◌, rules}
+use Rattle.std.proofs.Common.{◌≡◌, Some, slice_get, refl, subst, rules}
 use Rattle.wh_space_model.specs.declared.states.Page.{Page}
 use Rattle.wh_space_model.specs.declared.states.Slot.TheVariants.{Evicting}
 use Rattle.wh_space_model.specs.{Space, as_before, not_sent}

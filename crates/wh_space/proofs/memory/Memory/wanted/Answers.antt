@@ -1,4 +1,4 @@
-use Rattle.std.proofs.Common.{◌≡◌, ◌∙◌, sym, rules}
+use Rattle.std.proofs.Common.{◌∙◌, sym, rules}
 use Rattle.wh_space.specs.Parts.{space_of}
 use Rattle.wh_space.proofs.Wants.{shared_taken_by, wants_copy, wants_none, wants_none_of, wants_zeros}
 use Rattle.wh_space.proofs.memory.Memory.wanted.Goals as goal

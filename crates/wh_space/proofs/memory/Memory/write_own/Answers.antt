@@ -1,5 +1,5 @@
 use Rattle.wh_space_model.specs.{Fills}
-use Rattle.std.proofs.Common.{◌∙◌, length-set, refl, ◌*◌, ◌+◌, rules}
+use Rattle.std.proofs.Common.{length-set, refl, ◌*◌, ◌+◌, rules}
 use Rattle.wh_space_model.specs.declared.states.Page.TheVariants.{Private}
 use Rattle.wh_space_model.proofs.Filled.{filled_sound}
 use Rattle.wh_space_model.proofs.Reading.{taken_under}

@@ -1,4 +1,4 @@
-use Rattle.std.proofs.Common.{◌∙◌, rules}
+use Rattle.std.proofs.Common.{rules}
 use Rattle.wh_tables.proofs.Rows.{map_row}
 use Rattle.wh_tables.proofs.order.PageOrder.enter.Goals as goal
 

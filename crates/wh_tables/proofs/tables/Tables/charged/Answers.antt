@@ -1,4 +1,4 @@
-use Rattle.std.proofs.Common.{◌∙◌, rules}
+use Rattle.std.proofs.Common.{rules}
 use Rattle.wh_tables.proofs.Answering.{charged_most}
 use Rattle.wh_tables.proofs.tables.Tables.charged.Goals as goal
 

@@ -1,4 +1,4 @@
-use Rattle.std.proofs.Common.{[], ◌∙◌, length-set, rules}
+use Rattle.std.proofs.Common.{length-set, rules}
 use Rattle.wh_tables.proofs.Newcomers.{is_untouched, one_done, set_over}
 use Rattle.wh_space_model.proofs.Putting.{is_page}
 use Rattle.wh_tables.proofs.Relinking.{put_lengths}

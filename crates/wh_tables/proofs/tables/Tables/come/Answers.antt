@@ -1,4 +1,4 @@
-use Rattle.std.proofs.Common.{◌≡◌, ◌<◌, List, Some, sym, subst, rules}
+use Rattle.std.proofs.Common.{◌≡◌, List, Some, sym, subst, rules}
 use Rattle.wh_space_model.specs.{page_at}
 use Rattle.wh_pages.specs.Table.{PageTableState}
 use Rattle.wh_tables.specs.Index.{Counted, HoldsOff}

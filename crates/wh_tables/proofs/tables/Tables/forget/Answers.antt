@@ -1,4 +1,4 @@
-use Rattle.std.proofs.Common.{◌≡◌, ℕ, ◌<◌, List, Some, None, length, sym, ◌∙◌, subst, arith, rules}
+use Rattle.std.proofs.Common.{◌≡◌, ℕ, ◌<◌, List, Some, None, length, sym, subst, arith, rules}
 use Rattle.wh_space_model.specs.declared.states.Page.{Page}
 use Rattle.wh_space_model.specs.{frame_of, page_at}
 use Rattle.wh_pages.specs.Table.{PageTableState}
