@@ -181,6 +181,8 @@ static void looks(size_t module, int count) {
   uint8_t room[100] = {0};
   size_t len = 0;
   wq_report report;
+  wq_counts counts;
+  wq_instance_report row;
   wq_instance instance = admit(module);
   invoke(&instance, "emit", put, 2, 1000000);
   run();
@@ -193,6 +195,12 @@ static void looks(size_t module, int count) {
   began = now();
   for (int at = 0; at < count; at++) must(wq_report_of(&host, &report));
   printf("how the host is used: %.3f us\n", each(began, count));
+  began = now();
+  for (int at = 0; at < count; at++) must(wq_counts_of(&host, &counts));
+  printf("what it has counted: %.3f us\n", each(began, count));
+  began = now();
+  for (int at = 0; at < count; at++) must(wq_instance_report_of(&host, &instance, &row));
+  printf("what an instance has: %.3f us\n", each(began, count));
 }
 
 int main(int count, char **words) {

@@ -228,6 +228,11 @@ def of_handles():
     report, length, rows = wolqedir.RawReport(frames=9), ctypes.c_size_t(77), (wolqedir.RawRow * 1)()
     rows[0].min = 9
     yield named(lib.wq_report_of(empty, report))
+    counts = wolqedir.RawCounts(turns=9)
+    yield named(lib.wq_counts_of(empty, counts))
+    row = wolqedir.RawRow(min=9)
+    yield named(lib.wq_instance_report_of(empty, wolqedir.RawInstance(), row))
+    assert (counts.turns, row.min) == (9, 9)
     yield named(lib.wq_instance_reports(empty, rows, 1, length))
     assert (report.frames, length.value, rows[0].min) == (9, 77, 9)
     yield code_of(lambda: Host(tax=(4, 4)))

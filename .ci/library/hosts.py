@@ -22,6 +22,7 @@ def acts(host, instance):
     yield lambda: host.fork(instance)
     yield lambda: host.status(instance, 0)
     yield lambda: host.ended(instance)
+    yield lambda: host.report_of(instance)
     yield lambda: host.output(instance)
     yield lambda: host.read(instance, 0, 0)
     yield lambda: host.refuel(instance, 1)

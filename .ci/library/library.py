@@ -216,7 +216,7 @@ def main(archive=None, program=ROOT + "/crates/wasmhost/out/wasmhost"):
         print(f"{forks.warm()} copies of a template took frames for what they wrote, and {forks.alone()} calls of others came to the same alone")
         print(f"{unloads.again()} times a module came and went in the memory of the first, and {unloads.among()} went among others")
         print(f"{lives.exports()} exports are told as the second reading has them, and {lives.outputs()} bytes were shown before they went")
-        print(f"{lives.beside()} bytes of memory were read as the second model has them, {lives.swapped()} pages of it in swap")
+        print(f"{lives.beside()} bytes of memory were read as the second model has them, {lives.swapped()} pages of it in swap; {lives.merged()} merges are counted")
         print(f"{epochs.begun()} runs began epochs where the header says")
         lacking = {codes.named(code) for code in codes.codes()} - met - codes.UNMET
         assert not lacking, f"codes that never came: {sorted(lacking)}"

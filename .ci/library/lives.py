@@ -101,12 +101,20 @@ def same(host, instance, held):
     assert answered(lambda: host.read(instance, len(guest.memory), 1)) == "9"
     assert host.output(instance) == bytes(guest.output)
     assert len(host.ended(instance)) == held.had - len(held.calls)
+    assert host.report_of(instance) in host.report().instances
     return len(guest.memory)
 
 
+def counted(model):
+    """What the second model has counted: charges, and calls by their ends; but for starts that had nothing to do."""
+    calls = [held.start for held in model.held if not held.start.is_hidden] + model.calls
+    ends = [(call.ending or "open").split()[0] for call in calls]
+    return sum(call.charges for call in calls), *(ends.count(end) for end in ("done", "trap", "cancelled", "dead"))
+
+
 def beside():
-    """Random scripts go through the library and the second model, line by line: behind each, all instances are seen alike. How many
-    bytes of memory were read."""
+    """Random scripts go through the library and the second model, line by line: behind each, all instances are seen alike, and as
+    many charges and ended calls are counted. How many bytes of memory were read."""
     settings, count = generate.random_settings(SEEDS), 0
     for seed in range(1, SEEDS + 1):
         script, chosen = generate.Script(seed, settings).make(), random.Random(seed)
@@ -116,6 +124,7 @@ def beside():
             model.line(line.encode())
             driven.line(line.encode())
             assert len(model.held) == len(driven.held), (seed, line)
+            assert driven.host.counts()[1:6] == counted(model), (seed, line, driven.host.counts(), counted(model))
             for held, kept in zip(model.held, driven.held):
                 if held.is_gone:
                     assert answered(lambda: driven.host.read(kept.instance, 0, 0)) == "H1", (seed, line)
@@ -140,4 +149,26 @@ def swapped():
         for address, length in ((4095, 2), (4096, 4), (8191, 8194), (4096 * PAGES - 1, 2), (1, 655359)):
             assert host.read(a, address, length) == wanted[address : address + length], (address, length)
         assert host.report() == before and before.used_frames <= FRAMES, before
-        return before.instances[0].swapped
+        swapped, counts = before.instances[0].swapped, host.counts()
+        assert counts.evictions - counts.fetches == swapped and counts.faults == 0, counts
+        return swapped
+
+
+def merged():
+    """Pages that come to share a frame, and that are written then, are counted. How many."""
+    with Host(frames=512, slots=65536) as host:
+        number = host.load(pool("pages"))
+        both = [host.admit(number, max=160) for _ in range(2)]
+        for instance in both:
+            host.invoke(instance, "grow", [9], fuel=MOST)
+            host.invoke(instance, "fill", [0, PAGES, 1], fuel=MOST)
+        ran, before = host.run(MOST), host.report()
+        assert (before.used_frames, host.counts().merges) == (2 * PAGES, 0), (before, host.counts())
+        assert host.counts().charges == ran.charges and host.counts().returned == 4, host.counts()
+        host.scan()
+        counts, after = host.counts(), host.report()
+        assert counts.merges == before.used_frames - after.used_frames > 0 and counts.offers >= 2 * PAGES, (counts, after)
+        host.invoke(both[0], "fill", [0, 7, 2], fuel=MOST)
+        host.run(MOST)
+        assert host.counts().breaks == 7, host.counts()
+        return counts.merges

@@ -20,6 +20,7 @@ STRUCTS = [
     ("RawStatus", "wq_status", "Status", "Told"),
     ("RawExport", "wq_export", "Export", "RawExport"),
     ("RawReport", "wq_report", "Report", "RawReport"),
+    ("RawCounts", "wq_counts", "Counts", "RawCounts"),
     ("RawInstanceReport", "wq_instance_report", "InstanceReport", "RawRow"),
 ]
 # Types, as they are on x86-64: by size, and whether they are signed. `usize` and `u64` are one.
@@ -204,7 +205,7 @@ def kinds():
 def same():
     """How many exports there are, and how many places of structs. All declare the same."""
     wanted, shapes = exports(), structs()
-    assert len(wanted) == 26 and len(shapes) == len(STRUCTS), (len(wanted), len(shapes))
+    assert len(wanted) == 28 and len(shapes) == len(STRUCTS), (len(wanted), len(shapes))
     for where, found, told in (
         ("bindings/c/wolqedir.h", of_header(), wanted),
         ("bindings/rust/src/sys.rs", of_crate(), wanted),

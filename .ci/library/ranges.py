@@ -109,6 +109,7 @@ def of_instances():
         "wq_invoke_at": lambda host, it: host.invoke_at(it, 0, fuel=1),
         "wq_status_of": lambda host, it: host.status(it, 0),
         "wq_ended": lambda host, it: host.ended(it),
+        "wq_instance_report_of": lambda host, it: host.report_of(it),
         "wq_output_of": lambda host, it: host.output(it),
         "wq_read": lambda host, it: host.read(it, 0, 1),
         "wq_refuel": lambda host, it: host.refuel(it, 1),

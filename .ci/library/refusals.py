@@ -116,6 +116,8 @@ def all_refused():
     watched.tried("invoke_at", lambda: host.invoke_at(wide, names.index("mix"), [1, 2, 3], fuel=MOST))
     watched.tried("run", lambda: host.run(MOST))
     watched.tried("ended", lambda: host.ended(wide))
+    watched.tried("report_of", lambda: host.report_of(wide))
+    watched.tried("counts", host.counts)
     watched.tried("output", lambda: host.output(hosted))
     watched.tried("read", lambda: host.read(pages, 0, 4097))
     watched.instances.remove(hosted)

@@ -26,10 +26,10 @@
  * handler, nor in the child of a fork of a process with threads.
  *
  * Memory. malloc and realloc align blocks to 16 bytes, and may answer NULL: the call then answers a code, and the host is as
- * it was. wq_run, wq_scan, wq_epoch, wq_status_of, wq_ended, wq_output_of, wq_taken, wq_read, wq_report_of, wq_export_count,
- * wq_export_at, wq_refuel, wq_retry, wq_cancel, wq_release and wq_unload take no memory. A host takes room for all its frames and
- * slots when it is made. Of that 63 bytes a frame and 20 a slot are memory at once; 4096 more of each are addresses until it is
- * first used.
+ * it was. wq_run, wq_scan, wq_epoch, wq_status_of, wq_ended, wq_output_of, wq_taken, wq_read, wq_report_of, wq_counts_of,
+ * wq_instance_report_of, wq_export_count, wq_export_at, wq_refuel, wq_retry, wq_cancel, wq_release and wq_unload take no memory.
+ * A host takes room for all its frames and slots when it is made. Of that 63 bytes a frame and 20 a slot are memory at once; 4096
+ * more of each are addresses until it is first used.
  *
  * Life. A host has 1024 modules at once (M1), and 4096 instances (A6). An instance has 65535 calls beside its start (H6), 1024 of
  * them open at once (H4); each takes 100 to 260 bytes until the instance is released. It puts out 65536 bytes at most (T9). A
@@ -130,6 +130,17 @@ typedef struct wq_report {
   size_t instances;              /* how many there are */
 } wq_report;
 
+typedef struct wq_counts {       /* since the host was made; each goes from 2^64 - 1 on to 0 */
+  uint64_t turns;                /* of instances of which a call was open */
+  uint64_t charges;              /* that these took */
+  uint64_t returned, trapped;    /* calls that ended so in a turn, starts among them */
+  uint64_t cancelled, dead;      /* calls that ended so; those that are open at a release don't count */
+  uint64_t offers, merges;       /* of pages for sharing, and those by which two came to share a frame */
+  uint64_t breaks;               /* pages that shared a frame until they were written */
+  uint64_t evictions, fetches;   /* pages that went to swap, and that came back */
+  uint64_t faults;               /* of the swap device; one in memory has none */
+} wq_counts;
+
 typedef struct wq_instance_report {
   wq_instance instance;
   uint32_t shares, min, max;     /* as it was admitted */
@@ -228,6 +239,12 @@ wq_code wq_epoch(wq_host *host);
 
 /* How the frames, slots and pages of the host are used, in the same time however large it is. */
 wq_code wq_report_of(wq_host *host, wq_report *report);
+
+/* What the host has counted, in the same time too. */
+wq_code wq_counts_of(wq_host *host, wq_counts *counts);
+
+/* What an instance has of them, in the same time too. H1. */
+wq_code wq_instance_report_of(wq_host *host, const wq_instance *instance, wq_instance_report *row);
 
 /* What each instance has of them, by number; *len is how many there are. WQ_MEMORY, H7. */
 wq_code wq_instance_reports(wq_host *host, wq_instance_report *room, size_t cap, size_t *len);

@@ -101,6 +101,11 @@ class RawReport(Structure):
     _fields_ += [("tax_num", c_uint32), ("tax_den", c_uint32), ("sharers", c_uint64), ("instances", c_size_t)]
 
 
+class RawCounts(Structure):
+    _fields_ = [(name, c_uint64) for name in ("turns", "charges", "returned", "trapped", "cancelled", "dead")]
+    _fields_ += [(name, c_uint64) for name in ("offers", "merges", "breaks", "evictions", "fetches", "faults")]
+
+
 class RawRow(Structure):
     _fields_ = [("instance", RawInstance)]
     _fields_ += [(name, c_uint32) for name in ("shares", "min", "max", "charged", "active", "swapped")]
@@ -143,6 +148,25 @@ class InstanceReport(NamedTuple):
     charged: int
     active: int
     swapped: int
+
+
+class Counts(NamedTuple):
+    """What a host has counted since it was made, each from 2**64 - 1 on to 0: turns of instances with an open call, and their
+    charges; calls by their ends; pages that were offered for sharing, that were merged, and that shared a frame until they were
+    written; pages that went to swap, and that came back; and faults of the swap device, of which one in memory has none."""
+
+    turns: int
+    charges: int
+    returned: int
+    trapped: int
+    cancelled: int
+    dead: int
+    offers: int
+    merges: int
+    breaks: int
+    evictions: int
+    fetches: int
+    faults: int
 
 
 class Report(NamedTuple):
@@ -210,6 +234,8 @@ EXPORTS = {
     "wq_scan": [HOST],
     "wq_epoch": [HOST],
     "wq_report_of": [HOST, POINTER(RawReport)],
+    "wq_counts_of": [HOST, POINTER(RawCounts)],
+    "wq_instance_report_of": [HOST, IT, POINTER(RawRow)],
     "wq_instance_reports": [HOST, POINTER(RawRow), c_size_t, LENGTH],
     "wq_transcript_of": [HOST, IT, POINTER(c_uint64), c_size_t, LENGTH],
     "wq_code_text": [c_uint32, BYTES, c_size_t, LENGTH],
@@ -501,6 +527,20 @@ class Host:
         rows = laid(lambda room, cap, into: lib.wq_instance_reports(self.handle, room, cap, into), RawRow)
         used = raw.frames, raw.used_frames, raw.slots, raw.used_slots, raw.shared_frames, raw.sharers
         return Report(*used, (raw.tax_num, raw.tax_den), [reported(row, self.serial) for row in rows])
+
+    @alone
+    def report_of(self, instance):
+        """What an instance has of them."""
+        row = RawRow()
+        must(lib.wq_instance_report_of(self.handle, self.named(instance), row))
+        return reported(row, self.serial)
+
+    @alone
+    def counts(self):
+        """What it has counted since it was made."""
+        raw = RawCounts()
+        must(lib.wq_counts_of(self.handle, raw))
+        return Counts(*(getattr(raw, name) for name in Counts._fields))
 
     @alone
     def transcript(self, instance):

@@ -193,6 +193,35 @@ pub struct Report {
     pub instances: Vec<InstanceReport>,
 }
 
+/// What a host has counted since it was made. Each goes from 2^64 - 1 on to 0.
+#[derive(Clone, Copy, Debug, PartialEq, Eq)]
+pub struct Counts {
+    /// Turns of instances of which a call was open.
+    pub turns: u64,
+    /// Charges that these took.
+    pub charges: u64,
+    /// Calls that returned in a turn, starts among them.
+    pub returned: u64,
+    /// Calls that trapped in a turn, starts among them.
+    pub trapped: u64,
+    /// Calls that were cancelled.
+    pub cancelled: u64,
+    /// Calls behind a start that trapped or was cancelled.
+    pub dead: u64,
+    /// Offers of pages for sharing.
+    pub offers: u64,
+    /// Those by which two pages came to share a frame.
+    pub merges: u64,
+    /// Pages that shared a frame until they were written.
+    pub breaks: u64,
+    /// Pages that went to swap.
+    pub evictions: u64,
+    /// Pages that came back.
+    pub fetches: u64,
+    /// Faults of the swap device; one in memory has none.
+    pub faults: u64,
+}
+
 /// What an instance has of a host's memory.
 #[derive(Clone, Copy, Debug, PartialEq, Eq)]
 pub struct InstanceReport {
@@ -592,6 +621,43 @@ impl Host {
             sharers: raw.sharers,
             tax: (raw.tax_num, raw.tax_den),
             instances: rows.into_iter().map(|row| self.shown(row)).collect(),
+        })
+    }
+
+    /// What an instance has of its memory.
+    ///
+    /// # Errors
+    /// `OtherHost`; `Ask`.
+    pub fn report_of(&mut self, instance: Instance) -> Result<InstanceReport, Error> {
+        let (instance, mut row) = (self.named(instance)?, sys::InstanceReport::default());
+        // SAFETY: as in `load`.
+        answer(unsafe { sys::wq_instance_report_of(&mut self.handle, &instance, &mut row) })?;
+        Ok(self.shown(row))
+    }
+
+    /// What the host has counted since it was made.
+    ///
+    /// # Errors
+    /// `Ask`.
+    pub fn counts(&mut self) -> Result<Counts, Error> {
+        let mut raw = sys::Counts::default();
+        // SAFETY: as in `load`.
+        answer(unsafe { sys::wq_counts_of(&mut self.handle, &mut raw) })?;
+        let sys::Counts { turns, charges, returned, trapped, cancelled, dead, .. } = raw;
+        let sys::Counts { offers, merges, breaks, evictions, fetches, faults, .. } = raw;
+        Ok(Counts {
+            turns,
+            charges,
+            returned,
+            trapped,
+            cancelled,
+            dead,
+            offers,
+            merges,
+            breaks,
+            evictions,
+            fetches,
+            faults,
         })
     }
 

@@ -68,6 +68,23 @@ pub struct Report {
 
 #[repr(C)]
 #[derive(Clone, Copy, Default)]
+pub struct Counts {
+    pub turns: u64,
+    pub charges: u64,
+    pub returned: u64,
+    pub trapped: u64,
+    pub cancelled: u64,
+    pub dead: u64,
+    pub offers: u64,
+    pub merges: u64,
+    pub breaks: u64,
+    pub evictions: u64,
+    pub fetches: u64,
+    pub faults: u64,
+}
+
+#[repr(C)]
+#[derive(Clone, Copy, Default)]
 pub struct InstanceReport {
     pub instance: Instance,
     pub shares: u32,
@@ -168,6 +185,12 @@ extern "C" {
     pub fn wq_scan(host: *mut Handle) -> u32;
     pub fn wq_epoch(host: *mut Handle) -> u32;
     pub fn wq_report_of(host: *mut Handle, report: *mut Report) -> u32;
+    pub fn wq_counts_of(host: *mut Handle, counts: *mut Counts) -> u32;
+    pub fn wq_instance_report_of(
+        host: *mut Handle,
+        instance: *const Instance,
+        row: *mut InstanceReport,
+    ) -> u32;
     pub fn wq_instance_reports(
         host: *mut Handle,
         room: *mut InstanceReport,

@@ -10,7 +10,7 @@ use anyhow::{Context, Result, anyhow, ensure};
 use std::alloc::Global;
 use std::time::{CpuClock, Duration};
 use wh_model::{Got, Need};
-use wh_reclaim::{Buf, provide};
+use wh_reclaim::{Buf, PagesMoved, provide};
 use wh_space::{Memory, Promise};
 use wh_space_model::Tax;
 use wh_swap::MemSwap;
@@ -121,7 +121,9 @@ impl Pool {
             "it wants bytes beyond the end"
         );
         self.memory.stand(place, Some(need));
-        match provide(&mut self.memory, &mut self.device, place, &mut self.buf) {
+        let mut moved = PagesMoved { left: 0, came: 0 };
+        let buf = &mut self.buf;
+        match provide(&mut self.memory, &mut self.device, place, buf, &mut moved) {
             Ok(left) => Ok(left),
             Err(fault) => anyhow::bail!("the device failed: {fault:?}"),
         }

@@ -7,10 +7,10 @@ ghost use Rattle.wh_cell.specs.Ledgers.{HasLedgers};
 use crate::begun::{Begun, admission, ask, begin};
 use crate::threads::run;
 use Answer::{
-    Bytes, Called, Ended, Exported, Instance, Module, NoInstance, NoModule, NoSuchExport, Outside,
-    Ran, TooMany,
+    Bytes, Called, Ended, Exported, Has, Instance, Module, NoInstance, NoModule, NoSuchExport,
+    NotAllowed, Outside, Ran, TooMany, Used,
 };
-use Asked::{Admit, Call, Ends, Exports, Load, Output, Read, Run};
+use Asked::{Admit, Call, Ends, Exports, Load, Output, Read, Run, Usage, UsageOf};
 use Principal::Operator;
 use std::alloc::Global;
 use std::marker::Brand;
@@ -50,6 +50,8 @@ enum Asked {
     Ends(InstId, usize, usize),
     Exports(usize),
     Read(InstId, u64, usize),
+    Usage,
+    UsageOf(InstId),
 }
 
 // What is replied.
@@ -67,6 +69,11 @@ enum Answer {
     Exported,
     Outside,
     TooMany,
+    // How many charges and returned calls are counted, and how many frames are used.
+    Used(u64, u64, u32),
+    // How many frames are charged to the instance, and how many of its pages are swapped.
+    Has(u32, u32),
+    NotAllowed,
 }
 
 const A: InstId = InstId {
@@ -154,6 +161,12 @@ const LIFE: &[(Principal, Asked, Answer)] = &[
     (TWO, Read(A, 0, 65537), NoInstance),
     (TWO, Read(B, 5, 1), Bytes(&[0])),
     (Operator, Read(A, 5, 1), Bytes(&[7])),
+    // How the host is used, and what it has counted, a start that has nothing to do not among it.
+    (ONE, Usage, NotAllowed),
+    (Operator, Usage, Used(9, 4, 1)),
+    (ONE, UsageOf(A), Has(1, 0)),
+    (TWO, UsageOf(A), NoInstance),
+    (Operator, UsageOf(B), Has(0, 0)),
 ];
 
 // The request of a desk; none, where calls are to be run.
@@ -174,6 +187,8 @@ fn request(alloc: Global, asked: Asked) -> Option<DeskRequest<'static>> {
             of: ModuleId { number },
         }),
         Read(id, at, length) => Some(DeskRequest::Read { id, at, length }),
+        Usage => Some(DeskRequest::Usage),
+        UsageOf(id) => Some(DeskRequest::UsageOf { id }),
     }
 }
 
@@ -208,6 +223,25 @@ fn shows(reply: &DeskReply, wanted: Answer) -> bool {
     }
 }
 
+// Whether this is what is wanted to be told of how the host is used.
+fn tells(reply: &DeskReply, wanted: Answer) -> bool {
+    match (reply, wanted) {
+        (DeskReply::Usage(usage, counts), Used(charges, returned, used_frames)) => {
+            counts.charges == charges
+                && counts.returned == returned
+                && usage.frames == 8
+                && usage.used_frames == used_frames
+                && usage.instances == 2
+        }
+        (DeskReply::UsageOf(Ok(row)), Has(charged, swapped)) => {
+            row.charged == charged && row.swapped == swapped && row.max == 16
+        }
+        (DeskReply::UsageOf(Err(HostError::NoInstance)), NoInstance) => true,
+        (DeskReply::NotAllowed, NotAllowed) => true,
+        _ => false,
+    }
+}
+
 // Whether a reply is the one that is wanted.
 fn is_as(reply: &DeskReply, wanted: Answer) -> bool {
     match (reply, wanted) {
@@ -218,7 +252,7 @@ fn is_as(reply: &DeskReply, wanted: Answer) -> bool {
         (DeskReply::Invoked(Err(HostError::Invoke(_))), NoSuchExport) => true,
         (DeskReply::Exports(Ok(exports)), Exported) => are_exports(exports),
         (DeskReply::Exports(Err(ExportsError::NoModule)), NoModule) => true,
-        _ => shows(reply, wanted),
+        _ => shows(reply, wanted) || tells(reply, wanted),
     }
 }
 

@@ -5,8 +5,8 @@ use crate::views::PAGES;
 use anyhow::{Context, Result, ensure};
 use std::alloc::Global;
 use wh_host::{
-    AdmitError, CallStatus, CallValue, ForkError, Host, HostError, ModuleId, Quota, ReadError,
-    Suspension, UnloadError,
+    AdmitError, CallStatus, CallValue, ForkError, Host, HostCounts, HostError, ModuleId, Quota,
+    ReadError, Suspension, UnloadError,
 };
 use wh_host_model::TurnEnd;
 use wh_kernels::{ConstantHash, FnvHash};
@@ -97,6 +97,8 @@ pub enum Step {
     Report(&'static str, &'static str),
     /// The whole report.
     ReportIs(&'static str),
+    /// What the host has counted.
+    Counts(HostCounts),
     /// An instance of the pager puts out all its 65536 bytes and goes: those that aren't zero, each with its address.
     Emit(usize, &'static [(usize, u8)]),
 }
@@ -372,6 +374,7 @@ impl Step {
             Step::FetchFails(fault, want) => rig.fetch_fails(fault) == Some(want),
             Step::Report(head, tail) => reports(rig, alloc, head, tail)?,
             Step::ReportIs(want) => rig.report(alloc)?.as_str() == want,
+            Step::Counts(want) => rig.host.counts() == want,
             other => is_served(rig, alloc, id, other)?,
         })
     }
@@ -385,7 +388,7 @@ fn first_unlike(
     steps: &[Step],
 ) -> Result<Option<usize>> {
     for (place, step) in steps.iter().enumerate() {
-        if !step.holds(rig, alloc, admitted)? {
+        if !step.holds(rig, alloc, admitted)? || !rig.counts_right() {
             return Ok(Some(place));
         }
     }

@@ -16,6 +16,7 @@ mod modules;
 mod paging;
 mod pair;
 mod rig;
+mod seen;
 mod store;
 mod streams;
 mod tickets;
@@ -56,6 +57,7 @@ fn run_events<H: PageHash>(
         trial
             .event(rig, alloc, hasher)
             .context(format_args!("event {event}"))?;
+        ensure!(rig.counts_right(), "event {event} is counted wrong");
     }
     trial.end(rig, alloc)
 }

@@ -3,11 +3,11 @@
 
 use crate::life::{Life, Step};
 use Step::{
-    Admit, Cancel, Done, Emit, Epoch, EvictBegin, EvictCommit, Failed, FetchBegin, FetchCommit,
-    FetchFails, Invoke, Offer, OfferAlike, Provide, Reads, ReadsNot, Release, Report, ReportIs,
-    Retry, Returned, RunOut, Scan, Store, Turn, Waits,
+    Admit, Cancel, Counts, Done, Emit, Epoch, EvictBegin, EvictCommit, Failed, FetchBegin,
+    FetchCommit, FetchFails, Invoke, Offer, OfferAlike, Provide, Reads, ReadsNot, Release, Report,
+    ReportIs, Retry, Returned, RunOut, Scan, Store, Turn, Waits,
 };
-use wh_host::ReadError;
+use wh_host::{HostCounts, ReadError};
 use wh_host_model::TurnEnd;
 use wh_space_model::{EvictEnd, FetchEnd, Offer as Offered, SwapError, Tax};
 
@@ -157,6 +157,20 @@ const SHARED: &[Step] = &[
     ReportIs(
         "# frames 1024 used 2 free 1022\n# slots 4096 used 0 free 4096\n# shared frames 1 sharers 2\n#     0     100     2    16     1     1     0 100/1\n#     1     100     2    16     1     0     0 100/4\n#     2     100     2    16     0     0     0 -\n",
     ),
+    Counts(HostCounts {
+        turns: 4,
+        charges: 12,
+        returned: 4,
+        trapped: 0,
+        cancelled: 0,
+        dead: 0,
+        offers: 48,
+        merges: 2,
+        breaks: 1,
+        evictions: 0,
+        fetches: 0,
+        faults: 0,
+    }),
 ];
 
 /// Two instances on five frames: the first has two pages and waits for a third, the second has three.
@@ -421,6 +435,20 @@ const ALONE: &[Step] = &[
     Provide(A, 0, Ok(0)),
     Turn(A, 2, TurnEnd::Ended),
     Returned(A, 4, 1),
+    Counts(HostCounts {
+        turns: 6,
+        charges: 11,
+        returned: 4,
+        trapped: 0,
+        cancelled: 0,
+        dead: 0,
+        offers: 0,
+        merges: 0,
+        breaks: 0,
+        evictions: 2,
+        fetches: 1,
+        faults: 2,
+    }),
 ];
 
 /// The first page is in its slot, and the call stores over it and the second one, which is on a frame. The third has to leave,

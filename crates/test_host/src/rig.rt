@@ -6,6 +6,7 @@ ghost use Rattle.wh_swap.specs.Written.{page_held};
 ghost use Rattle.test_host.specs.Carried.{IsCarried, IsSomeHost, coming_slots, leaving_slots};
 
 use crate::guest::PAGER;
+use crate::seen::{Seen, look};
 use crate::store::Store;
 use anyhow::{Context, Result};
 use std::alloc::Global;
@@ -27,6 +28,7 @@ pub struct Rig {
     pub module: ModuleId,
     pub device: PageSwap<Store>,
     pub failing: Rc<Cell<u32>>,
+    pub seen: Seen,
     pub leaving: Vec<Eviction>,
     pub coming: Vec<Fetch>,
     ghost stands: { IsSomeHost host },
@@ -49,7 +51,9 @@ impl Rig {
     pub fn new(alloc: Global, frames: u32, slots: u32, tax: Tax) -> Result<Rig> {
         let failing = Rc::new(alloc, Cell::new(0))?;
         let pages = vec![in alloc; [0; 4096]; slots as usize]?;
-        let store = Store::new(pages, failing.clone()?);
+        let taken = Rc::new(alloc, Cell::new(0))?;
+        let given = Rc::new(alloc, Cell::new(0))?;
+        let store = Store::new(pages, failing.clone()?, taken.clone()?, given.clone()?);
         let device = PageSwap::over(alloc, store, slots)?;
         let host = host_with_pager(alloc, frames, slots, tax)?;
         Ok(Rig {
@@ -57,6 +61,7 @@ impl Rig {
             module: ModuleId { number: 0 },
             device,
             failing,
+            seen: Seen::new(taken, given),
             leaving: Vec::new(alloc),
             coming: Vec::new(alloc),
         })
@@ -130,7 +135,10 @@ impl Rig {
 
     /// Runs a turn of at most `charges` charges.
     pub fn turn(&mut self, id: InstId, charges: u64) -> TurnEnd {
-        self.host.turn(id, charges).0
+        let before = look(&self.host, id);
+        let (end, _) = self.host.turn(id, charges);
+        self.seen.note_turn(&self.host, id, before, end);
+        end
     }
 
     /// Offers a page for merging under this hash.
@@ -141,12 +149,16 @@ impl Rig {
         page: u32,
         hash: u64,
     ) -> Option<Offer> {
-        self.host.offer(hasher, id, page, hash)
+        let outcome = self.host.offer(hasher, id, page, hash);
+        self.seen.note_offer(outcome);
+        outcome
     }
 
     /// Offers all pages for merging under their own hash.
     pub fn scan<H: PageHash>(&mut self, hasher: &H) -> bool {
-        self.host.scan(hasher).is_some()
+        let offered = self.host.scan(hasher);
+        self.seen.note_scan(&self.host, offered);
+        offered.is_some()
     }
 
     /// Begins an epoch.
@@ -161,7 +173,10 @@ impl Rig {
 
     /// Cancels the present call.
     pub fn cancel(&mut self, id: InstId) -> Result<(), HostError> {
-        self.host.cancel(id)
+        let before = self.host.ended_calls(id).unwrap_or(0);
+        let answer = self.host.cancel(id);
+        self.seen.note_ended(&self.host, id, before);
+        answer
     }
 
     /// Retries the present call, if it is blocked on a device fault.
@@ -200,6 +215,11 @@ impl Rig {
         Ok(roll.tickets())
     }
 
+    /// Tells whether the host has counted what was seen.
+    pub fn counts_right(&self) -> bool {
+        self.host.counts() == self.seen.counts()
+    }
+
     // Whether no ticket is kept here.
     fn keeps_none(&self) -> bool
         ensures leaving { result ≡ true → vec_len self.now.leaving ≡ 0 }
@@ -236,7 +256,9 @@ impl Rig {
             return Ok(None);
         }
         self.failing.set(failing);
+        let before = (self.seen.taken.get(), self.seen.given.get());
         let answer = self.host.provide(&mut self.device, id, &mut buf);
+        self.seen.note_provision(before, answer.is_err());
         self.failing.set(0);
         Ok(Some(answer))
     }

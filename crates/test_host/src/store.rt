@@ -11,6 +11,9 @@ use wh_swap::Pages;
 pub struct Store {
     pages: Vec<[u8; 4096]>,
     failing: Rc<Cell<u32>>,
+    // How many pages were put and got.
+    put: Rc<Cell<u64>>,
+    got: Rc<Cell<u64>>,
 }
 
 impl Drop for Store {
@@ -18,14 +21,27 @@ impl Drop for Store {
         let Store {
             pages: _,
             failing: _,
+            put: _,
+            got: _,
         } = self;
     }
 }
 
 impl Store {
-    /// Creates a store of these pages, whose call that cell numbers fails.
-    pub fn new(pages: Vec<[u8; 4096]>, failing: Rc<Cell<u32>>) -> Store {
-        Store { pages, failing }
+    /// Creates a store of these pages, whose call that the first cell numbers fails. The others count the pages that are put
+    /// and got.
+    pub fn new(
+        pages: Vec<[u8; 4096]>,
+        failing: Rc<Cell<u32>>,
+        put: Rc<Cell<u64>>,
+        got: Rc<Cell<u64>>,
+    ) -> Store {
+        Store {
+            pages,
+            failing,
+            put,
+            got,
+        }
     }
 
     // Whether the present call fails.
@@ -49,6 +65,7 @@ impl Pages for Store {
             return Err(io::ErrorKind::InvalidInput.into());
         };
         *into = *bytes;
+        self.got.set(self.got.get().wrapping_add(1));
         Ok(())
     }
 
@@ -60,6 +77,7 @@ impl Pages for Store {
             return Err(io::ErrorKind::InvalidInput.into());
         }
         self.pages[at as usize] = *from;
+        self.put.set(self.put.get().wrapping_add(1));
         Ok(())
     }
 }

@@ -92,6 +92,7 @@ impl Rig {
         let eviction = self.leaving.remove(0);
         let answer = written(&mut self.device, &self.failing, fails, &eviction.ticket);
         let (end, _) = self.host.evict_commit(eviction, answer);
+        self.seen.note_eviction(end);
         Some(end)
     }
 
@@ -108,6 +109,7 @@ impl Rig {
         let mut fetched = self.coming.remove(0);
         let answer = read(&mut self.device, &self.failing, fails, &mut fetched.ticket);
         let (end, _) = self.host.fetch_commit(fetched, answer);
+        self.seen.note_fetch(end);
         Some(end)
     }
 
@@ -118,6 +120,7 @@ impl Rig {
         }
         let fetched = self.coming.remove(0);
         let (end, _) = self.host.fetch_commit(fetched, Err(fault));
+        self.seen.note_fetch(end);
         Some(end)
     }
 
@@ -150,6 +153,7 @@ impl Rig {
             module: _,
             device: _,
             failing: _,
+            seen: _,
             leaving,
             coming,
         } = self;

@@ -10,7 +10,7 @@ use anyhow::Result;
 use std::alloc::Global;
 use std::io;
 use wh_model::{Got, Need};
-use wh_reclaim::{Buf, provide};
+use wh_reclaim::{Buf, PagesMoved, provide};
 use wh_space::{Memory, Promise};
 use wh_space_model::{SwapError, Tax};
 use wh_swap::{MemSwap, PageSwap, Pages, SwapDev};
@@ -134,7 +134,8 @@ fn provided<D: SwapDev>(
         return None;
     }
     memory.stand(place as usize, Some(need));
-    Some(provide(memory, device, place as usize, buf))
+    let mut moved = PagesMoved { left: 0, came: 0 };
+    Some(provide(memory, device, place as usize, buf, &mut moved))
 }
 
 // One byte at an address.

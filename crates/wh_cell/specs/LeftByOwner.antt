@@ -7,6 +7,7 @@ use Rattle.wh_space_model.specs.Parts.{empty_space}
 use Rattle.wh_host_model.specs.Host.Worlds.{World}
 use Rattle.wh_swap.specs.DeviceCalls.{ServesOn}
 use Rattle.wh_reclaim.specs.Whole.{IsAsWhole}
+use Rattle.wh_host.specs.HostCounting.{no_counts}
 use Rattle.wh_host.specs.Hosting.{HostState, IsHost}
 use Rattle.wh_cell.specs.Charging.{charged, FitsBook, HasTaken}
 use Rattle.wh_cell.specs.Going.{WorksTo, WorksAnyhowTo}
@@ -65,6 +66,7 @@ no_host = record {
     space = empty_space 0 0 (record { num = 0; den = 1; below_one = le_refl 1; den_within = leb-true 1 1000 refl });
     next = 0;
     next_module = 0;
+    counts = no_counts;
   };
   device = None;
 }

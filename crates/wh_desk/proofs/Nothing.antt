@@ -6,7 +6,7 @@ use Rattle.wh_host_model.specs.{AdmitFault, no_module, shares, min_max, frames, 
 use Rattle.wh_host.specs.Hosting.{HostState, IsHost}
 use Rattle.wh_host.specs.declared.parts.ModuleId.{ModuleId}
 use Rattle.wh_desk.specs.declared.trace.Question.{Question}
-use Rattle.wh_desk.specs.declared.trace.Question.TheVariants.{Load, Unload, Admit, Fork, Invoke, InvokeAt, Refuel, Cancel, Retry, Release, BeginEpoch, Status, Report, Transcript, Output, Ends, Exports, Read}
+use Rattle.wh_desk.specs.declared.trace.Question.TheVariants.{Load, Unload, Admit, Fork, Invoke, InvokeAt, Refuel, Cancel, Retry, Release, BeginEpoch, Status, Report, Usage, UsageOf, Transcript, Output, Ends, Exports, Read}
 use Rattle.wh_desk.specs.AsNone.{InstancesAsNone, ModulesAsNone, IsAbout}
 use Rattle.wh_desk.specs.Permits.{refusal}
 use Rattle.wh_desk.specs.Replying.{HostReplies}
@@ -39,6 +39,9 @@ of_this h BeginEpoch id about none = absurd about
 of_this h (Status asked at) id about none =
     (_, refl, (λ w is t live. absurd (subst (NoInstance w) (sym about) (none w is) t live)), refl)
 of_this h Report id about none = absurd about
+of_this h Usage id about none = absurd about
+of_this h (UsageOf asked) id about none =
+    (_, refl, tt, (refl, (λ w is. subst (NoInstance w) (sym about) (none w is))), refl)
 of_this h (Transcript asked) id about none = (_, refl, (λ w is. subst (NoInstance w) (sym about) (none w is)), refl)
 of_this h (Output asked from most) id about none =
     (_, refl, inl (refl, (λ w is. subst (NoInstance w) (sym about) (none w is))), refl)
@@ -79,6 +82,8 @@ modules_as_none h of (Release asked) about none = absurd about
 modules_as_none h of BeginEpoch about none = absurd about
 modules_as_none h of (Status asked at) about none = absurd about
 modules_as_none h of Report about none = absurd about
+modules_as_none h of Usage about none = absurd about
+modules_as_none h of (UsageOf id) about none = absurd about
 modules_as_none h of (Transcript asked) about none = absurd about
 modules_as_none h of (Output asked from most) about none = absurd about
 modules_as_none h of (Ends asked from most) about none = absurd about

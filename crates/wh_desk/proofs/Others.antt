@@ -18,7 +18,7 @@ use Rattle.wh_desk.specs.declared.principal.Principal.{Principal}
 use Rattle.wh_desk.specs.declared.principal.Principal.TheVariants.{Operator, Tenant}
 use Rattle.wh_desk.specs.declared.request.DeskReply.{DeskReply}
 use Rattle.wh_desk.specs.declared.trace.Question.{Question}
-use Rattle.wh_desk.specs.declared.trace.Question.TheVariants.{Load, Unload, Admit, Fork, Invoke, InvokeAt, Refuel, Cancel, Retry, Release, BeginEpoch, Status, Report, Transcript, Output, Ends, Exports, Read}
+use Rattle.wh_desk.specs.declared.trace.Question.TheVariants.{Load, Unload, Admit, Fork, Invoke, InvokeAt, Refuel, Cancel, Retry, Release, BeginEpoch, Status, Report, Usage, UsageOf, Transcript, Output, Ends, Exports, Read}
 use Rattle.wh_desk.specs.declared.trace.TraceEntry.{TraceEntry}
 use Rattle.wh_desk.specs.Others.{KeepsOthers, KeepsOthersOf}
 use Rattle.wh_desk.specs.Permits.{IsModuleOf, IsTenants, MayAsk, OwnershipState, Permits}
@@ -229,6 +229,8 @@ asked owned t (Release id) reply h h2 may a =
 asked owned t BeginEpoch reply h h2 may a = absurd may
 asked owned t (Status id at) reply h h2 may a = nothing_done owned t h h2 a.3
 asked owned t Report reply h h2 may a = absurd may
+asked owned t Usage reply h h2 may a = absurd may
+asked owned t (UsageOf id) reply h h2 may a = nothing_done owned t h h2 a.4
 asked owned t (Transcript id) reply h h2 may a = nothing_done owned t h h2 a.3
 asked owned t (Output id from most) reply h h2 may a = nothing_done owned t h h2 a.3
 asked owned t (Ends id from most) reply h h2 may a = nothing_done owned t h h2 a.3

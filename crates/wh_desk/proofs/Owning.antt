@@ -25,7 +25,7 @@ use Rattle.wh_desk.specs.declared.principal.Principal.{Principal}
 use Rattle.wh_desk.specs.declared.request.DeskReply.{DeskReply}
 use Rattle.wh_desk.specs.declared.request.DeskReply.TheVariants as says
 use Rattle.wh_desk.specs.declared.trace.Question.{Question}
-use Rattle.wh_desk.specs.declared.trace.Question.TheVariants.{Load, Unload, Admit, Fork, Invoke, InvokeAt, Refuel, Cancel, Retry, Release, BeginEpoch, Status, Report, Transcript, Output, Ends, Exports, Read}
+use Rattle.wh_desk.specs.declared.trace.Question.TheVariants.{Load, Unload, Admit, Fork, Invoke, InvokeAt, Refuel, Cancel, Retry, Release, BeginEpoch, Status, Report, Usage, UsageOf, Transcript, Output, Ends, Exports, Read}
 use Rattle.wh_desk.specs.declared.trace.TraceEntry.{TraceEntry}
 use Rattle.wh_desk.specs.Bounded.{OwnsAll}
 use Rattle.wh_desk.specs.Permits.{OwnershipState, nothing_owned, owned_after, owner_of, refusal}
@@ -87,6 +87,8 @@ module _ (owned : OwnershipState) (h h2 : HostState) (who : Principal) (o : Owns
       let x = a.1 o.0 o.1 in (x.0, x.2, only_moves owned.modules owned.instances o.0 x.0 x.1 o.2)
   asked_owns (Status id at) reply a = subst (OwnsAll owned) (sym a.3) o
   asked_owns Report reply a = subst (OwnsAll owned) (sym a.4) o
+  asked_owns Usage reply a = subst (OwnsAll owned) (sym a.5) o
+  asked_owns (UsageOf id) reply a = subst (OwnsAll owned) (sym a.4) o
   asked_owns (Transcript id) reply a = subst (OwnsAll owned) (sym a.3) o
   asked_owns (Output id from most) reply a = subst (OwnsAll owned) (sym a.3) o
   asked_owns (Ends id from most) reply a = subst (OwnsAll owned) (sym a.3) o
@@ -94,7 +96,7 @@ module _ (owned : OwnershipState) (h h2 : HostState) (who : Principal) (o : Owns
   asked_owns (Read id at length) reply a = subst (OwnsAll owned) (sym a.3) o
 
 -- a refusal gives nobody anything
-refused_owns : (who : Principal) (question : Question) (owned : OwnershipState) → owned_after who question (refusal question) owned ≡ owned
+pub refused_owns : (who : Principal) (question : Question) (owned : OwnershipState) → owned_after who question (refusal question) owned ≡ owned
 refused_owns who (Load bytes) owned = refl
 refused_owns who (Unload of) owned = refl
 refused_owns who (Admit of params) owned = refl
@@ -108,6 +110,8 @@ refused_owns who (Release id) owned = refl
 refused_owns who BeginEpoch owned = refl
 refused_owns who (Status id at) owned = refl
 refused_owns who Report owned = refl
+refused_owns who Usage owned = refl
+refused_owns who (UsageOf id) owned = refl
 refused_owns who (Transcript id) owned = refl
 refused_owns who (Output id from most) owned = refl
 refused_owns who (Ends id from most) owned = refl

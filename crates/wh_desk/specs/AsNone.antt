@@ -6,7 +6,7 @@ use Rattle.wh_host_model.specs.Host.Happens.{NoInstance}
 use Rattle.wh_host.specs.declared.parts.ModuleId.{ModuleId}
 use Rattle.wh_host.specs.Hosting.{HostState, IsHost}
 use Rattle.wh_desk.specs.declared.trace.Question.{Question}
-use Rattle.wh_desk.specs.declared.trace.Question.TheVariants.{Load, Unload, Admit, Fork, Invoke, InvokeAt, Refuel, Cancel, Retry, Release, BeginEpoch, Status, Report, Transcript, Output, Ends, Exports, Read}
+use Rattle.wh_desk.specs.declared.trace.Question.TheVariants.{Load, Unload, Admit, Fork, Invoke, InvokeAt, Refuel, Cancel, Retry, Release, BeginEpoch, Status, Report, Usage, UsageOf, Transcript, Output, Ends, Exports, Read}
 use Rattle.wh_desk.specs.Permits.{refusal}
 use Rattle.wh_desk.specs.Replying.{HostReplies}
 
@@ -25,6 +25,8 @@ IsAbout (Release asked) id = asked ≡ id
 IsAbout BeginEpoch id = ⊥
 IsAbout (Status asked at) id = asked ≡ id
 IsAbout Report id = ⊥
+IsAbout Usage id = ⊥
+IsAbout (UsageOf asked) id = asked ≡ id
 IsAbout (Transcript asked) id = asked ≡ id
 IsAbout (Output asked from most) id = asked ≡ id
 IsAbout (Ends asked from most) id = asked ≡ id

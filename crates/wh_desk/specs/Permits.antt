@@ -15,7 +15,7 @@ use Rattle.wh_desk.specs.declared.ownership.OwnedInstance.{OwnedInstance}
 use Rattle.wh_desk.specs.declared.ownership.OwnedModule.{OwnedModule}
 use Rattle.wh_desk.specs.declared.ownership.Ownership.{Ownership}
 use Rattle.wh_desk.specs.declared.trace.Question.{Question}
-use Rattle.wh_desk.specs.declared.trace.Question.TheVariants.{Load, Unload, Admit, Fork, Invoke, InvokeAt, Refuel, Cancel, Retry, Release, BeginEpoch, Status, Report, Transcript, Output, Ends, Exports, Read}
+use Rattle.wh_desk.specs.declared.trace.Question.TheVariants.{Load, Unload, Admit, Fork, Invoke, InvokeAt, Refuel, Cancel, Retry, Release, BeginEpoch, Status, Report, Usage, UsageOf, Transcript, Output, Ends, Exports, Read}
 use Rattle.wh_desk.specs.declared.request.DeskReply.{DeskReply}
 use Rattle.wh_desk.specs.declared.request.DeskReply.TheVariants as says
 
@@ -73,7 +73,7 @@ abbrev pub MayAdmit : OwnershipState → ℕ → ModuleId → Type 0
 MayAdmit owned t of = IsModuleOf owned (Tenant t) of ⊎ IsModuleOf owned Operator of
 
 -- What a tenant may ask: for a module; that one of its own goes; for an instance of its own modules and of the operator's, and what
--- these export; and whatever is asked of its own instances, a copy too. Epochs and the report on the whole are the operator's.
+-- these export; and whatever is asked of its own instances, a copy too. Epochs, and what is told of the whole, are the operator's.
 abbrev pub MayAsk : OwnershipState → ℕ → Question → Type 0
 MayAsk owned t (Load bytes) = ⊤
 MayAsk owned t (Unload of) = IsModuleOf owned (Tenant t) of
@@ -88,6 +88,8 @@ MayAsk owned t (Release id) = IsTenants owned t id
 MayAsk owned t BeginEpoch = ⊥
 MayAsk owned t (Status id at) = IsTenants owned t id
 MayAsk owned t Report = ⊥
+MayAsk owned t Usage = ⊥
+MayAsk owned t (UsageOf id) = IsTenants owned t id
 MayAsk owned t (Transcript id) = IsTenants owned t id
 MayAsk owned t (Output id from most) = IsTenants owned t id
 MayAsk owned t (Ends id from most) = IsTenants owned t id
@@ -115,6 +117,8 @@ refusal (Release id) = says.Released (Err NoInstance)
 refusal BeginEpoch = says.NotAllowed
 refusal (Status id at) = says.Status None
 refusal Report = says.NotAllowed
+refusal Usage = says.NotAllowed
+refusal (UsageOf id) = says.UsageOf (Err NoInstance)
 refusal (Transcript id) = says.Transcript (Err NoInstance)
 refusal (Output id from most) = says.Output (Err NoInstance)
 refusal (Ends id from most) = says.Ends (Err NoInstance)

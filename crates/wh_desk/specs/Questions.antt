@@ -3,7 +3,7 @@ use Rattle.std.specs.Prelude.{⊤}
 use Rattle.wh_desk.specs.declared.request.DeskRequest.{DeskRequest}
 use Rattle.wh_desk.specs.declared.request.DeskRequest.TheVariants as asks
 use Rattle.wh_desk.specs.declared.trace.Question.{Question}
-use Rattle.wh_desk.specs.declared.trace.Question.TheVariants.{Load, Unload, Admit, Fork, Invoke, InvokeAt, Refuel, Cancel, Retry, Release, BeginEpoch, Status, Report, Transcript, Output, Ends, Exports, Read}
+use Rattle.wh_desk.specs.declared.trace.Question.TheVariants.{Load, Unload, Admit, Fork, Invoke, InvokeAt, Refuel, Cancel, Retry, Release, BeginEpoch, Status, Report, Usage, UsageOf, Transcript, Output, Ends, Exports, Read}
 
 -- what a request asks
 abbrev pub question_of : DeskRequest → Question
@@ -20,6 +20,8 @@ question_of (asks.Release id) = Release id
 question_of asks.BeginEpoch = BeginEpoch
 question_of (asks.Status id at) = Status id at
 question_of asks.Report = Report
+question_of asks.Usage = Usage
+question_of (asks.UsageOf id) = UsageOf id
 question_of (asks.Transcript id) = Transcript id
 question_of (asks.Output id from most) = Output id from most
 question_of (asks.Ends id from most) = Ends id from most
@@ -42,6 +44,8 @@ ChangesCalls other = ⊥
 abbrev pub OnlyLooks : Question → Type 0
 OnlyLooks (Status id at) = ⊤
 OnlyLooks Report = ⊤
+OnlyLooks Usage = ⊤
+OnlyLooks (UsageOf id) = ⊤
 OnlyLooks (Transcript id) = ⊤
 OnlyLooks (Output id from most) = ⊤
 OnlyLooks (Ends id from most) = ⊤

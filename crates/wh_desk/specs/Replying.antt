@@ -27,7 +27,11 @@ use Rattle.wh_host.specs.Hosting.{HostState}
 use Rattle.wh_host.specs.Loading.{AnswersLoad}
 use Rattle.wh_host.specs.Paging.{MovesOnly}
 use Rattle.wh_host.specs.Releasing.{AnswersRelease}
-use Rattle.wh_host.specs.Reporting.{ReportsHost, view_report}
+use Rattle.wh_host.specs.declared.counts.HostCounts.{HostCounts}
+use Rattle.wh_host.specs.declared.report.HostUsage.{HostUsage}
+use Rattle.wh_host.specs.declared.report.InstanceReport.{InstanceReport}
+use Rattle.wh_host.specs.LiveOutputs.{SaysNoInstance}
+use Rattle.wh_host.specs.Reporting.{ReportsHost, ReportsInstance, ReportsUsage, view_report, view_row, view_usage}
 use Rattle.wh_host.specs.declared.report.Report as told
 use Rattle.wh_host.specs.Showing.{ShowsInstance}
 use Rattle.wh_host.specs.Telling.{TellsOf}
@@ -37,7 +41,7 @@ use Rattle.wh_desk.specs.declared.error.DeskReadError.{DeskReadError}
 use Rattle.wh_desk.specs.declared.error.DeskReadError.TheVariants.{Host}
 use Rattle.wh_desk.specs.declared.error.ExportsError.{ExportsError}
 use Rattle.wh_desk.specs.declared.trace.Question.{Question}
-use Rattle.wh_desk.specs.declared.trace.Question.TheVariants.{Load, Unload, Admit, Fork, Invoke, InvokeAt, Refuel, Cancel, Retry, Release, BeginEpoch, Status, Report, Transcript, Output, Ends, Exports, Read}
+use Rattle.wh_desk.specs.declared.trace.Question.TheVariants.{Load, Unload, Admit, Fork, Invoke, InvokeAt, Refuel, Cancel, Retry, Release, BeginEpoch, Status, Report, Usage, UsageOf, Transcript, Output, Ends, Exports, Read}
 use Rattle.wh_desk.specs.declared.trace.TraceEntry.{TraceEntry}
 use Rattle.wh_desk.specs.declared.request.DeskReply.{DeskReply}
 use Rattle.wh_desk.specs.declared.request.DeskReply.TheVariants as says
@@ -84,6 +88,12 @@ HostReplies h (Status id at) reply h2 =
 HostReplies h Report reply h2 =
     (r : Result told.Report HostError) × (reply ≡ says.Report r) × IfOk r (λ report. ReportsHost h (view_report report))
     × IfErr r (λ e. e ≡ hosting.Memory) × (h2 ≡ h)
+HostReplies h Usage reply h2 =
+    (usage : HostUsage) × (counts : HostCounts) × (reply ≡ says.Usage usage counts) × ReportsUsage h (view_usage usage)
+    × (counts ≡ h.counts) × (h2 ≡ h)
+HostReplies h (UsageOf id) reply h2 =
+    (r : Result InstanceReport HostError) × (reply ≡ says.UsageOf r) × IfOk r (λ row. ReportsInstance h id (view_row row))
+    × IfErr r (λ e. SaysNoInstance h id e) × (h2 ≡ h)
 HostReplies h (Transcript id) reply h2 =
     (r : Result TranscriptState HostError) × (reply ≡ says.Transcript r) × ShowsInstance h id r × (h2 ≡ h)
 HostReplies h (Output id from most) reply h2 =

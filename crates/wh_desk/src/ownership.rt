@@ -94,7 +94,8 @@ impl Ownership {
             DeskRequest::Release { id } => self.is_tenants(t, *id),
             DeskRequest::BeginEpoch => false,
             DeskRequest::Status { id, .. } => self.is_tenants(t, *id),
-            DeskRequest::Report => false,
+            DeskRequest::Report | DeskRequest::Usage => false,
+            DeskRequest::UsageOf { id } => self.is_tenants(t, *id),
             DeskRequest::Transcript { id } => self.is_tenants(t, *id),
             DeskRequest::Output { id, .. } => self.is_tenants(t, *id),
             DeskRequest::Ends { id, .. } => self.is_tenants(t, *id),
@@ -133,9 +134,10 @@ pub fn refuse(request: &DeskRequest<'_>) -> DeskReply
 {
     let none = HostError::NoInstance;
     match request {
-        DeskRequest::Load { .. } | DeskRequest::BeginEpoch | DeskRequest::Report => {
-            DeskReply::NotAllowed
-        }
+        DeskRequest::Load { .. }
+        | DeskRequest::BeginEpoch
+        | DeskRequest::Report
+        | DeskRequest::Usage => DeskReply::NotAllowed,
         DeskRequest::Unload { .. } => DeskReply::Unloaded(Err(UnloadError::NoModule)),
         DeskRequest::Admit { .. } => DeskReply::Admitted(Err(AdmitError::NoModule)),
         DeskRequest::Fork { .. } => DeskReply::Forked(Err(ForkError::NoInstance)),
@@ -144,6 +146,7 @@ pub fn refuse(request: &DeskRequest<'_>) -> DeskReply
         DeskRequest::Cancel { .. } | DeskRequest::Retry { .. } => DeskReply::Done(Err(none)),
         DeskRequest::Release { .. } => DeskReply::Released(Err(none)),
         DeskRequest::Status { .. } => DeskReply::Status(None),
+        DeskRequest::UsageOf { .. } => DeskReply::UsageOf(Err(none)),
         DeskRequest::Transcript { .. } => DeskReply::Transcript(Err(none)),
         DeskRequest::Output { .. } => DeskReply::Output(Err(none)),
         DeskRequest::Ends { .. } => DeskReply::Ends(Err(none)),

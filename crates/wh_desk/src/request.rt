@@ -4,8 +4,8 @@ use crate::copying::DeskExport;
 use crate::error::{DeskReadError, ExportsError};
 use std::alloc::Global;
 use wh_host::{
-    AdmitError, CallStatus, ForkError, HostError, ModuleError, ModuleId, Params, Quota, Report,
-    Transcript, UnloadError,
+    AdmitError, CallStatus, ForkError, HostCounts, HostError, HostUsage, InstanceReport,
+    ModuleError, ModuleId, Params, Quota, Report, Transcript, UnloadError,
 };
 use wh_space_model::InstId;
 
@@ -72,6 +72,12 @@ pub enum DeskRequest<'a> {
     },
     /// Asks for the report of the whole host. The operator alone may.
     Report,
+    /// Asks how the frames, slots and pages of the host are used, and what it has counted. The operator alone may.
+    Usage,
+    /// Asks what an instance has of them.
+    UsageOf {
+        id: InstId,
+    },
     /// Asks for an instance's transcript.
     Transcript {
         id: InstId,
@@ -125,6 +131,10 @@ pub enum DeskReply {
     Status(Option<CallStatus>),
     /// To `Report`: how frames, slots and pages are used.
     Report(Result<Report, HostError>),
+    /// To `Usage`: how they are used, and what was counted since the host was created.
+    Usage(HostUsage, HostCounts),
+    /// To `UsageOf`: what was promised to the instance, how many frames are charged to it, and how many of its pages are swapped.
+    UsageOf(Result<InstanceReport, HostError>),
     /// To `Transcript`: what was asked of the instance, and its calls.
     Transcript(Result<Transcript, HostError>),
     /// To `Output`: the bytes, in order; none from the end on.

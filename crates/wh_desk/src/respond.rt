@@ -240,6 +240,8 @@ fn look(host: &Host, alloc: Global, request: DeskRequest<'_>) -> DeskReply
     match request {
         DeskRequest::Status { id, at } => DeskReply::Status(host.call_status(id, at)),
         DeskRequest::Report => DeskReply::Report(host.report(alloc)),
+        DeskRequest::Usage => DeskReply::Usage(host.usage(), host.counts()),
+        DeskRequest::UsageOf { id } => DeskReply::UsageOf(host.usage_of(id)),
         DeskRequest::Transcript { id } => DeskReply::Transcript(host.transcript(alloc, id)),
         DeskRequest::Output { id, from, most } => {
             DeskReply::Output(output_from(alloc, host, id, from, most))
@@ -302,6 +304,8 @@ pub fn respond<D: SwapDev, T: Ledger, C: Ledger, O: Ledger, E: Ledger, B: CellAg
         | DeskRequest::BeginEpoch => change(locked, owner, alloc, request),
         DeskRequest::Status { .. }
         | DeskRequest::Report
+        | DeskRequest::Usage
+        | DeskRequest::UsageOf { .. }
         | DeskRequest::Transcript { .. }
         | DeskRequest::Output { .. }
         | DeskRequest::Ends { .. }

@@ -55,6 +55,10 @@ pub enum Question {
         at: u32,
     },
     Report,
+    Usage,
+    UsageOf {
+        id: InstId,
+    },
     Transcript {
         id: InstId,
     },

@@ -5,5 +5,6 @@ mod Getting
 mod Standing
 mod Goers
 mod Asked
+mod Counted
 mod Steps
 mod ReadHere

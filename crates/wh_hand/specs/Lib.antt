@@ -1,6 +1,7 @@
 pub mod ChargesTaken
 pub mod Running
 pub mod RunParts
+pub mod RunCounting
 pub mod Lining
 pub mod Moved
 pub mod HandStates

@@ -1,6 +1,6 @@
 //! What owners ask of the calls of their instances.
 
-ghost use Rattle.std.specs.Prelude.{◌≡◌, OnErr};
+ghost use Rattle.std.specs.Prelude.{◌≡◌, OnErr, OnOk};
 ghost use Rattle.wh_host.specs.Backing.{KeepsBacking};
 
 use crate::hand::Hand;
@@ -18,6 +18,8 @@ impl Hand {
         ensures err { OnErr result (self.new ≡ self.old) }
         ensures backing { KeepsBacking self.old.host.space self.new.host.space }
         ensures output { self.new.output ≡ self.old.output }
+        ensures counts { OnOk result
+            (self.new.host.counts ≡ Q.counted request self.old.host self.new.host) }
     {
         let id = request.id();
         let stands = self.host.can_go_on(id);

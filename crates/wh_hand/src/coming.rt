@@ -29,6 +29,7 @@ impl Hand {
         ensures err { OnErr result (self.new ≡ self.old) }
         ensures backing { KeepsBacking self.old.host.space self.new.host.space }
         ensures output { self.new.output ≡ self.old.output }
+        ensures counts { self.new.host.counts ≡ self.old.host.counts }
     {
         self.host.load(alloc, bytes)
     }
@@ -43,6 +44,7 @@ impl Hand {
         ensures backing { KeepsBacking self.old.host.space self.new.host.space }
         ensures memory { self.new.host.space ≡ self.old.host.space }
         ensures output { self.new.output ≡ self.old.output }
+        ensures counts { self.new.host.counts ≡ self.old.host.counts }
     {
         self.host.unload(id)
     }
@@ -66,6 +68,7 @@ impl Hand {
         ensures memory { IfOk result (λ id. (size : ℕ) × Enters self.old.host.space id.place
             (promised id.number (view_params params)) size self.new.host.space) }
         ensures output { self.new.output ≡ self.old.output }
+        ensures counts { self.new.host.counts ≡ self.old.host.counts }
     {
         let id = match self.host.admit(alloc, of, params) {
             Ok(id) => id,
@@ -91,6 +94,7 @@ impl Hand {
         ensures memory { IfOk result (λ copy. Copies self.old.host.space id.place copy.place
             (claim_by copy.number (view_quota quota)) self.new.host.space) }
         ensures output { self.new.output ≡ self.old.output }
+        ensures counts { self.new.host.counts ≡ self.old.host.counts }
     {
         let copy = match self.host.fork(alloc, id, quota) {
             Ok(copy) => copy,

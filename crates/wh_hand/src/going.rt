@@ -11,6 +11,7 @@ ghost use Rattle.wh_host_model.specs.Host.Worlds.{World};
 ghost use Rattle.wh_hand.specs.Lining.{MayGoOn, IsReadyFor, KeepsGoing, KeepsOthersGoing, Lists};
 ghost use Rattle.wh_hand.specs.Running.{AnyGoesOn};
 ghost use Rattle.wh_hand.specs.Moved.{IsMoved};
+ghost use Rattle.wh_hand.specs.RunCounting.{CountsRun};
 ghost use Rattle.wh_hand.specs.RunParts.{RunsPart, quantum};
 
 use crate::line::settle;
@@ -32,6 +33,7 @@ fn counted_turn(host: &mut Host, id: InstId, q: u64) -> u64
     requires goes { MayGoOn host.old id }
     requires ready { IsReadyFor host.old id }
     ensures runs { RunsPart host.old result 1 host.new }
+    ensures counts { CountsRun host.old.counts result host.new.counts }
     ensures few { result ≤ q }
     ensures others { KeepsOthersGoing host.old id host.new }
     ensures live { host.new.live ≡ host.old.live }
@@ -45,6 +47,7 @@ fn counted_turn(host: &mut Host, id: InstId, q: u64) -> u64
 fn make_ready(host: &mut Host, device: &mut MemSwap, page: &mut Buf, id: InstId)
     requires together { AreTogether host.old.space (memory_held device.old) }
     ensures runs { RunsPart host.old 0 0 host.new }
+    ensures counts { CountsRun host.old.counts 0 host.new.counts }
     ensures others { KeepsGoing host.old host.new }
     ensures live { host.new.live ≡ host.old.live }
     ensures together { AreTogether host.new.space (memory_held device.new) }
@@ -67,7 +70,8 @@ fn page_of(number: u64, size: u32) -> Option<u32> {
 // Offers for sharing the page of this instance that goes with this number, if it has a frame of its own, or shares one that
 // has no entry.
 fn offer_one(host: &mut Host, id: InstId, number: u64)
-    ensures { IsMoved host.old host.new }
+    ensures moves { IsMoved host.old host.new }
+    ensures counts { CountsRun host.old.counts 0 host.new.counts }
 {
     host.invariant();
     let Some(page) = page_of(number, host.size_at(id.place)) else {
@@ -83,7 +87,8 @@ fn offer_one(host: &mut Host, id: InstId, number: u64)
 // Counts a turn that took `taken` charges. Offers the next page of one of those that can make progress, if it is time
 // for that.
 fn offer_next(host: &mut Host, line: &VecDeque<InstId>, pace: &mut OfferPace, taken: u64)
-    ensures { IsMoved host.old host.new }
+    ensures moves { IsMoved host.old host.new }
+    ensures counts { CountsRun host.old.counts 0 host.new.counts }
 {
     host.invariant();
     if !pace.count(taken) {
@@ -117,6 +122,7 @@ pub fn advance(
     ensures none { IfNone result ((w : World) → IsHost host.old w → ¬ AnyGoesOn w) }
     ensures same { IfNone result (host.new ≡ host.old) }
     ensures runs { IfSome result (λ taken. RunsPart host.old taken 1 host.new) }
+    ensures counts { IfSome result (λ taken. CountsRun host.old.counts taken host.new.counts) }
     ensures within { IfSome result (λ taken. taken ≤ most) }
     ensures together { AreTogether host.new.space (memory_held device.new) }
     ensures lists { Lists host.new line.new.items }
@@ -137,7 +143,8 @@ pub fn advance(
 
 /// Begins a new epoch, where it is time for one.
 pub fn begin_epoch(host: &mut Host, pace: &mut OfferPace)
-    ensures { IsMoved host.old host.new }
+    ensures moves { IsMoved host.old host.new }
+    ensures counts { CountsRun host.old.counts 0 host.new.counts }
 {
     host.invariant();
     if !pace.begins_epoch() {

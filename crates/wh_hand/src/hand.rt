@@ -1,6 +1,7 @@
 //! The hand.
 
 ghost use Rattle.std.specs.Prelude.{◌≡◌, [], IfOk};
+ghost use Rattle.wh_host.specs.HostCounting.{no_counts};
 ghost use Rattle.wh_host.specs.Hosting.{IsNewHost};
 ghost use Rattle.wh_hand.specs.HandStates.{IsSoundByEvents};
 
@@ -69,6 +70,7 @@ impl Hand {
     pub fn new(alloc: Global, frames: u32, slots: u32, tax: Tax) -> Result<Hand, AllocError>
         ensures host { IfOk result (λ hand. IsNewHost hand.host frames slots tax) }
         ensures output { IfOk result (λ hand. hand.output ≡ []) }
+        ensures counts { IfOk result (λ hand. hand.host.counts ≡ no_counts) }
     {
         let Ok(host) = Host::new(alloc, frames, slots, tax) else {
             return Err(AllocError);

@@ -21,8 +21,8 @@ pub use hand::Hand;
 pub use reading::BytesError;
 pub use running::Ran;
 pub use wh_host::{
-    AdmitError, CallRequest, CallStatus, CallValue, Cancel, ExportedFunc, ForkError, HostError,
-    HostUsage, InstanceReport, Invoke, InvokeAt, ModuleError, ModuleId, Params, Quota, Refuel,
-    Report, Retry, Suspension, Transcript, UnloadError,
+    AdmitError, CallRequest, CallStatus, CallValue, Cancel, ExportedFunc, ForkError, HostCounts,
+    HostError, HostUsage, InstanceReport, Invoke, InvokeAt, ModuleError, ModuleId, Params, Quota,
+    Refuel, Report, Retry, Suspension, Transcript, UnloadError,
 };
 pub use wh_space_model::{InstId, Tax};

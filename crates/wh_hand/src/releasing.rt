@@ -22,6 +22,7 @@ impl Hand {
         ensures err { OnErr result (self.new ≡ self.old) }
         ensures backing { KeepsBacking self.old.host.space self.new.host.space }
         ensures memory { OnOk result (Exits self.old.host.space id.place self.new.host.space) }
+        ensures counts { self.new.host.counts ≡ self.old.host.counts }
     {
         let stands = self.host.can_go_on(id);
         let output = match self.host.release(alloc, id) {

@@ -6,6 +6,7 @@ ghost use Rattle.wh_host.specs.Hosting.{IsHost};
 ghost use Rattle.wh_host.specs.Paging.{Tells};
 ghost use Rattle.wh_host_model.specs.Host.Worlds.{World};
 ghost use Rattle.wh_hand.specs.Running.{RunsAll, AnyGoesOn};
+ghost use Rattle.wh_hand.specs.RunCounting.{CountsRun};
 ghost use Rattle.wh_hand.specs.RunParts.{LeavesOf, RunsPart};
 
 use crate::going::{advance, begin_epoch};
@@ -34,6 +35,8 @@ impl Hand {
         ensures none { IfNone result ((w : World) → IsHost self.old.host w → ¬ AnyGoesOn w) }
         ensures same { IfNone result (self.new.host ≡ self.old.host) }
         ensures runs { IfSome result (λ taken. RunsPart self.old.host taken 1 self.new.host) }
+        ensures counts { IfSome result (λ taken.
+            CountsRun self.old.host.counts taken self.new.host.counts) }
         ensures within { IfSome result (λ taken. taken ≤ most) }
         ensures whole { IsAsWhole self.old.host.space self.new.host.space }
         ensures output { self.new.output ≡ self.old.output }
@@ -51,6 +54,7 @@ impl Hand {
     // Begins a new epoch, where it is time for one and a call can go on.
     fn begin(&mut self)
         ensures runs { RunsPart self.old.host 0 0 self.new.host }
+        ensures counts { CountsRun self.old.host.counts 0 self.new.host.counts }
         ensures whole { IsAsWhole self.old.host.space self.new.host.space }
         ensures output { self.new.output ≡ self.old.output }
     {
@@ -63,6 +67,7 @@ impl Hand {
     // Runs turns until no call can make progress, or `charges` charges are taken; returns how many are left.
     fn take(&mut self, charges: u64) -> u64
         ensures leaves { LeavesOf self.old.host charges result self.new.host }
+        ensures counts { CountsRun self.old.host.counts (charges - result) self.new.host.counts }
         ensures few { result ≤ charges }
         ensures whole { IsAsWhole self.old.host.space self.new.host.space }
         ensures output { self.new.output ≡ self.old.output }
@@ -89,6 +94,7 @@ impl Hand {
     /// pages.
     pub fn run(&mut self, charges: u64) -> Ran
         ensures runs { RunsAll 1000 self.old.host charges result self.new.host }
+        ensures counts { CountsRun self.old.host.counts result.charges self.new.host.counts }
         ensures whole { IsAsWhole self.old.host.space self.new.host.space }
         ensures output { self.new.output ≡ self.old.output }
     {

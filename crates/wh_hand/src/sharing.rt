@@ -6,6 +6,7 @@ ghost use Rattle.wh_space_model.specs.Scanning.{IsDistinct};
 ghost use Rattle.wh_space_model.specs.Stores.{Epochs};
 ghost use Rattle.wh_scan.specs.Pass.{HasSoManyPages, MayPass, PassesOverAll, ScansAll};
 ghost use Rattle.wh_host.specs.Backing.{KeepsBacking};
+ghost use Rattle.wh_host.specs.HostCounting.{CountsScan};
 ghost use Rattle.wh_host.specs.Paging.{MovesOnly};
 ghost use Rattle.wh_host.specs.Sharing.{CanScan};
 
@@ -34,6 +35,8 @@ impl Hand {
             → length all + length self.new.host.space.pool.free
             ≡ length self.new.host.space.pool.frames) }
         ensures output { self.new.output ≡ self.old.output }
+        ensures counted { IfSome result (λ offered.
+            CountsScan fnv64 self.old.host offered self.new.host) }
     {
         self.host.scan(&FnvHash)
     }
@@ -44,6 +47,7 @@ impl Hand {
         ensures clears { Epochs self.old.host.space self.new.host.space }
         ensures backing { KeepsBacking self.old.host.space self.new.host.space }
         ensures output { self.new.output ≡ self.old.output }
+        ensures counts { self.new.host.counts ≡ self.old.host.counts }
     {
         self.host.epoch();
     }

@@ -3,14 +3,17 @@
 ghost use Rattle.std.specs.Prelude.{◌≡◌, IfErr, IfNone, IfOk, IfSome, option_map};
 ghost use Rattle.wh_host.specs.LiveOutputs.{SaysNoInstance, ShowsJournalOutput, ShowsOutput};
 ghost use Rattle.wh_host.specs.ModuleExports.{CountsExports, HasNoExport, ShowsExport};
-ghost use Rattle.wh_host.specs.Reporting.{ReportsHost, ReportsUsage, view_report, view_usage};
+ghost use Rattle.wh_host.specs.Reporting.{ReportsHost, ReportsInstance, ReportsUsage, view_report, view_row, view_usage};
 ghost use Rattle.wh_host.specs.Showing.{ShowsInstance};
 ghost use Rattle.wh_host.specs.Telling.{CountsEnded, TellsChargesOf, TellsOf};
 ghost use Rattle.wh_transcript.specs.Transcripts.{IsReplayable};
 
 use crate::hand::Hand;
 use std::alloc::Global;
-use wh_host::{CallStatus, ExportedFunc, HostError, HostUsage, ModuleId, Report, Transcript};
+use wh_host::{
+    CallStatus, ExportedFunc, HostCounts, HostError, HostUsage, InstanceReport, ModuleId, Report,
+    Transcript,
+};
 use wh_space_model::InstId;
 
 impl Hand {
@@ -74,6 +77,24 @@ impl Hand {
         ensures { ReportsUsage self.now.host (view_usage result) }
     {
         self.host.usage()
+    }
+
+    /// Returns what an instance has of frames and slots. Takes O(1), and allocates nothing.
+    ///
+    /// # Errors
+    /// `NoInstance` if there is no such instance.
+    pub fn usage_of(&self, id: InstId) -> Result<InstanceReport, HostError>
+        ensures ok { IfOk result (λ row. ReportsInstance self.now.host id (view_row row)) }
+        ensures err { IfErr result (λ error. SaysNoInstance self.now.host id error) }
+    {
+        self.host.usage_of(id)
+    }
+
+    /// Returns what was counted since the hand was created. Takes O(1), and allocates nothing.
+    pub fn counts(&self) -> HostCounts
+        ensures { result ≡ self.now.host.counts }
+    {
+        self.host.counts()
     }
 
     /// Reports how frames and slots are used and shared, and what each instance has of them, by number.

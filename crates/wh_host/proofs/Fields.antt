@@ -13,7 +13,7 @@ use Rattle.wh_host.proofs.Hosts.{kept_back, of_who_is_there, put_back, somebody_
 
 -- the host of these fields
 abbrev pub host_of : Inside → HostState
-host_of i = record { modules = i.modules.slots; module_refs = i.module_refs.items; entries = i.entries.slots; live = i.live; space = i.memory; next = i.next; next_module = i.next_module }
+host_of i = record { modules = i.modules.slots; module_refs = i.module_refs.items; entries = i.entries.slots; live = i.live; space = i.memory; next = i.next; next_module = i.next_module; counts = i.counts }
 
 -- the same host represents the same world
 pub shown_host : {h h2 : HostState} (w : World) → h2 ≡ h → IsHost h w → IsHost h2 w

@@ -29,5 +29,7 @@ mod Reading
 mod Reports
 mod Enrolling
 mod Charges
+mod KeptCounts
+mod FewerSharing
 mod Begun
 mod ForkedHosts

@@ -151,7 +151,7 @@ more_out E F ys i y n F2 y2 out there free t = record {
       page_limit = refl;
       spare = y.tenant;
       is = put.0;
-      so = (refl, t.computes, room_then);
+      so = (refl, t.computes, room_then, refl);
     })
 
 -- ---- who is left out

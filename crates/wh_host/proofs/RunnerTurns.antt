@@ -280,8 +280,8 @@ laid_next F0 m0 xs F m ys i y F2 m2 y2 h there lays = record {
     free_then (inr f) free = let r = f.1 in r.free
 
     answer_then : {q : ℕ} → LaysAt q F m y F2 m2 y2 → HasAnswer y y2
-    answer_then (inl f) = (ap (λ (z : Runner). z.id) f.3, λ sits. absurd (not_both y sits f.0), λ gone. ap (λ (z : Runner). z.answer) f.3)
-    answer_then (inr f) = (let r = f.1 in (r.id, λ sits. (r.end, r.answer, r.again, r.upper), λ gone. absurd (not_both y f.0 gone)))
+    answer_then (inl f) = (ap (λ (z : Runner). z.id) f.3, λ sits. absurd (not_both y sits f.0), λ gone. ap (λ (z : Runner). z.answer) f.3, ap (λ (z : Runner). z.ended) f.3)
+    answer_then (inr f) = (let r = f.1 in (r.id, λ sits. (r.end, r.answer, r.again, r.upper), λ gone. absurd (not_both y f.0 gone), r.ended))
 
     backs : {q : ℕ} → LaysAt q F m y F2 m2 y2 → KeepsBacking m m2
     backs (inl f) = same_backing m m2 f.2

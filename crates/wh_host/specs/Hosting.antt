@@ -11,13 +11,14 @@ use Rattle.wh_host_model.specs.Host.Misreading.{ComesAbout}
 use Rattle.wh_load.specs.Refusing.{view_linked}
 use Rattle.wh_instance.specs.Tenancy.{IsTenant}
 use Rattle.wh_space.specs.Arrivals.{IsNew}
+use Rattle.wh_host.specs.declared.counts.HostCounts.{HostCounts}
 use Rattle.wh_host.specs.declared.parts.LoadedModule.{LoadedModule}
 use Rattle.wh_host.specs.declared.parts.ModuleRef.{ModuleRef}
 use Rattle.wh_host.specs.declared.parts.StoredParams.{StoredParams}
 use Rattle.wh_host.specs.declared.parts.InstanceEntry.{InstanceEntry}
 
 -- its modules by their places, those that are there by number, who has each place of an instance, how many instances there
--- are, the memory of all, how many were admitted, and how many modules were loaded
+-- are, the memory of all, how many were admitted, how many modules were loaded, and what was counted
 pub record HostState : Type 0 where
   pub modules : List (Option LoadedModule)
   pub module_refs : List ModuleRef
@@ -26,6 +27,7 @@ pub record HostState : Type 0 where
   pub space : Space
   pub next : ℕ
   pub next_module : ℕ
+  pub counts : HostCounts
 
 -- events alone lead from an empty host to this one: no swap device gave other bytes than were written to it
 pub record IsReached (w : World) : Type 0 where

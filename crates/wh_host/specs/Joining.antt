@@ -47,6 +47,7 @@ pub record IsTakenOut (rs : List (Option InstanceEntry)) (y : Runner) (n : ℕ) 
     module_place = entry.module_place;
     page_limit = entry.page_limit;
     tenant = entry.tenant;
+    ended = length entry.tenant.journal.ended;
     upper = with_lent n y.upper;
     answer = None;
   }
@@ -85,6 +86,7 @@ pub record FinishesAt (q : ℕ) (s : Space) (y : Runner) (s2 : Space) (y2 : Runn
   pub again : end ≡ Again → CanGoOnFrom y.ran.came
   pub upper : (u : OverlayPagesState) → y.upper ≡ Some u → y2.upper ≡ Some (with_nothing u)
   pub id : y2.id ≡ y.id
+  pub ended : y2.ended ≡ y.ended
   pub free : IsFree y2
 
 -- some instance has run there over a memory that was as good
@@ -102,6 +104,7 @@ pub record Returns (q : ℕ) (rs : List (Option InstanceEntry)) (s : Space) (y :
   pub again : end ≡ Again → CanGoOnFrom y.ran.came
   pub upper : (u : OverlayPagesState) → y.upper ≡ Some u → y2.upper ≡ Some (with_nothing u)
   pub id : y2.id ≡ y.id
+  pub ended : y2.ended ≡ y.ended
   pub free : IsFree y2
   pub entries : (x : InstanceEntry) → entry_at rs y.id.place ≡ Some x
       → rs2 ≡ slice_set rs y.id.place (Some (record x { number = Some y.id.number; tenant = tenant }))
@@ -121,7 +124,7 @@ TellsSeries y y2 =
 -- one that had none has the answer that it had
 abbrev pub HasAnswer : Runner → Runner → Type 0
 HasAnswer y y2 =
-    (y2.id ≡ y.id) × (y.taken ≡ true → TellsSeries y y2) × (y.taken ≡ false → y2.answer ≡ y.answer)
+    (y2.id ≡ y.id) × (y.taken ≡ true → TellsSeries y y2) × (y.taken ≡ false → y2.answer ≡ y.answer) × (y2.ended ≡ y.ended)
 
 -- The instances of all runners have run over one memory, and this one is as good for each; the frames that are lent to them are free.
 -- The other runners are free, and have no answer.

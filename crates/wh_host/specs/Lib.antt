@@ -25,6 +25,7 @@ pub mod HostReads
 pub mod ModuleExports
 pub mod Telling
 pub mod Reporting
+pub mod HostCounting
 pub mod InstanceRefs
 pub mod Rolls
 pub mod ForkAnswers

@@ -1,5 +1,5 @@
 -- Rounds: turns of several instances, that run at once and are finished one after the other.
-use Rattle.std.specs.Prelude.{◌≡◌, ◌≢◌, ℕ, ◌*◌, ◌+◌, ◌≤◌, cond, true, false, List, [], ◌∷◌, Option, Some, None, slice_get}
+use Rattle.std.specs.Prelude.{◌≡◌, ◌≢◌, ℕ, ◌*◌, ◌+◌, ◌≤◌, cond, true, false, List, [], ◌∷◌, Option, Some, None, length, slice_get}
 use Rattle.wh_space_model.specs.Frames.{tally}
 use Rattle.wh_space_model.specs.declared.plain.InstId.{InstId}
 use Rattle.wh_host_model.specs.Host.Happens.{IsLive}
@@ -89,9 +89,11 @@ pub record AreTakenOut (before now : List (Option InstanceEntry)) (ys : List Run
   pub apart : (j k : ℕ) (y z : Runner) → slice_get ys j ≡ Some y → slice_get ys k ≡ Some z → y.taken ≡ true
       → z.taken ≡ true → y.id.place ≡ z.id.place → j ≡ k
 
--- the instance of the entry is the runner's, computes, and has room
+-- the instance of the entry is the runner's, computes, and has room; and so many of its calls have ended
 abbrev pub SitsThere : InstanceEntry → Runner → Type 0
-SitsThere x y = (y.tenant ≡ x.tenant) × OfAnyTenant x.tenant (λ l limit bytes t. IsAtTerm t) × HasRoomBeside y
+SitsThere x y =
+    (y.tenant ≡ x.tenant) × OfAnyTenant x.tenant (λ l limit bytes t. IsAtTerm t) × HasRoomBeside y
+    × (y.ended ≡ length x.tenant.journal.ended)
 
 -- It ran at most `most` turns of q charges at most, and each but the last was used up. Each but the first was begun where it was
 -- read that nobody wants the memory.
@@ -131,6 +133,7 @@ pub record RunsAt (modules : List (Option LoadedModule)) (s : Space) (q most : �
   pub module_place : y2.module_place ≡ y.module_place
   pub page_limit : y2.page_limit ≡ y.page_limit
   pub answer : y2.answer ≡ y.answer
+  pub ended : y2.ended ≡ y.ended
   pub lent : lent_to y2 ≡ lent_to y
   pub free : y.taken ≡ false → HasRoomBeside y → HasRoomBeside y2
   pub ran : y.taken ≡ true → (u : OverlayPagesState) × (y2.upper ≡ Some u) × IsBurst q most y2.ran

@@ -107,6 +107,7 @@ impl Host {
         ensures backing { KeepsBacking self.old.space self.new.space }
         ensures memory { IfOk result (λ id. (size : ℕ) × Enters self.old.space id.place
             (promised id.number (view_params params)) size self.new.space) }
+        ensures counts { self.new.counts ≡ self.old.counts }
     {
         let Some(module_ref) = find_ref(&self.module_refs, of.number) else {
             return Err(AdmitError::NoModule);

@@ -5,6 +5,7 @@ ghost use Rattle.wh_host_model.specs.Host.Happens.{IsCancel, IsRefuel, IsRetry};
 ghost use Rattle.wh_space_model.specs.Stores.{ended};
 ghost use Rattle.wh_host.specs.Backing.{KeepsBacking};
 ghost use Rattle.wh_host.specs.CallRequests.{AnswersCall};
+ghost use Rattle.wh_host.specs.HostCounting.{counts_after_cancel};
 
 use crate::error::HostError;
 use crate::host::Host;
@@ -22,6 +23,7 @@ impl Host {
         ensures err { OnErr result (self.new ≡ self.old) }
         ensures backing { KeepsBacking self.old.space self.new.space }
         ensures memory { self.new.space ≡ self.old.space }
+        ensures counts { self.new.counts ≡ self.old.counts }
     {
         let Some(entry) = self.entries.get_mut(id.place) else {
             return Err(HostError::NoInstance);
@@ -45,6 +47,7 @@ impl Host {
         ensures err { OnErr result (self.new ≡ self.old) }
         ensures backing { KeepsBacking self.old.space self.new.space }
         ensures memory { self.new.space ≡ self.old.space }
+        ensures counts { self.new.counts ≡ self.old.counts }
     {
         let Some(entry) = self.entries.get_mut(id.place) else {
             return Err(HostError::NoInstance);
@@ -69,6 +72,7 @@ impl Host {
         ensures err { OnErr result (self.new ≡ self.old) }
         ensures backing { KeepsBacking self.old.space self.new.space }
         ensures memory { OnOk result (self.new.space ≡ ended self.old.space id.place) }
+        ensures counts { OnOk result (self.new.counts ≡ counts_after_cancel self.old id self.new) }
     {
         let Some(entry) = self.entries.get_mut(id.place) else {
             return Err(HostError::NoInstance);
@@ -76,9 +80,11 @@ impl Host {
         if !entry.has_number(id.number) {
             return Err(HostError::NoInstance);
         }
+        let before = entry.tenant.journal().ended_len();
         if !entry.tenant.cancel() {
             return Err(HostError::NoCall);
         }
+        self.counts.count_ended(entry.tenant.journal(), before);
         self.memory.invariant();
         self.memory.end(id.place);
         Ok(())

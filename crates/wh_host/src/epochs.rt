@@ -1,5 +1,6 @@
 //! New epochs.
 
+ghost use Rattle.std.specs.Prelude.{◌≡◌};
 ghost use Rattle.wh_host_model.specs.Host.Happens.{OnlyMoves};
 ghost use Rattle.wh_host_model.specs.Host.Worlds.{World};
 ghost use Rattle.wh_space_model.specs.Stores.{Epochs};
@@ -15,6 +16,7 @@ impl Host {
             → (w2 : World) × OnlyMoves w w2 × IsHost self.new w2 }
         ensures clears { Epochs self.old.space self.new.space }
         ensures backing { KeepsBacking self.old.space self.new.space }
+        ensures counts { self.new.counts ≡ self.old.counts }
     {
         self.memory.invariant();
         self.memory.new_epoch();

@@ -34,6 +34,8 @@ impl Request for Fork {
         × IfOk answer (λ copy. Copies h.space r.id.place copy.place
         (claim_by copy.number (view_quota r.quota)) h2.space) };
 
+    ghost counted = { λ r h h2. h.counts };
+
     fn ask(self, host: &mut Host) -> Result<InstId, ForkError> {
         host.fork(self.alloc, self.id, self.quota)
     }

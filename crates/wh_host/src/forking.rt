@@ -151,6 +151,7 @@ impl Host {
         ensures backing { KeepsBacking self.old.space self.new.space }
         ensures memory { IfOk result (λ copy. Copies self.old.space id.place copy.place
             (claim_by copy.number (view_quota quota)) self.new.space) }
+        ensures counts { self.new.counts ≡ self.old.counts }
     {
         let Some(entry) = self.entries.get(id.place) else {
             return Err(ForkError::NoInstance);

@@ -5,10 +5,14 @@ ghost use Rattle.std.specs.Prelude.{◌≡◌, ◌≤◌, IfErr, IfOk};
 ghost use Rattle.wh_host_model.specs.Host.Worlds.{World};
 ghost use Rattle.wh_host_model.specs.Host.Happens.{IsTurn};
 ghost use Rattle.wh_host.specs.Backing.{KeepsBacking};
+ghost use Rattle.wh_host.specs.HostCounting.{counts_after_turn, no_counts};
 ghost use Rattle.wh_host.specs.Hosting.{IsHost, IsNewHost, module_in};
 ghost use Rattle.wh_host.specs.Left.{LeavesTurned};
+ghost use Rattle.wh_host.specs.Reporting.{all_sharers};
 ghost use Rattle.wh_host.specs.Series.{HasSpent};
 
+use crate::counting::sharers_of;
+use crate::counts::HostCounts;
 use crate::parts::{InstanceEntry, LoadedModule, ModuleRef};
 use crate::turning::turn_at;
 use slab::Slab;
@@ -38,6 +42,7 @@ pub struct Host {
     pub(crate) next: u64,
     // How many modules were loaded.
     pub(crate) next_module: usize,
+    pub(crate) counts: HostCounts,
 }
 
 impl Drop for Host {
@@ -50,6 +55,7 @@ impl Drop for Host {
             memory: _,
             next: _,
             next_module: _,
+            counts: _,
         } = self;
     }
 }
@@ -72,6 +78,7 @@ impl Model for Host {
       space = h.memory;
       next = h.next;
       next_module = h.next_module;
+      counts = h.counts;
     } };
 
     ghost invariant = { λ h. (w : OneWorld) × Represents (record {
@@ -82,6 +89,7 @@ impl Model for Host {
       space = h.memory;
       next = h.next;
       next_module = h.next_module;
+      counts = h.counts;
     }) w };
 }
 
@@ -93,6 +101,7 @@ impl Host {
     /// `Memory` where room is refused.
     pub fn new(alloc: Global, frames: u32, slots: u32, tax: Tax) -> Result<Host, FrameError>
         ensures ok { IfOk result (λ host. IsNewHost host frames slots tax) }
+        ensures counts { IfOk result (λ host. host.counts ≡ no_counts) }
         ensures refused { IfErr result (λ error. error ≡ FrameError.Memory) }
     {
         let memory = match Memory::new(alloc, frames, slots, tax) {
@@ -108,6 +117,7 @@ impl Host {
             memory,
             next: 0,
             next_module: 0,
+            counts: HostCounts::none(),
         })
     }
 
@@ -120,6 +130,13 @@ impl Host {
         let _ = &self.live;
     }
 
+    /// Returns what was counted since the host was created. Takes O(1), and allocates nothing.
+    pub fn counts(&self) -> HostCounts
+        ensures { result ≡ self.now.counts }
+    {
+        self.counts
+    }
+
     /// Runs a turn of at most `q` charges of an instance. The memory of all changes by its own loads, stores and growth
     /// alone, and by what it is blocked on then. Returns the turn's end, and how many charges it took; `Idle` and 0 if
     /// there is no such instance, or no call of it is open.
@@ -130,6 +147,8 @@ impl Host {
         ensures few { result.1 ≤ q }
         ensures backing { KeepsBacking self.old.space self.new.space }
         ensures memory { LeavesTurned id.place result.0 self.old.space self.new.space }
+        ensures counts { self.new.counts ≡ counts_after_turn self.old id result.0 result.1 self.new }
+        ensures shares { all_sharers self.new.space ≤ all_sharers self.old.space }
     {
         let Some(entry) = self.entries.get_mut(id.place) else {
             return (TurnEnd::Idle, 0);
@@ -140,13 +159,19 @@ impl Host {
         let Some(module) = module_at(&self.modules, entry.module_place) else {
             return (TurnEnd::Idle, 0);
         };
-        turn_at(
+        let before = entry.tenant.journal().ended_len();
+        let sharers = sharers_of(&self.memory);
+        let turned = turn_at(
             &mut entry.tenant,
             &module.linked,
             &mut self.memory,
             id.place,
             entry.page_limit,
             q,
-        )
+        );
+        let breaks = sharers.saturating_sub(sharers_of(&self.memory));
+        self.counts
+            .count_turn(turned, entry.tenant.journal(), before, breaks);
+        turned
     }
 }

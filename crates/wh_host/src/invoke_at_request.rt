@@ -37,6 +37,8 @@ impl Request for InvokeAt<'_> {
 
     ghost asks = { λ r h answer h2. AnswersInvokeAt h r.id r.at r.given.now r.fuel answer h2 };
 
+    ghost counted = { λ r h h2. h.counts };
+
     fn ask(self, host: &mut Host) -> Result<u32, HostError> {
         host.invoke_at(self.alloc, self.id, self.at, self.given, self.fuel)
     }

@@ -30,6 +30,7 @@ impl Host {
         ensures asks { AnswersInvoke self.old id name.now given.now fuel result self.new }
         ensures err { OnErr result (self.new ≡ self.old) }
         ensures backing { KeepsBacking self.old.space self.new.space }
+        ensures counts { self.new.counts ≡ self.old.counts }
     {
         let Some(entry) = self.entries.get_mut(id.place) else {
             return Err(HostError::NoInstance);
@@ -65,6 +66,7 @@ impl Host {
         ensures asks { AnswersInvokeAt self.old id at given.now fuel result self.new }
         ensures err { OnErr result (self.new ≡ self.old) }
         ensures backing { KeepsBacking self.old.space self.new.space }
+        ensures counts { self.new.counts ≡ self.old.counts }
     {
         let Some(entry) = self.entries.get_mut(id.place) else {
             return Err(HostError::NoInstance);

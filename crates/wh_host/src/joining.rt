@@ -7,11 +7,14 @@ ghost use Rattle.wh_instance.specs.Tenancy.{HostInstanceState};
 ghost use Rattle.wh_host.specs.declared.parts.InstanceEntry.{InstanceEntry as OneEntry};
 ghost use Rattle.wh_host.specs.declared.rounds.Runner.{Runner as OneRunner};
 ghost use Rattle.wh_host.specs.Backing.{KeepsBacking};
+ghost use Rattle.wh_host.specs.HostCounting.{counts_after_round};
 ghost use Rattle.wh_host.specs.Hosting.{HostState, IsHost, entry_at};
+ghost use Rattle.wh_host.specs.Reporting.{all_sharers};
 ghost use Rattle.wh_host.specs.Rounds.{AllAreFree, AllTurn, AreTakenOut, EachHadLeave, EachTakesSome, RunnersStay, IsFree, NoneIsLeftOut, SitsThere, lent_to_all};
 ghost use Rattle.wh_host.specs.Joining.{CanFinish, FinishesAt, HasAnswer, HaveRun, IsLeftOut, LaysAt, TakesOut, host_with};
 
 use crate::beside::finish_beside;
+use crate::counting::{count_round, sharers_of};
 use crate::host::Host;
 use crate::parts::InstanceEntry;
 use crate::rounds::{Round, RoundRunner, Runner, SeriesEnd};
@@ -39,6 +42,7 @@ fn take_out(entries: &mut Slab<InstanceEntry>, runner: &mut Runner, frames: u32)
     runner.taken = true;
     runner.module_place = entry.module_place;
     runner.page_limit = entry.page_limit;
+    runner.ended = entry.tenant.journal().ended_len();
     mem::swap(&mut entry.tenant, &mut runner.tenant);
     if let Some(upper) = &mut runner.upper {
         upper.lend(frames);
@@ -151,7 +155,10 @@ impl Host {
         ensures free { AllAreFree runners.new }
         ensures same { RunnersStay runners.old runners.new }
         ensures backing { KeepsBacking self.old.space self.new.space }
+        ensures counts { self.new.counts ≡ counts_after_round self.old runners.new self.new }
+        ensures shares { all_sharers self.new.space ≤ all_sharers self.old.space }
     {
+        let sharers = sharers_of(&self.memory);
         take_all(&mut self.entries, runners, self.memory.free());
         let round = Round {
             modules: &self.modules,
@@ -160,5 +167,8 @@ impl Host {
         };
         fork.run_all(&round, runners);
         lay_all(&mut self.entries, &mut self.memory, runners);
+        count_round(&mut self.counts, &self.entries, runners);
+        let breaks = sharers.saturating_sub(sharers_of(&self.memory));
+        self.counts.count_breaks(breaks);
     }
 }

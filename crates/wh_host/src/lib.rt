@@ -10,6 +10,8 @@ mod asking;
 mod beside;
 mod bytes;
 mod call_request;
+mod counting;
+mod counts;
 mod epochs;
 mod error;
 mod exporting;
@@ -40,6 +42,7 @@ mod unload_request;
 mod unloading;
 
 pub use call_request::CallRequest;
+pub use counts::HostCounts;
 pub use error::{HostError, ModuleError, ReadError, UnloadError};
 pub use exporting::ExportedFunc;
 pub use fork_request::Fork;

@@ -64,6 +64,7 @@ impl Host {
         ensures loads { AnswersLoad self.old bytes.now result self.new }
         ensures err { OnErr result (self.new ≡ self.old) }
         ensures backing { KeepsBacking self.old.space self.new.space }
+        ensures counts { self.new.counts ≡ self.old.counts }
     {
         let linked = match load(alloc, bytes) {
             Ok(linked) => linked,

@@ -8,10 +8,11 @@ ghost use Rattle.wh_space_model.specs.Provide.{FailsToProvide, FailsTruly, Other
 ghost use Rattle.wh_model.specs.declared.memory.Need.{Need};
 ghost use Rattle.wh_reclaim.specs.Whole.{IsAsWhole};
 ghost use Rattle.wh_swap.specs.DeviceCalls.{ServesOn, call_faults};
+ghost use Rattle.wh_host.specs.HostCounting.{AddsMovesAlone, CountsProvision};
 ghost use Rattle.wh_host.specs.Paging.{IsAwaiting, IsGoing, MovesAnyhow, MovesWith, Tells, WaitsFor, provide_fault};
 
 use crate::host::Host;
-use wh_reclaim::{Buf, provide};
+use wh_reclaim::{Buf, PagesMoved, provide};
 use wh_space_model::{InstId, SwapError};
 use wh_swap::SwapDev;
 
@@ -84,6 +85,9 @@ impl Host {
         ensures others { OthersKeepMinimum self.old.space id.place self.new.space }
         ensures whole { IsAsWhole self.old.space self.new.space }
         ensures writes { IfOk result (λ left. D.writes device.new ≡ D.writes device.old + left) }
+        ensures counts { (need : Need) → WaitsFor self.old id need
+            → CountsProvision self.old id need result self.new }
+        ensures adds { AddsMovesAlone self.old.counts result self.new.counts }
     {
         let Some(entry) = self.entries.get_mut(id.place) else {
             return Ok(0);
@@ -94,10 +98,16 @@ impl Host {
         if !entry.tenant.awaits_frame() {
             return Ok(0);
         }
-        let fault = match provide(&mut self.memory, device, id.place, buf) {
-            Ok(left) => return Ok(left),
+        let mut moved = PagesMoved { left: 0, came: 0 };
+        let fault = match provide(&mut self.memory, device, id.place, buf, &mut moved) {
+            Ok(left) => {
+                self.counts.count_moves(moved);
+                return Ok(left);
+            }
             Err(fault) => fault,
         };
+        self.counts.count_moves(moved);
+        self.counts.count_fault();
         let _ = entry.tenant.fail(fault);
         Err(fault)
     }

@@ -33,6 +33,7 @@ impl Host {
         ensures err { OnErr result (self.new ≡ self.old) }
         ensures backing { KeepsBacking self.old.space self.new.space }
         ensures memory { OnOk result (Exits self.old.space id.place self.new.space) }
+        ensures counts { self.new.counts ≡ self.old.counts }
     {
         let Some(entry) = self.entries.get_mut(id.place) else {
             return Err(HostError::NoInstance);

@@ -10,6 +10,8 @@ ghost use Rattle.wh_space_model.specs.Stores.{Epochs, ended};
 ghost use Rattle.wh_host.specs.Admitting.{AnswersAdmit};
 ghost use Rattle.wh_host.specs.Backing.{KeepsBacking};
 ghost use Rattle.wh_host.specs.CallRequests.{AnswersCall, AnswersInvoke};
+ghost use Rattle.wh_host.specs.declared.counts.HostCounts.{HostCounts};
+ghost use Rattle.wh_host.specs.HostCounting.{counts_after_cancel};
 ghost use Rattle.wh_host.specs.Hosting.{HostState};
 ghost use Rattle.wh_host.specs.Loading.{AnswersLoad};
 ghost use Rattle.wh_host.specs.Paging.{MovesOnly};
@@ -40,6 +42,9 @@ pub trait Request: sealed::Sealed {
     /// What the answer says of the host before and of the one after.
     ghost asks: { Self → HostState → Result Self.Answer Self.Error → HostState → Type 0 };
 
+    /// What is counted then, by the host before and the one after.
+    ghost counted: { Self → HostState → HostState → HostCounts };
+
     /// Asks it of a host.
     ///
     /// # Errors
@@ -47,7 +52,8 @@ pub trait Request: sealed::Sealed {
     fn ask(self, host: &mut Host) -> Result<Self::Answer, Self::Error>
         ensures asks { asks self host.old result host.new }
         ensures err { OnErr result (host.new ≡ host.old) }
-        ensures backing { KeepsBacking host.old.space host.new.space };
+        ensures backing { KeepsBacking host.old.space host.new.space }
+        ensures counts { OnOk result (host.new.counts ≡ counted self host.old host.new) };
 
     /// It is a request that the definitions know.
     ghost leads: { (request : Self) (h : HostState) (answer : Result Self.Answer Self.Error)
@@ -71,6 +77,8 @@ impl Request for Load<'_> {
     type Error = ModuleError;
 
     ghost asks = { λ r h answer h2. AnswersLoad h r.bytes.now answer h2 };
+
+    ghost counted = { λ r h h2. h.counts };
 
     fn ask(self, host: &mut Host) -> Result<ModuleId, ModuleError> {
         host.load(self.alloc, self.bytes)
@@ -101,6 +109,8 @@ impl Request for Admit {
     ghost asks = { λ r h answer h2. AnswersAdmit h r.of.number (view_params r.params) answer h2
         × IfOk answer (λ id. (size : ℕ) × Enters h.space id.place
         (promised id.number (view_params r.params)) size h2.space) };
+
+    ghost counted = { λ r h h2. h.counts };
 
     fn ask(self, host: &mut Host) -> Result<InstId, AdmitError> {
         host.admit(self.alloc, self.of, self.params)
@@ -136,6 +146,8 @@ impl Request for Invoke<'_> {
     ghost asks = { λ r h answer h2.
         AnswersInvoke h r.id r.name.now r.given.now r.fuel answer h2 };
 
+    ghost counted = { λ r h h2. h.counts };
+
     fn ask(self, host: &mut Host) -> Result<u32, HostError> {
         host.invoke(self.alloc, self.id, self.name, self.given, self.fuel)
     }
@@ -163,6 +175,8 @@ impl Request for Refuel {
     ghost asks = { λ r h answer h2.
         AnswersCall h (λ w a w2. IsRefuel w r.id r.fuel a w2) answer h2 × (h2.space ≡ h.space) };
 
+    ghost counted = { λ r h h2. h.counts };
+
     fn ask(self, host: &mut Host) -> Result<(), HostError> {
         host.refuel(self.id, self.fuel)
     }
@@ -188,6 +202,8 @@ impl Request for Cancel {
     ghost asks = { λ r h answer h2. AnswersCall h (λ w a w2. IsCancel w r.id a w2) answer h2
         × OnOk answer (h2.space ≡ ended h.space r.id.place) };
 
+    ghost counted = { λ r h h2. counts_after_cancel h r.id h2 };
+
     fn ask(self, host: &mut Host) -> Result<(), HostError> {
         host.cancel(self.id)
     }
@@ -212,6 +228,8 @@ impl Request for Retry {
 
     ghost asks = { λ r h answer h2.
         AnswersCall h (λ w a w2. IsRetry w r.id a w2) answer h2 × (h2.space ≡ h.space) };
+
+    ghost counted = { λ r h h2. h.counts };
 
     fn ask(self, host: &mut Host) -> Result<(), HostError> {
         host.retry(self.id)
@@ -240,6 +258,8 @@ impl Request for Release {
     ghost asks = { λ r h answer h2. AnswersRelease h r.id answer h2
         × OnOk answer (Exits h.space r.id.place h2.space) };
 
+    ghost counted = { λ r h h2. h.counts };
+
     fn ask(self, host: &mut Host) -> Result<Vec<u8>, HostError> {
         host.release(self.alloc, self.id)
     }
@@ -260,6 +280,8 @@ impl Request for BeginEpoch {
     type Error = HostError;
 
     ghost asks = { λ _ h answer h2. IsOk answer × MovesOnly h h2 × Epochs h.space h2.space };
+
+    ghost counted = { λ r h h2. h.counts };
 
     fn ask(self, host: &mut Host) -> Result<(), HostError> {
         host.epoch();

@@ -38,6 +38,8 @@ pub struct Runner {
     pub(crate) module_place: usize,
     pub(crate) page_limit: u32,
     pub(crate) tenant: HostInstance,
+    // How many calls of that instance had ended when it was taken out.
+    pub(crate) ended: usize,
     pub(crate) upper: Option<OverlayPages>,
     pub(crate) ran: RanBeside,
     // The outcome of its turns; none where it had none.
@@ -126,6 +128,7 @@ impl Runner {
             module_place: 0,
             page_limit: 0,
             tenant: HostInstance::spare(alloc)?,
+            ended: 0,
             upper: Some(upper),
             ran: RanBeside {
                 came: TurnOutcome::Again,

@@ -5,6 +5,7 @@ ghost use Rattle.wh_space_model.specs.Offers.{OffersOf};
 ghost use Rattle.wh_space_model.specs.Scanning.{IsDistinct};
 ghost use Rattle.wh_scan.specs.Pass.{HasSoManyPages, MayPass, PassesOverAll, ScansAll};
 ghost use Rattle.wh_host.specs.Backing.{KeepsBacking};
+ghost use Rattle.wh_host.specs.HostCounting.{CountsScan, with_offer};
 ghost use Rattle.wh_host.specs.Paging.{MovesOnly};
 ghost use Rattle.wh_host.specs.Sharing.{CanOffer, CanScan};
 
@@ -33,11 +34,15 @@ impl Host {
         ensures counts { IfSome result (λ _. MayPass (H.hashes hasher.now) self.old.space
             → (all : List (List ℕ)) → IsDistinct self.new.space all
             → length all + length self.new.space.pool.free ≡ length self.new.space.pool.frames) }
+        ensures counted { IfSome result (λ offered.
+            CountsScan (H.hashes hasher.now) self.old offered self.new) }
     {
         if !self.memory.has_few_pages() {
             return None;
         }
-        Some(scan_all(&mut self.memory, hasher))
+        let scanned = scan_all(&mut self.memory, hasher);
+        self.counts.count_scan(scanned);
+        Some(scanned.offered)
     }
 
     /// Offers a page of an instance for sharing, under any hash at all. Returns the outcome. Where the instance is gone, though
@@ -57,6 +62,7 @@ impl Host {
             id.place id.number page hash answer self.new.space) }
         ensures none { IfNone result ((¬ CanOffer self.old.space id.place)
             × (self.new ≡ self.old)) }
+        ensures counts { IfSome result (λ answer. self.new.counts ≡ with_offer self.old.counts answer) }
     {
         if !self.memory.has_few_pages() {
             return None;
@@ -73,6 +79,7 @@ impl Host {
             page,
             hash,
         );
+        self.counts.count_offer(answer);
         Some(answer)
     }
 }

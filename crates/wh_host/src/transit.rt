@@ -8,6 +8,7 @@ ghost use Rattle.wh_space_model.specs.Tickets.{BeginsEvict, BeginsFetch, Commits
 ghost use Rattle.wh_model.specs.declared.memory.Need.{Need};
 ghost use Rattle.wh_space.specs.TicketOwners.{ticket_place};
 ghost use Rattle.wh_host.specs.TicketsOut.{EndsEvict, IsOut, IsPresentCall, KeepsFault, OnlyReleasedGo, bytes_to_write, evict_fault, fetch_fault, slot_to_read, slot_to_write};
+ghost use Rattle.wh_host.specs.HostCounting.{with_evict_end, with_fetch_end};
 ghost use Rattle.wh_host.specs.Hosting.{entry_at};
 ghost use Rattle.wh_host.specs.Paging.{MovesAnyhow, MovesOnly, MovesWith, WaitsFor};
 ghost use Rattle.wh_host.specs.declared.parts.InstanceEntry.{InstanceEntry as OneEntry};
@@ -149,6 +150,7 @@ impl Host {
     /// leave.
     pub fn evict_begin(&mut self, id: InstId, buf: Buf) -> Result<Eviction, Buf>
         ensures moves { MovesOnly self.old self.new }
+        ensures counts { self.new.counts ≡ self.old.counts }
         ensures begins { (need : Need) → WaitsFor self.old id need
             → BeginsEvict self.old.space id.place
             (slot_to_write result) (bytes_to_write result) self.new.space }
@@ -177,6 +179,7 @@ impl Host {
     /// earmarked for it.
     pub fn fetch_begin(&mut self, id: InstId, buf: Buf) -> Result<Fetch, Buf>
         ensures moves { MovesOnly self.old self.new }
+        ensures counts { self.new.counts ≡ self.old.counts }
         ensures begins { (need : Need) → WaitsFor self.old id need
             → BeginsFetch self.old.space id.place
             (slot_to_read result) self.new.space }
@@ -214,10 +217,12 @@ impl Host {
         ensures leaves { (at : ℕ) → ticket_place self.old.space eviction.ticket.slot ≡ Some at
             → IsFreePlace self.new.space at → entry_at self.new.entries at ≡ None }
         ensures back { result.1.value ≡ eviction.ticket.bytes }
+        ensures counts { self.new.counts ≡ with_evict_end self.old.counts result.0 }
     {
         let Eviction { id, call, ticket } = eviction;
         let place = self.memory.ticket_place(ticket.slot());
         let (end, buf) = commit_written(&mut self.memory, ticket, device);
+        self.counts.count_evict_end(end);
         keep_fault(&mut self.entries, id, call, fault_of_evict(end, device));
         leave_released(&mut self.entries, &self.memory, place);
         (end, buf)
@@ -240,10 +245,12 @@ impl Host {
         ensures leaves { (at : ℕ) → ticket_place self.old.space fetched.ticket.slot ≡ Some at
             → IsFreePlace self.new.space at → entry_at self.new.entries at ≡ None }
         ensures back { result.1.value ≡ fetched.ticket.bytes }
+        ensures counts { self.new.counts ≡ with_fetch_end self.old.counts result.0 }
     {
         let Fetch { id, call, ticket } = fetched;
         let place = self.memory.ticket_place(ticket.slot());
         let (end, buf) = fetch_commit(&mut self.memory, ticket, device);
+        self.counts.count_fetch_end(end);
         keep_fault(&mut self.entries, id, call, fault_of_fetch(end, device));
         leave_released(&mut self.entries, &self.memory, place);
         (end, buf)

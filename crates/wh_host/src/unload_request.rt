@@ -25,6 +25,8 @@ impl Request for Unload {
 
     ghost asks = { λ r h answer h2. AnswersUnload h r.id.number answer h2 × (h2.space ≡ h.space) };
 
+    ghost counted = { λ r h h2. h.counts };
+
     fn ask(self, host: &mut Host) -> Result<(), UnloadError> {
         host.unload(self.id)
     }

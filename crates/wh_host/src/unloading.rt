@@ -57,6 +57,7 @@ impl Host {
         ensures err { OnErr result (self.new ≡ self.old) }
         ensures backing { KeepsBacking self.old.space self.new.space }
         ensures memory { self.new.space ≡ self.old.space }
+        ensures counts { self.new.counts ≡ self.old.counts }
     {
         let Some(at) = index_of(&self.module_refs, id.number) else {
             return Err(UnloadError::NoModule);

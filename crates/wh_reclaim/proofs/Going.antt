@@ -1,14 +1,14 @@
 -- How a step comes nearer, move by move.
 use Rattle.std.proofs.Common.{◌≡◌, ◌≢◌, ◌∙◌, ◌⊎◌, inl, inr, ℕ, ◌+◌, ◌<◌, ◌≤◌, cond, nat_eq, true, false, Bool, List, [], ◌∷◌, Option, Some, None, length, slice_get, refl, sym, ap, subst, arith}
 use Rattle.wh_model.specs.declared.memory.Need.{Need}
-use Rattle.wh_space_model.specs.{one_if, tally, Earmarks, IsFirstSwapped, pinned, residents, unpinned, Space, kept, pinned_by, GivesUp, IsOnTheWay, IsServed, IsServing, IsTrueTo, MovesOn, comes, far, goes, frames_to_write, pages_of_need, IsSound, at, page_at, resident, swapped, WaitsForBytes}
+use Rattle.wh_space_model.specs.{one_if, tally, Earmarks, IsFirstSwapped, pinned, residents, unpinned, Space, kept, pinned_by, GivesUp, IsOnTheWay, IsServed, IsServing, IsTrueTo, MovesOn, comes, far, goes, frames_to_write, pages_of_need, IsSound, at, count, page_at, resident, swapped, WaitsForBytes}
 use Rattle.wh_space_model.specs.declared.states.Page.{Page}
 use Rattle.wh_space_model.specs.declared.states.Page.TheVariants.{Untouched, Private, Shared, Leaving, LeavingShared, Coming, Swapped}
 use Rattle.wh_space_model.proofs.Tally.{one_other, one_same}
 use Rattle.wh_space_model.proofs.Putting.{here_or, pinned_here}
 use Rattle.wh_space_model.proofs.Serving.{evict_on, fetch_on}
 use Rattle.wh_space_model.proofs.Slotting.{slot_taken}
-use Rattle.wh_space_model.proofs.Wanting.{OneOrTwo, few_pages}
+use Rattle.wh_space_model.proofs.Wanting.{OneOrTwo, few_pages, kinds_of}
 use Rattle.wh_reclaim.specs.Providing.{GoesOn, LosesSlot}
 use Rattle.wh_reclaim.specs.declared.ready.MoveOutcome.{MoveOutcome}
 use Rattle.wh_reclaim.specs.declared.ready.MoveOutcome.TheVariants.{Done, Came, Left}
@@ -159,3 +159,8 @@ none_kept s none = go (kept s.pins) none where
   go : (xs : List ℕ) → length xs ≡ 0 → xs ≡ []
   go [] none = refl
   go (x ∷ xs) none = absurd (omega arith)
+
+-- ---- how far it is
+
+pub far_at_first : (s : Space) (i : ℕ) (need : Need) → far (pinned s i need) i need ≤ count resident s.tables + 4
+far_at_first s i need = let two = kinds_of (pinned s i need) i (pages_of_need need) (few_pages need) in omega arith

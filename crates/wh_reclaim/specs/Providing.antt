@@ -3,9 +3,11 @@ use Rattle.std.specs.Prelude.{ℕ, ◌≡◌, ◌⊎◌, List, [], Some, slice_g
 use Rattle.wh_model.specs.declared.memory.Need.{Need}
 use Rattle.wh_space_model.specs.declared.states.Slot.TheVariants.{Vacant}
 use Rattle.wh_space_model.specs.Claims.{MustLeave}
-use Rattle.wh_space_model.specs.Moves.{Evicts}
+use Rattle.wh_space_model.specs.Frames.{tally}
+use Rattle.wh_space_model.specs.Moves.{Earmarks, Evicts}
 use Rattle.wh_space_model.specs.Parts.{Space}
-use Rattle.wh_space_model.specs.Provide.{IsServed, IsTrueTo, MovesOn, comes, goes}
+use Rattle.wh_space_model.specs.Ready.{frames_to_write}
+use Rattle.wh_space_model.specs.Provide.{GivesUp, IsServed, IsTrueTo, Move, MovesOn, Serves, comes, goes, leaves}
 use Rattle.wh_space_model.specs.Tickets.{with_held}
 use Rattle.wh_reclaim.specs.declared.ready.MoveOutcome.{MoveOutcome}
 use Rattle.wh_reclaim.specs.declared.ready.MoveOutcome.TheVariants.{Done, Came, Left}
@@ -31,3 +33,15 @@ abbrev pub left_by : MoveOutcome → ℕ
 left_by Done = 0
 left_by Came = 0
 left_by Left = 1
+
+-- 1 where a page came
+abbrev pub arrives : Move → ℕ
+arrives (comes bytes) = 1
+arrives goes = 0
+
+-- A step was pinned, and so many pages have left and so many have come for it since; then as many frames were earmarked as its writes
+-- want, or the device has failed.
+abbrev pub HasMovedPages : Space → ℕ → Need → (left came : ℕ) → Space → Type 0
+HasMovedPages s i need left came s2 =
+    (moves : List Move) × (mid : Space) × Serves s i need moves mid × (tally leaves moves ≡ left) × (tally arrives moves ≡ came)
+    × ((IsServed mid i need × Earmarks mid i (frames_to_write mid i need) s2) ⊎ GivesUp mid s2)

@@ -13,6 +13,6 @@ pub use begin::{evict_begin, fetch_begin};
 pub use choice::{PageOf, page_to_take};
 pub use commit::{evict_commit, fetch_commit};
 pub use reading::read_bytes;
-pub use ready::provide;
+pub use ready::{PagesMoved, provide};
 pub use tax::{cmp_rho, weight};
 pub use tickets::{Buf, EvictTicket, FetchTicket};

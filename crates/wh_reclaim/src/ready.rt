@@ -12,7 +12,7 @@ ghost use Rattle.wh_space_model.specs.Provide.{FailsToProvide, FailsTruly, IsSer
 ghost use Rattle.wh_space_model.specs.States.{page_at};
 ghost use Rattle.wh_space_model.specs.Tickets.{WaitsForBytes};
 ghost use Rattle.wh_model.specs.declared.memory.Need.{Need as Bytes};
-ghost use Rattle.wh_reclaim.specs.Providing.{GoesOn, LosesSlot, Revokes, left_by};
+ghost use Rattle.wh_reclaim.specs.Providing.{GoesOn, HasMovedPages, LosesSlot, Revokes, left_by};
 ghost use Rattle.wh_reclaim.specs.Whole.{IsAsWhole};
 ghost use Rattle.wh_swap.specs.DeviceCalls.{ServesOn, call_faults};
 
@@ -32,6 +32,15 @@ pub enum MoveOutcome {
     Came,
     /// A page has left.
     Left,
+}
+
+/// How many pages a provision has moved.
+#[derive(Clone, Copy, Debug, PartialEq, Eq)]
+pub struct PagesMoved {
+    /// How many have left, each by one write of the device.
+    pub left: u64,
+    /// How many have come, each by one read.
+    pub came: u64,
 }
 
 // A page leaves that can, in one go.
@@ -175,6 +184,7 @@ fn provide_for<D: SwapDev>(
     place: usize,
     need: Need,
     bytes: &mut [u8; 4096],
+    moved: &mut PagesMoved,
 ) -> Result<u64, SwapError>
     requires stands { WaitsForBytes memory.old place need }
     requires none_out { tickets memory.old ≡ 0 }
@@ -186,6 +196,8 @@ fn provide_for<D: SwapDev>(
     ensures fails { OnErr result (FailsToProvide memory.old place need memory.new) }
     ensures fails_truly { OnErr result (D.honest device.new
         → FailsTruly memory.old place need memory.new) }
+    ensures moves { HasMovedPages memory.old place need moved.new.left moved.new.came memory.new }
+    ensures left { IfOk result (λ left. moved.new.left ≡ left) }
     ensures writes { IfOk result (λ left. D.writes device.new ≡ D.writes device.old + left) }
     ensures serves { ServesOn D.keeps D.honest D.faults device.old (call_faults result) device.new }
 {
@@ -193,17 +205,20 @@ fn provide_for<D: SwapDev>(
     memory.known_pages();
     memory.pin(place, need);
     let mut left: u64 = 0;
+    let mut came: u64 = 0;
     loop {
         match go_on(memory, device, place, need, bytes) {
             Ok(MoveOutcome::Done) => {
                 let wanted = memory.frames_to_write(place, need);
                 memory.earmark(place, wanted);
+                *moved = PagesMoved { left, came };
                 return Ok(left);
             }
-            Ok(MoveOutcome::Came) => {}
+            Ok(MoveOutcome::Came) => came += 1,
             Ok(MoveOutcome::Left) => left += 1,
             Err(fault) => {
                 memory.unpin();
+                *moved = PagesMoved { left, came };
                 return Err(fault);
             }
         }
@@ -213,15 +228,17 @@ fn provide_for<D: SwapDev>(
 /// Makes the step ready on which the instance at this place is blocked: pins its resident pages, fetches its swapped
 /// ones, the first one first, and earmarks frames for its writes. If no frame is free, or too few for the writes,
 /// evicts the page that `page_to_take` returns. Does nothing if the instance isn't blocked on a frame. The buffer is
-/// used while the call lasts. Returns how many pages were evicted, each by one write of the device.
+/// used while the call lasts. Returns how many pages were evicted, each by one write of the device. `moved` tells then how
+/// many pages have left and how many have come.
 ///
 /// # Errors
-/// That of the device's call that failed. The moves so far stay, and nothing is pinned or earmarked.
+/// That of the device's call that failed. The moves so far stay, and `moved` tells of them; nothing is pinned or earmarked.
 pub fn provide<D: SwapDev>(
     memory: &mut Memory,
     device: &mut D,
     place: usize,
     buf: &mut Buf,
+    moved: &mut PagesMoved,
 ) -> Result<u64, SwapError>
     requires none_out { tickets memory.old ≡ 0 }
     requires agrees { memory.old.slots.held ≡ D.held device.old }
@@ -239,6 +256,11 @@ pub fn provide<D: SwapDev>(
         → OnErr result (FailsToProvide memory.old place need memory.new) }
     ensures fails_truly { (need : Bytes) → WaitsForBytes memory.old place need
         → D.honest device.new → OnErr result (FailsTruly memory.old place need memory.new) }
+    ensures none_moves { ((need : Bytes) → ¬ WaitsForBytes memory.old place need)
+        → moved.new ≡ record { left = 0; came = 0 } }
+    ensures moves { (need : Bytes) → WaitsForBytes memory.old place need
+        → HasMovedPages memory.old place need moved.new.left moved.new.came memory.new }
+    ensures left { IfOk result (λ left. moved.new.left ≡ left) }
     ensures others { OthersKeepMinimum memory.old place memory.new }
     ensures whole { IsAsWhole memory.old memory.new }
     ensures writes { IfOk result (λ left. D.writes device.new ≡ D.writes device.old + left) }
@@ -246,7 +268,8 @@ pub fn provide<D: SwapDev>(
 {
     memory.invariant();
     let Some(need) = memory.wanted_step(place) else {
+        *moved = PagesMoved { left: 0, came: 0 };
         return Ok(0);
     };
-    provide_for(memory, device, place, need, buf)
+    provide_for(memory, device, place, need, buf, moved)
 }

@@ -10,9 +10,9 @@ use Rattle.wh_space_model.proofs.Rooms.{get_there}
 use Rattle.wh_tables.specs.Line.{IsAbove}
 use Rattle.wh_space.specs.Numbered.{ComesAfter, IsNextInstance}
 use Rattle.wh_space.proofs.Owning.{page_there}
-use Rattle.wh_scan.specs.Pass.{AreAllPages, ComesFirst, HasSoManyPages, MayPass, PassesOverAll, ScansAll, pages_before}
+use Rattle.wh_scan.specs.Pass.{AreAllPages, ComesFirst, HasSoManyPages, MayPass, PassesOverAll, ScansAll, ScansAllMerging, ScansMerging, pages_before}
 use Rattle.wh_scan.proofs.OneOrder.{one_order}
-use Rattle.wh_scan.proofs.Passing.{scans_occupants, scans_on, scans_rows}
+use Rattle.wh_scan.proofs.Passing.{merges_few, merging_on, scans_occupants, scans_of, scans_rows}
 
 -- ---- members of lists of pages
 
@@ -36,7 +36,7 @@ has_before i p (suc n) less =
       | inr other ↦ (let h = has_before i p n (omega (arith, other)) in has_left (pages_before i n) ((i, n) ∷ []) i p h.0 h.1)
     ]
 
-long_before : (i n : ℕ) → length (pages_before i n) ≡ n
+pub long_before : (i n : ℕ) → length (pages_before i n) ≡ n
 long_before i zero = refl
 long_before i (suc n) = let e = length-append (pages_before i n) ((i, n) ∷ []) in let rest = long_before i n in omega arith
 
@@ -168,14 +168,20 @@ pages_all s after pages first none = record {
 
 -- ---- they are offered, as far as the pass has come
 
-pub record IsPassUpTo (hashes : List ℕ → ℕ) (s : Space) (after : Option ℕ) (offered : ℕ) (s2 : Space) : Type 0 where
+pub record IsPassUpTo (hashes : List ℕ → ℕ) (s : Space) (after : Option ℕ) (offered merged : ℕ) (s2 : Space) : Type 0 where
   pub pages : List (ℕ × ℕ)
   pub many : length pages ≡ offered
   pub first : AreFirstPages s after pages
-  pub scans : Scans hashes s pages s2
+  pub merging : ScansMerging hashes s pages merged s2
 
-pub pass_begun : (hashes : List ℕ → ℕ) (s : Space) → IsPassUpTo hashes s None 0 s
-pass_begun hashes s = record { pages = []; many = refl; first = none_yet s; scans = refl }
+pub pass_begun : (hashes : List ℕ → ℕ) (s : Space) → IsPassUpTo hashes s None 0 0 s
+pass_begun hashes s = record { pages = []; many = refl; first = none_yet s; merging = (refl, refl) }
+
+pub scans_up_to : (hashes : List ℕ → ℕ) (s : Space) (after : Option ℕ) (offered merged : ℕ) (s2 : Space) → (pass : IsPassUpTo hashes s after offered merged s2) → Scans hashes s pass.pages s2
+scans_up_to hashes s after offered merged s2 pass = scans_of hashes s pass.pages merged s2 pass.merging
+
+pub merged_few : (hashes : List ℕ → ℕ) (s : Space) (after : Option ℕ) (offered merged : ℕ) (s2 : Space) → IsPassUpTo hashes s after offered merged s2 → merged ≤ offered
+merged_few hashes s after offered merged s2 pass = let few = merges_few hashes s pass.pages merged s2 pass.merging in omega (arith, few, pass.many)
 
 same_number : (s s2 : Space) (i : ℕ) → s2.occupants ≡ s.occupants → occupant_number s2 i ≡ occupant_number s i
 same_number s s2 i same = ap (λ (z : List (Option Occupant)). of_occupant (λ t. t.number) (get_or z i None)) same
@@ -192,11 +198,12 @@ next_before s s2 after next same rows is = record {
   lowest = λ j comes. (let least = is.lowest j (comes_before s s2 after j same (rows j) comes) in let e = same_number s s2 j same in omega arith);
 }
 
-pub pass_next : (hashes : List ℕ → ℕ) (s : Space) (after : Option ℕ) (offered : ℕ) (mid : Space) (next : InstId) (s2 : Space) → IsSound s → IsPassUpTo hashes s after offered mid → IsNextInstance mid after next
-    → Scans hashes mid (pages_before next.place (length (get_or mid.tables next.place []))) s2 → IsPassUpTo hashes s (Some next.number) (offered + length (get_or s.tables next.place [])) s2
-pass_next hashes s after offered mid next s2 sound pass is scans =
-    let same = scans_occupants hashes s pass.pages mid pass.scans in
-    let rows : (i : ℕ) → length (get_or mid.tables i []) ≡ length (get_or s.tables i []) = λ i. scans_rows hashes s pass.pages mid i sound pass.scans in
+pub pass_next : (hashes : List ℕ → ℕ) (s : Space) (after : Option ℕ) (offered merged more : ℕ) (mid : Space) (next : InstId) (s2 : Space) → IsSound s → IsPassUpTo hashes s after offered merged mid → IsNextInstance mid after next
+    → ScansMerging hashes mid (pages_before next.place (length (get_or mid.tables next.place []))) more s2 → IsPassUpTo hashes s (Some next.number) (offered + length (get_or s.tables next.place [])) (merged + more) s2
+pass_next hashes s after offered merged more mid next s2 sound pass is scans =
+    let before = scans_up_to hashes s after offered merged mid pass in
+    let same = scans_occupants hashes s pass.pages mid before in
+    let rows : (i : ℕ) → length (get_or mid.tables i []) ≡ length (get_or s.tables i []) = λ i. scans_rows hashes s pass.pages mid i sound before in
     record {
       pages = pass.pages ++ pages_before next.place (length (get_or s.tables next.place []));
       many =
@@ -205,20 +212,24 @@ pass_next hashes s after offered mid next s2 sound pass is scans =
           let old = pass.many in
           omega arith);
       first = pages_next s after pass.pages next sound pass.first (next_before s mid after next same rows is);
-      scans = scans_on hashes s pass.pages _ mid s2 pass.scans (subst (λ (n : ℕ). Scans hashes mid (pages_before next.place n) s2) (rows next.place) scans);
+      merging = merging_on hashes s pass.pages _ merged more mid s2 pass.merging (subst (λ (n : ℕ). ScansMerging hashes mid (pages_before next.place n) more s2) (rows next.place) scans);
     }
 
-pass_over : (hashes : List ℕ → ℕ) (s : Space) (after : Option ℕ) (offered : ℕ) (s2 : Space) → IsSound s → (pass : IsPassUpTo hashes s after offered s2) → ((i : ℕ) → ¬ ComesAfter s2 after i) → AreAllPages s pass.pages
-pass_over hashes s after offered s2 sound pass none =
-    pages_all s after pass.pages pass.first (λ i comes. none i (comes_before s s2 after i (scans_occupants hashes s pass.pages s2 pass.scans) (scans_rows hashes s pass.pages s2 i sound pass.scans) comes))
+pass_over : (hashes : List ℕ → ℕ) (s : Space) (after : Option ℕ) (offered merged : ℕ) (s2 : Space) → IsSound s → (pass : IsPassUpTo hashes s after offered merged s2) → ((i : ℕ) → ¬ ComesAfter s2 after i) → AreAllPages s pass.pages
+pass_over hashes s after offered merged s2 sound pass none =
+    let scans = scans_up_to hashes s after offered merged s2 pass in
+    pages_all s after pass.pages pass.first (λ i comes. none i (comes_before s s2 after i (scans_occupants hashes s pass.pages s2 scans) (scans_rows hashes s pass.pages s2 i sound scans) comes))
 
-pub pass_done : (hashes : List ℕ → ℕ) (s : Space) (after : Option ℕ) (offered : ℕ) (s2 : Space) → IsSound s → IsPassUpTo hashes s after offered s2 → ((i : ℕ) → ¬ ComesAfter s2 after i) → ScansAll hashes s s2
-pass_done hashes s after offered s2 sound pass none = (pass.pages, pass_over hashes s after offered s2 sound pass none, pass.scans)
+pub pass_done : (hashes : List ℕ → ℕ) (s : Space) (after : Option ℕ) (offered merged : ℕ) (s2 : Space) → IsSound s → IsPassUpTo hashes s after offered merged s2 → ((i : ℕ) → ¬ ComesAfter s2 after i) → ScansAll hashes s s2
+pass_done hashes s after offered merged s2 sound pass none = (pass.pages, pass_over hashes s after offered merged s2 sound pass none, scans_up_to hashes s after offered merged s2 pass)
+
+pub pass_merged : (hashes : List ℕ → ℕ) (s : Space) (after : Option ℕ) (offered merged : ℕ) (s2 : Space) → IsSound s → IsPassUpTo hashes s after offered merged s2 → ((i : ℕ) → ¬ ComesAfter s2 after i) → ScansAllMerging hashes s merged s2
+pass_merged hashes s after offered merged s2 sound pass none = (pass.pages, pass_over hashes s after offered merged s2 sound pass none, pass.merging)
 
 -- n
-pub pass_many : (hashes : List ℕ → ℕ) (s : Space) (after : Option ℕ) (offered : ℕ) (s2 : Space) → IsSound s → IsPassUpTo hashes s after offered s2 → ((i : ℕ) → ¬ ComesAfter s2 after i) → HasSoManyPages s offered
-pass_many hashes s after offered s2 sound pass none = λ others all.
-    ap (λ (xs : List (ℕ × ℕ)). length xs) (one_order s others pass.pages all (pass_over hashes s after offered s2 sound pass none)) ∙ pass.many
+pub pass_many : (hashes : List ℕ → ℕ) (s : Space) (after : Option ℕ) (offered merged : ℕ) (s2 : Space) → IsSound s → IsPassUpTo hashes s after offered merged s2 → ((i : ℕ) → ¬ ComesAfter s2 after i) → HasSoManyPages s offered
+pass_many hashes s after offered merged s2 sound pass none = λ others all.
+    ap (λ (xs : List (ℕ × ℕ)). length xs) (one_order s others pass.pages all (pass_over hashes s after offered merged s2 sound pass none)) ∙ pass.many
 
 -- ---- that is a full pass
 

@@ -3,15 +3,15 @@ use Rattle.std.proofs.Common.{◌≡◌, ◌≢◌, ◌+◌, ◌-◌, ◌^◌, �
 use Rattle.std.proofs.lemmas.List.{length-set}
 use Rattle.wh_space_model.specs.declared.plain.InstId.{InstId}
 use Rattle.wh_space_model.specs.declared.states.Page.{Page}
-use Rattle.wh_space_model.specs.{tally, occupant_number, Occupant, Space, of_occupant, Scans, HasTable, IsSound}
+use Rattle.wh_space_model.specs.{tally, occupant_number, Occupant, Space, of_occupant, HasTable, IsSound}
 use Rattle.wh_space_model.proofs.Putting.{get_or_is, here_or, there_of}
 use Rattle.wh_space_model.proofs.Rooms.{get_there}
 use Rattle.wh_space_model.proofs.Sums.{beside, set_tally, tally_plus}
 use Rattle.wh_tables.specs.Line.{IsAbove}
 use Rattle.wh_space.specs.Merges.{HasFewPages}
 use Rattle.wh_space.specs.Numbered.{IsNextInstance}
-use Rattle.wh_scan.specs.Pass.{pages_before}
-use Rattle.wh_scan.proofs.ByNumber.{IsPassUpTo, next_before, pass_next, there_with_pages}
+use Rattle.wh_scan.specs.Pass.{ScansMerging, pages_before}
+use Rattle.wh_scan.proofs.ByNumber.{IsPassUpTo, next_before, pass_next, scans_up_to, there_with_pages}
 use Rattle.wh_scan.proofs.Passing.{scans_occupants, scans_rows}
 
 -- ---- lists of numbers
@@ -114,14 +114,15 @@ few_counted s after count sound few are =
 
 -- ---- the pass goes on
 
-pub offered_next : (hashes : List ℕ → ℕ) (s : Space) (after : Option ℕ) (offered : ℕ) (mid : Space) (next : InstId) (count : ℕ) (s2 : Space) → IsSound s → IsPassUpTo hashes s after offered mid × AreCounted s after offered
-    → IsNextInstance mid after next → Scans hashes mid (pages_before next.place (length (get_or mid.tables next.place []))) s2 → count ≡ length (get_or mid.tables next.place [])
-    → IsPassUpTo hashes s (Some next.number) (offered + count) s2 × AreCounted s (Some next.number) (offered + count)
-offered_next hashes s after offered mid next count s2 sound was is scans many =
+pub offered_next : (hashes : List ℕ → ℕ) (s : Space) (after : Option ℕ) (offered merged : ℕ) (mid : Space) (next : InstId) (count more : ℕ) (s2 : Space) → IsSound s → IsPassUpTo hashes s after offered merged mid × AreCounted s after offered
+    → IsNextInstance mid after next → ScansMerging hashes mid (pages_before next.place (length (get_or mid.tables next.place []))) more s2 → count ≡ length (get_or mid.tables next.place [])
+    → IsPassUpTo hashes s (Some next.number) (offered + count) (merged + more) s2 × AreCounted s (Some next.number) (offered + count)
+offered_next hashes s after offered merged mid next count more s2 sound was is scans many =
     let pass = was.0 in
-    let row : length (get_or mid.tables next.place []) ≡ length (get_or s.tables next.place []) = scans_rows hashes s pass.pages mid next.place sound pass.scans in
-    let before = next_before s mid after next (scans_occupants hashes s pass.pages mid pass.scans) (λ i. scans_rows hashes s pass.pages mid i sound pass.scans) is in
+    let before = scans_up_to hashes s after offered merged mid pass in
+    let row : length (get_or mid.tables next.place []) ≡ length (get_or s.tables next.place []) = scans_rows hashes s pass.pages mid next.place sound before in
+    let next_is = next_before s mid after next (scans_occupants hashes s pass.pages mid before) (λ i. scans_rows hashes s pass.pages mid i sound before) is in
     let same : offered + length (get_or s.tables next.place []) ≡ offered + count = ap (λ n. offered + n) (sym (many ∙ row)) in (
-      subst (λ n. IsPassUpTo hashes s (Some next.number) n s2) same (pass_next hashes s after offered mid next s2 sound pass is scans),
-      subst (λ n. AreCounted s (Some next.number) n) same (next_counted s after offered next sound was.1 before),
+      subst (λ n. IsPassUpTo hashes s (Some next.number) n (merged + more) s2) same (pass_next hashes s after offered merged more mid next s2 sound pass is scans),
+      subst (λ n. AreCounted s (Some next.number) n) same (next_counted s after offered next sound was.1 next_is),
     )

@@ -11,7 +11,7 @@ use Rattle.wh_space_model.proofs.Chained.{scans_soundly}
 use Rattle.wh_space_model.proofs.Rooms.{get_there}
 use Rattle.wh_space_model.proofs.Rows.{past_there}
 use Rattle.wh_space.specs.Merges.{HasFewPages}
-use Rattle.wh_scan.specs.Pass.{pages_before}
+use Rattle.wh_scan.specs.Pass.{ScansMerging, merges_by, pages_before}
 
 -- ---- one after the other
 
@@ -25,14 +25,37 @@ few_rows s i sound =
       by None has = rw has (omega arith)
       by (Some t) has = let a = has.2 in let b = has.4 in omega arith
 
-pub scans_on : (hashes : List ℕ → ℕ) (s : Space) (xs ys : List (ℕ × ℕ)) (mid s2 : Space) → Scans hashes s xs mid
-    → Scans hashes mid ys s2 → Scans hashes s (xs ++ ys) s2
-scans_on hashes s [] ys mid s2 first second = subst (λ (z : Space). Scans hashes z ys s2) first second
-scans_on hashes s (x ∷ xs) ys mid s2 (hash, answer, next, is, offers, rest) second = (hash, answer, next, is, offers, scans_on hashes next xs ys mid s2 rest second)
+-- those that merge left out
+pub scans_of : (hashes : List ℕ → ℕ) (s : Space) (xs : List (ℕ × ℕ)) (merged : ℕ) (s2 : Space) → ScansMerging hashes s xs merged s2 → Scans hashes s xs s2
+scans_of hashes s [] merged s2 (none, is) = is
+scans_of hashes s (x ∷ xs) merged s2 (hash, answer, mid, more, sum, is, offers, rest) = (hash, answer, mid, is, offers, scans_of hashes mid xs more s2 rest)
 
-pub scans_one : (hashes : List ℕ → ℕ) (s : Space) (xs : List (ℕ × ℕ)) (i p hash : ℕ) (answer : Offer) (mid s2 : Space) → Scans hashes s xs mid → IsHashOf hashes mid i p hash → Offers hashes mid i p hash answer s2
-    → Scans hashes s (xs ++ (i, p) ∷ []) s2
-scans_one hashes s xs i p hash answer mid s2 first is offers = scans_on hashes s xs ((i, p) ∷ []) mid s2 first (hash, answer, s2, is, offers, refl)
+pub merging_on : (hashes : List ℕ → ℕ) (s : Space) (xs ys : List (ℕ × ℕ)) (m n : ℕ) (mid s2 : Space) → ScansMerging hashes s xs m mid → ScansMerging hashes mid ys n s2 → ScansMerging hashes s (xs ++ ys) (m + n) s2
+merging_on hashes s [] ys m n mid s2 first second =
+    let e : n ≡ m + n = (let none = first.0 in omega arith) in
+    subst (λ (k : ℕ). ScansMerging hashes s ys k s2) e (subst (λ (z : Space). ScansMerging hashes z ys n s2) first.1 second)
+merging_on hashes s (x ∷ xs) ys m n mid s2 (hash, answer, next, more, sum, is, offers, rest) second =
+    (hash, answer, next, more + n, omega (arith, sum), is, offers, merging_on hashes next xs ys more n mid s2 rest second)
+
+pub merging_one : (hashes : List ℕ → ℕ) (s : Space) (xs : List (ℕ × ℕ)) (i p hash m n : ℕ) (answer : Offer) (mid s2 : Space) → ScansMerging hashes s xs m mid → IsHashOf hashes mid i p hash → Offers hashes mid i p hash answer s2
+    → n ≡ merges_by answer → ScansMerging hashes s (xs ++ (i, p) ∷ []) (m + n) s2
+merging_one hashes s xs i p hash m n answer mid s2 first is offers one = merging_on hashes s xs ((i, p) ∷ []) m n mid s2 first (hash, answer, s2, 0, omega (arith, one), is, offers, (refl, refl))
+
+merges_once : (answer : Offer) → merges_by answer ≤ 1
+merges_once Skipped = omega arith
+merges_once Zeroed = omega arith
+merges_once Hinted = omega arith
+merges_once Stale = omega arith
+merges_once Merged = omega arith
+merges_once FalseMatch = omega arith
+
+-- no more are merged than are offered
+pub merges_few : (hashes : List ℕ → ℕ) (s : Space) (xs : List (ℕ × ℕ)) (merged : ℕ) (s2 : Space) → ScansMerging hashes s xs merged s2 → merged ≤ length xs
+merges_few hashes s [] merged s2 (none, is) = omega (arith, none)
+merges_few hashes s (x ∷ xs) merged s2 (hash, answer, mid, more, sum, is, offers, rest) =
+    let few = merges_few hashes mid xs more s2 rest in
+    let once = merges_once answer in
+    omega (arith, sum, few, once)
 
 -- ---- there are as few pages
 

@@ -1,9 +1,12 @@
 -- A pass over all pages.
-use Rattle.std.specs.Prelude.{ℕ, ◌≡◌, ◌<◌, ◌⊎◌, ◌↔◌, ◌++◌, List, [], ◌∷◌, Some, length, get_or, slice_get, zero, suc}
+use Rattle.std.specs.Prelude.{ℕ, ◌≡◌, ◌+◌, ◌<◌, ◌⊎◌, ◌↔◌, ◌++◌, List, [], ◌∷◌, Some, length, get_or, slice_get, zero, suc}
 use Rattle.wh_space_model.specs.Charges.{occupant_number}
+use Rattle.wh_space_model.specs.declared.states.Offer.{Offer}
+use Rattle.wh_space_model.specs.declared.states.Offer.TheVariants.{Merged}
 use Rattle.wh_space_model.specs.Errands.{tickets}
+use Rattle.wh_space_model.specs.Offers.{Offers}
 use Rattle.wh_space_model.specs.Parts.{Space, kept, pinned_by}
-use Rattle.wh_space_model.specs.Scanning.{IsContent, IsFullPass, MadeUnder, Scans}
+use Rattle.wh_space_model.specs.Scanning.{IsContent, IsFullPass, IsHashOf, MadeUnder, Scans}
 
 -- the first n pages of the instance at a place, each by place and page
 abbrev pub pages_before : ℕ → ℕ → List (ℕ × ℕ)
@@ -28,7 +31,23 @@ HasSoManyPages s n = (pages : List (ℕ × ℕ)) → AreAllPages s pages → len
 abbrev pub ScansAll : (List ℕ → ℕ) → Space → Space → Type 0
 ScansAll hashes s s2 = (pages : List (ℕ × ℕ)) × AreAllPages s pages × Scans hashes s pages s2
 
--- and that is a full pass
+-- 1 where an offer was answered so that pages came to share a frame
+abbrev pub merges_by : Offer → ℕ
+merges_by Merged = 1
+merges_by answer = 0
+
+-- these pages are offered one after the other, and so many of the offers merge them
+abbrev pub ScansMerging : (List ℕ → ℕ) → Space → List (ℕ × ℕ) → (merged : ℕ) → Space → Type 0
+ScansMerging hashes s [] merged s2 = (merged ≡ 0) × (s2 ≡ s)
+ScansMerging hashes s (page ∷ pages) merged s2 =
+    (hash : ℕ) × (answer : Offer) × (mid : Space) × (more : ℕ) × (merged ≡ merges_by answer + more)
+    × IsHashOf hashes s page.0 page.1 hash × Offers hashes s page.0 page.1 hash answer mid × ScansMerging hashes mid pages more s2
+
+-- all are
+abbrev pub ScansAllMerging : (List ℕ → ℕ) → Space → (merged : ℕ) → Space → Type 0
+ScansAllMerging hashes s merged s2 = (pages : List (ℕ × ℕ)) × AreAllPages s pages × ScansMerging hashes s pages merged s2
+
+-- that is a full pass
 abbrev pub PassesOverAll : (List ℕ → ℕ) → Space → Space → Type 0
 PassesOverAll hashes s s2 = (pages : List (ℕ × ℕ)) × AreAllPages s pages × IsFullPass hashes s pages s2
 

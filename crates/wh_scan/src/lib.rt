@@ -6,5 +6,5 @@ mod pass;
 mod sample;
 
 pub use offers::{offer, offer_at};
-pub use pass::{scan_all, scan_page};
+pub use pass::{Scanned, scan_all, scan_page};
 pub use sample::{Sample, take};

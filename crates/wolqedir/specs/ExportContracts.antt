@@ -22,25 +22,32 @@ use Rattle.wh_host.specs.declared.parts.ModuleId.{ModuleId}
 use Rattle.wh_host.specs.Admitting.{AnswersAdmit}
 use Rattle.wh_host.specs.CallRequests.{AnswersCall, AnswersInvoke, AnswersInvokeAt}
 use Rattle.wh_host.specs.Backing.{KeepsBacking}
+use Rattle.wh_host.specs.declared.counts.HostCounts.{HostCounts}
+use Rattle.wh_host.specs.HostCounting.{CountsScan}
+use Rattle.wh_host.specs.Hosting.{HostState}
 use Rattle.wh_host.specs.ForkAnswers.{AnswersFork, claim_by}
 use Rattle.wh_host.specs.Loading.{AnswersLoad}
 use Rattle.wh_host.specs.Paging.{MovesOnly}
-use Rattle.wh_host.specs.Reporting.{ReportState, ReportsHost, ReportsUsage, UsageState}
+use Rattle.wh_host.specs.declared.report.InstanceReport.{InstanceReport}
+use Rattle.wh_host.specs.LiveOutputs.{SaysNoInstance}
+use Rattle.wh_host.specs.Reporting.{ReportState, ReportsHost, ReportsInstance, ReportsUsage, UsageState, view_row}
 use Rattle.wh_host.specs.Sharing.{CanScan}
 use Rattle.wh_host.specs.Telling.{TellsChargesOf, TellsOf}
 use Rattle.wh_host.specs.Unloading.{AnswersUnload}
 use Rattle.wh_hand.specs.HandStates.{HandState, IsSoundByEvents}
 use Rattle.wh_hand.specs.ReleasedOutputs.{AnswersReleaseHere}
+use Rattle.wh_hand.specs.RunCounting.{CountsRun}
 use Rattle.wh_hand.specs.Running.{RunsAll}
 use Rattle.wh_hand.specs.declared.running.Ran.{Ran}
 use Rattle.wolqedir.specs.declared.shapes.RawInstance.{RawInstance}
 use Rattle.wolqedir.specs.declared.shapes.Progress.{Progress}
 use Rattle.wolqedir.specs.declared.shapes.RawStatus.{RawStatus}
+use Rattle.wolqedir.specs.declared.shapes.RawCounts.{RawCounts}
 use Rattle.wolqedir.specs.declared.shapes.RawReport.{RawReport}
 use Rattle.wolqedir.specs.declared.shapes.RawInstanceReport.{RawInstanceReport}
 use Rattle.wolqedir.specs.Codes.{admit_error_code, code_by, fork_error_code, host_error_code, large_code, memory_code, module_error_code, name_code, none_code, unknown_code, unload_error_code}
 use Rattle.wolqedir.specs.Rooms.{laid_in}
-use Rattle.wolqedir.specs.Shapes.{instance_of, progress_as, raw_report_of, raw_row_of, shown_status}
+use Rattle.wolqedir.specs.Shapes.{instance_of, progress_as, raw_counts_of, raw_report_of, raw_row_of, shown_status}
 
 -- ---- the handle
 
@@ -83,6 +90,7 @@ pub record ExportLoads (bytes : List ℕ) (number number2 code : ℕ) (h h2 : Ha
   pub err : OnErr answer (h2 ≡ h)
   pub backing : KeepsBacking h.host.space h2.host.space
   pub output : h2.output ≡ h.output
+  pub counts : h2.host.counts ≡ h.host.counts
   pub told : TellsCaller (λ id. id.number) answer number number2
 
 pub record ExportUnloads (of : ℕ) (code : ℕ) (h h2 : HandState) : Type 0 where
@@ -93,6 +101,7 @@ pub record ExportUnloads (of : ℕ) (code : ℕ) (h h2 : HandState) : Type 0 whe
   pub backing : KeepsBacking h.host.space h2.host.space
   pub memory : h2.host.space ≡ h.host.space
   pub output : h2.output ≡ h.output
+  pub counts : h2.host.counts ≡ h.host.counts
 
 pub record ExportAdmits (of : ℕ) (p : Params) (instance instance2 : RawInstance) (code : ℕ) (h h2 : HandState) : Type 0 where
   pub answer : Result InstId AdmitError
@@ -102,6 +111,7 @@ pub record ExportAdmits (of : ℕ) (p : Params) (instance instance2 : RawInstanc
   pub backing : KeepsBacking h.host.space h2.host.space
   pub memory : IfOk answer (λ id. (size : ℕ) × Enters h.host.space id.place (promised id.number p) size h2.host.space)
   pub output : h2.output ≡ h.output
+  pub counts : h2.host.counts ≡ h.host.counts
   pub told : TellsCaller instance_of answer instance instance2
 
 pub record ExportForks (id : InstId) (q : Quota) (instance instance2 : RawInstance) (code : ℕ) (h h2 : HandState) : Type 0 where
@@ -112,6 +122,7 @@ pub record ExportForks (id : InstId) (q : Quota) (instance instance2 : RawInstan
   pub backing : KeepsBacking h.host.space h2.host.space
   pub memory : IfOk answer (λ copy. Copies h.host.space id.place copy.place (claim_by copy.number q) h2.host.space)
   pub output : h2.output ≡ h.output
+  pub counts : h2.host.counts ≡ h.host.counts
   pub told : TellsCaller instance_of answer instance instance2
 
 -- ---- what is asked
@@ -124,6 +135,7 @@ pub record ExportInvokes (id : InstId) (name : List ℕ) (args : List ℤ) (fuel
     pub err : OnErr answer (h2 ≡ h)
     pub backing : KeepsBacking h.host.space h2.host.space
     pub output : h2.output ≡ h.output
+    pub counts : OnOk answer (h2.host.counts ≡ h.host.counts)
     pub told : TellsCaller (λ at. at) answer call call2
 
 -- by the place of a function among those that the instance's module exports
@@ -134,16 +146,19 @@ pub record ExportInvokesAt (id : InstId) (at : ℕ) (args : List ℤ) (fuel call
   pub err : OnErr answer (h2 ≡ h)
   pub backing : KeepsBacking h.host.space h2.host.space
   pub output : h2.output ≡ h.output
+  pub counts : OnOk answer (h2.host.counts ≡ h.host.counts)
   pub told : TellsCaller (λ at. at) answer call call2
 
 -- of the present call of an instance
-pub record ExportAsks (request : World → CallAnswer → World → Type 0) (code : ℕ) (h h2 : HandState) : Type 0 where
+pub record ExportAsks (request : World → CallAnswer → World → Type 0) (counted : HostState → HostState → HostCounts) (code : ℕ) (h h2 : HandState)
+    : Type 0 where
   pub answer : Result Unit HostError
   pub answered : code ≡ code_by host_error_code answer
   pub asks : AnswersCall h.host request answer h2.host
   pub err : OnErr answer (h2 ≡ h)
   pub backing : KeepsBacking h.host.space h2.host.space
   pub output : h2.output ≡ h.output
+  pub counts : OnOk answer (h2.host.counts ≡ counted h.host h2.host)
 
 pub record ExportReleases (id : InstId) (len len2 code : ℕ) (h h2 : HandState) : Type 0 where
   pub answer : Result Unit HostError
@@ -152,6 +167,7 @@ pub record ExportReleases (id : InstId) (len len2 code : ℕ) (h h2 : HandState)
   pub err : OnErr answer (h2 ≡ h)
   pub backing : KeepsBacking h.host.space h2.host.space
   pub memory : OnOk answer (Exits h.host.space id.place h2.host.space)
+  pub counts : h2.host.counts ≡ h.host.counts
   pub told : TellsCaller (λ _. length h2.output) answer len len2
 
 -- ---- what goes on
@@ -163,6 +179,7 @@ pub record ExportRuns (charges : ℕ) (progress : Progress) (code : ℕ) (h h2 :
   pub runs : RunsAll 1000 h.host charges ran h2.host
   pub whole : IsAsWhole h.host.space h2.host.space
   pub output : h2.output ≡ h.output
+  pub counts : CountsRun h.host.counts ran.charges h2.host.counts
   pub told : progress ≡ progress_as ran
 
 -- it was done, or frames and slots are too many
@@ -182,6 +199,7 @@ pub record ExportScans (code : ℕ) (h h2 : HandState) : Type 0 where
   pub full : IfSome offered (λ _. MayPass fnv64 h.host.space → PassesOverAll fnv64 h.host.space h2.host.space)
   pub counts : IfSome offered (λ _. MayPass fnv64 h.host.space → (all : List (List ℕ)) → IsDistinct h2.host.space all
       → length all + length h2.host.space.pool.free ≡ length h2.host.space.pool.frames)
+  pub counted : IfSome offered (λ n. CountsScan fnv64 h.host n h2.host)
   pub output : h2.output ≡ h.output
 
 pub record ExportBeginsEpoch (code : ℕ) (h h2 : HandState) : Type 0 where
@@ -190,6 +208,7 @@ pub record ExportBeginsEpoch (code : ℕ) (h h2 : HandState) : Type 0 where
   pub clears : Epochs h.host.space h2.host.space
   pub backing : KeepsBacking h.host.space h2.host.space
   pub output : h2.output ≡ h.output
+  pub counts : h2.host.counts ≡ h.host.counts
 
 -- ---- what is told
 
@@ -220,6 +239,21 @@ pub record ExportTellsReport (report2 : RawReport) (code : ℕ) (h h2 : HandStat
   pub usage : UsageState
   pub reports : ReportsUsage h.host usage
   pub told : report2 ≡ raw_report_of usage
+
+-- what it has counted
+pub record ExportTellsCounts (counts2 : RawCounts) (code : ℕ) (h h2 : HandState) : Type 0 where
+  pub answered : code ≡ 0
+  pub same : h2 ≡ h
+  pub told : counts2 ≡ raw_counts_of h.host.counts
+
+-- what an instance has of it; or there is no such one
+pub record ExportTellsInstance (id : InstId) (row row2 : RawInstanceReport) (code : ℕ) (h h2 : HandState) : Type 0 where
+  pub answer : Result InstanceReport HostError
+  pub answered : code ≡ code_by host_error_code answer
+  pub same : h2 ≡ h
+  pub ok : IfOk answer (λ told. ReportsInstance h.host id (view_row told))
+  pub err : IfErr answer (SaysNoInstance h.host id)
+  pub told : TellsCaller (λ told. raw_row_of (view_row told)) answer row row2
 
 -- what it has of its instances, by number
 pub record ExportTellsInstances (room room2 : List RawInstanceReport) (len len2 code : ℕ) (h h2 : HandState) : Type 0 where

@@ -1,6 +1,7 @@
 -- How a host comes into a handle.
 use Rattle.std.specs.Prelude.{◌≡◌, ◌⊎◌, ◌<◌, ◌≤◌, ℕ, [], Option, Some, None}
 use Rattle.wh_space_model.specs.declared.Tax.{Tax}
+use Rattle.wh_host.specs.HostCounting.{no_counts}
 use Rattle.wh_host.specs.Hosting.{IsNewHost}
 use Rattle.wh_hand.specs.HandStates.{HandState}
 use Rattle.wolqedir.specs.Codes.{full_code, memory_code, tax_code}
@@ -20,7 +21,7 @@ IsTaxOf num den None = ¬ (IsTax num den)
 abbrev pub MakesHost : Option HandState → (frames slots num den code : ℕ) → Option HandState → Type 0
 MakesHost held frames slots num den code held2 =
     ((tax : Tax) × (h : HandState) × (code ≡ 0) × (held ≡ None) × (held2 ≡ Some h) × IsTaxOf num den (Some tax)
-    × IsNewHost h.host frames slots tax × (h.output ≡ []))
+    × IsNewHost h.host frames slots tax × (h.output ≡ []) × (h.host.counts ≡ no_counts))
     ⊎ ((IsLeft held full_code code held2 ((h : HandState) × (held ≡ Some h)))
     ⊎ ((IsLeft held tax_code code held2 ((held ≡ None) × ¬ (IsTax num den)))
     ⊎ (IsLeft held memory_code code held2 ((held ≡ None) × IsTax num den))))

@@ -9,6 +9,7 @@ use Rattle.wh_instance.specs.declared.stages.CallStatus.TheVariants.{Returned, T
 use Rattle.wh_instance.specs.declared.stages.CallValue.{CallValue}
 use Rattle.wh_instance.specs.declared.stages.Suspension.{Suspension}
 use Rattle.wh_instance.specs.declared.stages.Suspension.TheVariants.{Fuel, Frame, Device}
+use Rattle.wh_host.specs.declared.counts.HostCounts.{HostCounts}
 use Rattle.wh_host.specs.Reporting.{ReportRow, UsageState}
 use Rattle.wh_hand.specs.declared.running.Ran.{Ran}
 use Rattle.wolqedir.specs.declared.shapes.RawInstance.{RawInstance}
@@ -16,6 +17,7 @@ use Rattle.wolqedir.specs.declared.shapes.RawParams.{RawParams}
 use Rattle.wolqedir.specs.declared.shapes.RawQuota.{RawQuota}
 use Rattle.wolqedir.specs.declared.shapes.Progress.{Progress}
 use Rattle.wolqedir.specs.declared.shapes.RawStatus.{RawStatus}
+use Rattle.wolqedir.specs.declared.shapes.RawCounts.{RawCounts}
 use Rattle.wolqedir.specs.declared.shapes.RawReport.{RawReport}
 use Rattle.wolqedir.specs.declared.shapes.RawInstanceReport.{RawInstanceReport}
 use Rattle.wolqedir.specs.Codes.{swap_code, trap_code}
@@ -89,7 +91,7 @@ shown_status (Trapped trap taken) charges =
 shown_status (Cancelled taken) charges = record { kind = 8; code = 0; bits = 0; value = 0; charges = charges }
 shown_status Dead charges = record { kind = 9; code = 0; bits = 0; value = 0; charges = charges }
 
--- how a host is used, and what it has of an instance
+-- how a host is used, what it has counted, and what it has of an instance
 abbrev pub raw_report_of : UsageState → RawReport
 raw_report_of r = record {
   frames = r.frames;
@@ -101,6 +103,22 @@ raw_report_of r = record {
   tax_den = r.tax.den;
   sharers = r.sharers;
   instances = r.instances;
+}
+
+abbrev pub raw_counts_of : HostCounts → RawCounts
+raw_counts_of n = record {
+  turns = n.turns;
+  charges = n.charges;
+  returned = n.returned;
+  trapped = n.trapped;
+  cancelled = n.cancelled;
+  dead = n.dead;
+  offers = n.offers;
+  merges = n.merges;
+  breaks = n.breaks;
+  evictions = n.evictions;
+  fetches = n.fetches;
+  faults = n.faults;
 }
 
 abbrev pub raw_row_of : ReportRow → RawInstanceReport

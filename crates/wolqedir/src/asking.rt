@@ -3,6 +3,7 @@
 ghost use Rattle.std.specs.Prelude.{◌≡◌, IfOk, ⊤};
 ghost use Rattle.wh_host_model.specs.Host.Happens.{IsCancel, IsRefuel, IsRetry};
 ghost use Rattle.wolqedir.specs.Codes.{code_by, host_error_code};
+ghost use Rattle.wh_host.specs.HostCounting.{counts_after_cancel};
 ghost use Rattle.wolqedir.specs.ExportContracts.{ExportAsks, ExportInvokes, ExportInvokesAt, ExportReleases, ServesHandle, ServesNamed, ServesWithRoom, TellsCaller};
 ghost use Rattle.wolqedir.specs.Shapes.{id_of};
 
@@ -152,7 +153,7 @@ pub extern "C" fn wq_refuel(
     fuel: u64,
 ) -> u32
     ensures { ServesHandle handle.old.slot.held
-        (ExportAsks (λ w answer w2. IsRefuel w (id_of instance.now) fuel answer w2) result) result
+        (ExportAsks (λ w answer w2. IsRefuel w (id_of instance.now) fuel answer w2) (λ h h2. h.counts) result) result
         handle.new.slot.held ⊤ }
 {
     let Some(mut hand) = handle.take(alloc) else {
@@ -171,7 +172,7 @@ pub extern "C" fn wq_refuel(
 #[unsafe(no_mangle)]
 pub extern "C" fn wq_retry(alloc: Global, handle: &mut Handle, instance: &RawInstance) -> u32
     ensures { ServesHandle handle.old.slot.held
-        (ExportAsks (λ w answer w2. IsRetry w (id_of instance.now) answer w2) result) result
+        (ExportAsks (λ w answer w2. IsRetry w (id_of instance.now) answer w2) (λ h h2. h.counts) result) result
         handle.new.slot.held ⊤ }
 {
     let Some(mut hand) = handle.take(alloc) else {
@@ -190,7 +191,8 @@ pub extern "C" fn wq_retry(alloc: Global, handle: &mut Handle, instance: &RawIns
 #[unsafe(no_mangle)]
 pub extern "C" fn wq_cancel(alloc: Global, handle: &mut Handle, instance: &RawInstance) -> u32
     ensures { ServesHandle handle.old.slot.held
-        (ExportAsks (λ w answer w2. IsCancel w (id_of instance.now) answer w2) result) result
+        (ExportAsks (λ w answer w2. IsCancel w (id_of instance.now) answer w2)
+        (λ h h2. counts_after_cancel h (id_of instance.now) h2) result) result
         handle.new.slot.held ⊤ }
 {
     let Some(mut hand) = handle.take(alloc) else {

@@ -2,11 +2,13 @@
 
 ghost use Rattle.std.specs.Prelude.{◌≡◌, IfOk, map};
 ghost use Rattle.wh_host.specs.Reporting.{view_row, view_usage};
-ghost use Rattle.wolqedir.specs.Shapes.{bits_of_result, id_of, instance_of, progress_as, raw_report_of, raw_row_of, standing_code, standing_kind, shown_status, type_bits, word_of};
+ghost use Rattle.wolqedir.specs.Shapes.{bits_of_result, id_of, instance_of, progress_as, raw_counts_of, raw_report_of, raw_row_of, standing_code, standing_kind, shown_status, type_bits, word_of};
 
 use crate::codes::{of_swap, of_trap};
 use std::alloc::{AllocError, Global};
-use wh_hand::{CallStatus, CallValue, HostUsage, InstId, InstanceReport, Ran, Suspension};
+use wh_hand::{
+    CallStatus, CallValue, HostCounts, HostUsage, InstId, InstanceReport, Ran, Suspension,
+};
 use wh_model::ValType;
 
 /// An instance, as it was admitted.
@@ -110,6 +112,36 @@ pub struct RawReport {
     pub sharers: u64,
     /// How many instances there are.
     pub instances: usize,
+}
+
+/// What a host has counted since it was created, each from 2^64 - 1 on to 0.
+#[repr(C)]
+#[derive(Drop)]
+pub struct RawCounts {
+    /// How many turns of instances were had of which a call was open.
+    pub turns: u64,
+    /// How many charges these took.
+    pub charges: u64,
+    /// How many calls returned in a turn, starts among them.
+    pub returned: u64,
+    /// How many calls trapped in a turn, starts among them.
+    pub trapped: u64,
+    /// How many calls their owners cancelled, starts among them.
+    pub cancelled: u64,
+    /// How many calls did nothing, behind a start that trapped or was cancelled.
+    pub dead: u64,
+    /// How many pages were offered for sharing.
+    pub offers: u64,
+    /// By how many of these offers two pages came to share a frame.
+    pub merges: u64,
+    /// How many pages shared a frame until a turn wrote them.
+    pub breaks: u64,
+    /// How many pages were evicted to swap.
+    pub evictions: u64,
+    /// How many pages were fetched from there.
+    pub fetches: u64,
+    /// How many provisions, evictions and fetches ended by a fault of the device.
+    pub faults: u64,
 }
 
 /// What an instance has of them.
@@ -256,8 +288,28 @@ pub fn raw_report(usage: HostUsage) -> RawReport
     }
 }
 
-// The numbers of an instance for C.
-fn raw_row(row: InstanceReport) -> RawInstanceReport
+/// Converts what a host has counted for C.
+pub fn raw_counts(counts: HostCounts) -> RawCounts
+    ensures { result ≡ raw_counts_of counts }
+{
+    RawCounts {
+        turns: counts.turns,
+        charges: counts.charges,
+        returned: counts.returned,
+        trapped: counts.trapped,
+        cancelled: counts.cancelled,
+        dead: counts.dead,
+        offers: counts.offers,
+        merges: counts.merges,
+        breaks: counts.breaks,
+        evictions: counts.evictions,
+        fetches: counts.fetches,
+        faults: counts.faults,
+    }
+}
+
+/// Converts the numbers of an instance for C.
+pub fn raw_row(row: InstanceReport) -> RawInstanceReport
     ensures { result ≡ raw_row_of (view_row row) }
 {
     RawInstanceReport {

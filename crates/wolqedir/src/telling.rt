@@ -1,7 +1,7 @@
 //! What a host tells.
 
 ghost use Rattle.std.specs.Prelude.{◌≡◌};
-ghost use Rattle.wolqedir.specs.ExportContracts.{ServesHandle, ServesWithRoom, ExportTellsInstances, ExportTellsReport, ExportTellsStatus, ExportTellsTaken};
+ghost use Rattle.wolqedir.specs.ExportContracts.{ServesHandle, ServesWithRoom, ExportTellsCounts, ExportTellsInstance, ExportTellsInstances, ExportTellsReport, ExportTellsStatus, ExportTellsTaken};
 ghost use Rattle.wolqedir.specs.Shapes.{id_of};
 ghost use Rattle.wolqedir.specs.CodeTexts.{TellsText};
 ghost use Rattle.wolqedir.specs.Transcribed.{ExportTellsTranscript};
@@ -10,7 +10,8 @@ use crate::codes::{DONE, MEMORY, NONE, UNKNOWN, of_host};
 use crate::handle::Handle;
 use crate::rooms::lay;
 use crate::shapes::{
-    RawInstance, RawInstanceReport, RawReport, RawStatus, named, raw_report, raw_rows, shown,
+    RawCounts, RawInstance, RawInstanceReport, RawReport, RawStatus, named, raw_counts, raw_report,
+    raw_row, raw_rows, shown,
 };
 use crate::texts::sentence;
 use crate::transcripts::words_of;
@@ -81,6 +82,50 @@ pub extern "C" fn wq_report_of(alloc: Global, handle: &mut Handle, report: &mut 
     *report = raw_report(hand.usage());
     handle.put(hand);
     DONE
+}
+
+/// Tells what the host has counted since it was created.
+///
+/// It answers NONE or 0.
+#[unsafe(no_mangle)]
+pub extern "C" fn wq_counts_of(alloc: Global, handle: &mut Handle, counts: &mut RawCounts) -> u32
+    ensures { ServesHandle handle.old.slot.held (ExportTellsCounts counts.new result)
+        result handle.new.slot.held (counts.new ≡ counts.old) }
+{
+    let Some(hand) = handle.take(alloc) else {
+        return NONE;
+    };
+    *counts = raw_counts(hand.counts());
+    handle.put(hand);
+    DONE
+}
+
+/// Tells what an instance has of the memory of the host.
+///
+/// It answers NONE or H1.
+#[unsafe(no_mangle)]
+pub extern "C" fn wq_instance_report_of(
+    alloc: Global,
+    handle: &mut Handle,
+    instance: &RawInstance,
+    row: &mut RawInstanceReport,
+) -> u32
+    ensures { ServesHandle handle.old.slot.held
+        (ExportTellsInstance (id_of instance.now) row.old row.new result) result
+        handle.new.slot.held (row.new ≡ row.old) }
+{
+    let Some(hand) = handle.take(alloc) else {
+        return NONE;
+    };
+    let told = hand.usage_of(named(instance));
+    handle.put(hand);
+    match told {
+        Ok(told) => {
+            *row = raw_row(told);
+            DONE
+        }
+        Err(error) => of_host(error),
+    }
 }
 
 /// Copies as many rows as there is room for of what the instances of the host have of its memory, by number, and tells how many

@@ -2,6 +2,7 @@ use Rattle.wh_host_model.specs.Host.{AwaitsFrame}
 use Rattle.wh_host.specs.Paging.{MovesWith}
 use Rattle.std.specs.Prelude.{None}
 use Rattle.wh_hand.proofs.Goers.{made_ready}
+use Rattle.wh_hand.proofs.Counted.{counts_provided}
 use Rattle.wh_hand.proofs.Events.{live_moved, on_provided}
 use Rattle.wh_hand.proofs.Steps.{moved_keeps, provided_moves, provided_well}
 use Rattle.wh_hand.proofs.going.make_ready.Goals as goal
@@ -24,3 +25,7 @@ pub returns-clause-ready : goal.returns-clause-ready
 returns-clause-ready c =
     made_ready c.args.host.now c.provide.new.self c.args.id c.provide.result c.invariant.ensures
     (provided_moves c.args.host.now c.provide.new.self c.args.id (well c)) c.provide.ensures.serves.added c.provide.ensures.right
+
+pub returns-clause-counts : goal.returns-clause-counts
+returns-clause-counts c =
+    counts_provided c.args.host.now.counts c.provide.new.self.counts c.provide.result c.provide.ensures.serves.added c.provide.ensures.adds

@@ -1,11 +1,21 @@
+use Rattle.wh_hand.proofs.Counted.{counts_itself}
 use Rattle.wh_hand.proofs.Steps.{moved_itself}
 use Rattle.wh_hand.proofs.going.offer_next.Goals as goal
 
-pub returns-then-not-count : goal.returns-then-not-count
-returns-then-not-count c = moved_itself c.args.host.now
+pub returns-then-not-count-clause-moves : goal.returns-then-not-count-clause-moves
+returns-then-not-count-clause-moves c = moved_itself c.args.host.now
 
-pub returns-in_default : goal.returns-in_default
-returns-in_default c = moved_itself c.args.host.now
+pub returns-then-not-count-clause-counts : goal.returns-then-not-count-clause-counts
+returns-then-not-count-clause-counts c = counts_itself c.args.host.now.counts
 
-pub returns-in_default-get : goal.returns-in_default-get
-returns-in_default-get c = moved_itself c.args.host.now
+pub returns-in_default-clause-moves : goal.returns-in_default-clause-moves
+returns-in_default-clause-moves c = moved_itself c.args.host.now
+
+pub returns-in_default-clause-counts : goal.returns-in_default-clause-counts
+returns-in_default-clause-counts c = counts_itself c.args.host.now.counts
+
+pub returns-in_default-get-clause-moves : goal.returns-in_default-get-clause-moves
+returns-in_default-get-clause-moves c = moved_itself c.args.host.now
+
+pub returns-in_default-get-clause-counts : goal.returns-in_default-get-clause-counts
+returns-in_default-get-clause-counts c = counts_itself c.args.host.now.counts

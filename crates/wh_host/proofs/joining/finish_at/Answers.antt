@@ -34,5 +34,6 @@ returns c = λ q.
       again = e.again;
       upper = λ u is. ap Some (e.empty ∙ ap with_nothing (sym (one_upper u c.in-Some.upper (sym is ∙ c.in-Some.is))));
       id = refl;
+      ended = refl;
       free = (refl, (f.new.upper, refl, ap (λ (u : OverlayPagesState). u.pages) e.empty, ap (λ (u : OverlayPagesState). u.grown) e.empty, ap (λ (u : OverlayPagesState). u.taken) e.empty, ap (λ (u : OverlayPagesState). u.reads) e.empty));
     })

@@ -24,6 +24,7 @@ returns c = λ q.
         again = is.again;
         upper = λ u had. ap (λ (s : Runner). s.upper) back.1 ∙ is.upper u had;
         id = ap (λ (s : Runner). s.id) back.1 ∙ is.id;
+        ended = ap (λ (s : Runner). s.ended) back.1 ∙ is.ended;
         free = subst IsFree (sym back.1) is.free;
         entries = subst (λ (i : InstId). (x : InstanceEntry) → entry_at rs i.place ≡ Some x → g.new.entries.slots ≡ slice_set rs i.place (Some (record x { number = Some i.number; tenant = z.tenant }))) is.id g.ensures.entries;
       },

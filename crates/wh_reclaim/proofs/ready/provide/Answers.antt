@@ -1,6 +1,7 @@
 use Rattle.std.proofs.Common.{◌∙◌, sym, subst}
 use Rattle.std.specs.Prelude.{IfOk, OnErr}
 use Rattle.wh_space_model.specs.{FailsToProvide, FailsTruly, Provides, ProvidesTruly}
+use Rattle.wh_reclaim.specs.Providing.{HasMovedPages}
 use Rattle.wh_reclaim.proofs.Beginning.{wants_stands}
 use Rattle.wh_reclaim.proofs.Providing.{is_right, keeps_others, none_left, one_need, under_err, under_ok}
 use Rattle.wh_reclaim.proofs.Whole.{provides_whole}
@@ -46,3 +47,10 @@ returns-clause-none_out g c =
 pub returns-clause-whole : goal.returns-clause-whole
 returns-clause-whole g c =
     provides_whole c.provide_for.result c.args.memory.now c.args.place c.in-Some.need c.provide_for.new.memory c.provide_for.ensures.provides c.provide_for.ensures.fails
+
+pub returns-clause-moves : goal.returns-clause-moves
+returns-clause-moves g c = λ need stands.
+    subst (λ n. HasMovedPages c.args.memory.now c.args.place n c.provide_for.new.moved.left c.provide_for.new.moved.came c.provide_for.new.memory) (one_need c.args.memory.now c.args.place c.in-Some.need need (wants_stands c.args.memory.now c.args.place c.in-Some.need (sym c.wanted_step.ensures ∙ c.in-Some.is)) stands) c.provide_for.ensures.moves
+
+pub returns-clause-none_moves : goal.returns-clause-none_moves
+returns-clause-none_moves g c = λ none. absurd (none c.in-Some.need (wants_stands c.args.memory.now c.args.place c.in-Some.need (sym c.wanted_step.ensures ∙ c.in-Some.is)))

@@ -1,9 +1,9 @@
-use Rattle.std.proofs.Common.{◌≡◌, ◌∙◌, [], ◌∷◌, length, refl, ap, arith}
+use Rattle.std.proofs.Common.{◌≡◌, ◌∙◌, inl, inr, [], ◌∷◌, length, refl, ap, arith}
 use Rattle.wh_space_model.specs.{Space, kept, comes, goes}
 use Rattle.wh_space_model.proofs.Provided.{moves_nearer, serves_way}
 use Rattle.wh_reclaim.specs.Providing.{left_by}
 use Rattle.wh_reclaim.proofs.DeviceCalls.{serves_still, serves_then}
-use Rattle.wh_reclaim.proofs.Going.{came_nearer, came_once, earmarked, gives_up, goes_came, goes_done, goes_left, left_nearer, left_once, none_kept, pinned_once, stands_still}
+use Rattle.wh_reclaim.proofs.Going.{came_nearer, came_once, earmarked, far_at_first, gives_up, goes_came, goes_done, goes_left, left_nearer, left_once, none_kept, pinned_once, stands_still}
 use Rattle.wh_reclaim.proofs.ready.provide_for.Goals as goal
 
 pub loop-memory-init : goal.loop-memory-init
@@ -12,6 +12,8 @@ loop-memory-init g c = record {
   serves = c.pin.ensures;
   truly = λ honest. c.pin.ensures;
   many = refl;
+  arrived = refl;
+  nearer = (let first = far_at_first c.args.memory.now c.args.place c.args.need in rw c.pin.ensures (omega arith));
   once = λ q. rw c.pin.ensures (pinned_once c.args.memory.now c.args.place c.args.need q);
   agrees = rw c.pin.ensures c.requires.agrees;
   writes = omega arith;
@@ -78,6 +80,8 @@ loop-memory-preserved-in-Ok-Came g c =
       serves = (c.loop-memory.memory, inv.serves, came.1);
       truly = λ honest. (c.loop-memory.memory, inv.truly (e.serves.was_honest honest), came.1, came.2 honest);
       many = (let many = inv.many in omega arith);
+      arrived = (let arrived = inv.arrived in omega arith);
+      nearer = (let old = inv.nearer in let less = loop-memory-smaller-in-Ok-Came g c in omega arith);
       once = came_once c.loop-memory.memory c.args.place c.args.need came.0 c.go_on.new.memory way.0 inv.once came.1;
       agrees = e.agrees;
       writes = (let a = e.writes in let b = inv.writes in omega arith);
@@ -108,6 +112,8 @@ loop-memory-preserved g c =
       serves = (c.loop-memory.memory, inv.serves, left);
       truly = λ honest. (c.loop-memory.memory, inv.truly (e.serves.was_honest honest), left, tt);
       many = (let many = inv.many in omega arith);
+      arrived = (let arrived = inv.arrived in omega arith);
+      nearer = (let old = inv.nearer in let less = loop-memory-smaller g c in omega arith);
       once = left_once c.loop-memory.memory c.args.place c.args.need c.go_on.new.memory inv.once left;
       agrees = e.agrees;
       writes = (let a = e.writes in let b = inv.writes in omega arith);
@@ -121,3 +127,18 @@ returns-in-Err-clause-fails g c =
 pub returns-in-Err-clause-fails_truly : goal.returns-in-Err-clause-fails_truly
 returns-in-Err-clause-fails_truly g c = λ honest.
     (c.loop-memory.invariant.moves, c.loop-memory.memory, c.loop-memory.invariant.truly (c.in-Err.ensures.serves.was_honest honest), gives_up c.loop-memory.memory c.go_on.new.memory c.unpin.new.self c.in-Err.ensures.loses c.unpin.ensures)
+
+pub overflow_add-came : goal.overflow_add-came
+overflow_add-came g c = let old = c.loop-memory.invariant.nearer in let few = c.known_pages.ensures in omega arith
+
+pub returns-in-Ok-Done-clause-moves : goal.returns-in-Ok-Done-clause-moves
+returns-in-Ok-Done-clause-moves g c =
+    let inv = c.loop-memory.invariant in
+    let done = goes_done (g.D.SwapDev.honest c.go_on.new.device) c.loop-memory.memory c.args.place c.args.need c.in-Ok-Done.field-0 c.go_on.new.memory c.in-Ok-Done.field-0-is c.in-Ok-Done.ensures.goes_on in
+    let earmarks = earmarked c.go_on.new.memory c.loop-memory.memory c.args.place c.args.need c.frames_to_write-wanted.result c.earmark.new.self done.1 c.frames_to_write-wanted.ensures.count c.earmark.ensures in
+    (inv.moves, c.loop-memory.memory, inv.serves, inv.many, inv.arrived, inl (done.0, earmarks))
+
+pub returns-in-Err-clause-moves : goal.returns-in-Err-clause-moves
+returns-in-Err-clause-moves g c =
+    let inv = c.loop-memory.invariant in
+    (inv.moves, c.loop-memory.memory, inv.serves, inv.many, inv.arrived, inr (gives_up c.loop-memory.memory c.go_on.new.memory c.unpin.new.self c.in-Err.ensures.loses c.unpin.ensures))

@@ -6,7 +6,7 @@ use Rattle.wh_scan.proofs.pass.scan_all.Given as goal
 -- the pages of the instances with numbers up to this one were offered, and counted
 abbrev pub invariant-loop-next : goal.invariant-loop-next
 invariant-loop-next g l =
-    IsPassUpTo (g.H.PageHash.hashes l.hasher) l.fn.memory l.after l.offered l.memory
+    IsPassUpTo (g.H.PageHash.hashes l.hasher) l.fn.memory l.after l.offered l.merged l.memory
     × AreCounted l.fn.memory l.after l.offered
 
 -- how many numbers there may be above it

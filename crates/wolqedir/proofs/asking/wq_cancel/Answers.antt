@@ -1,5 +1,6 @@
 use Rattle.std.proofs.Common.{inr, Some, ap, sym, ◌∙◌, subst}
 use Rattle.wh_host_model.specs.Host.{IsCancel}
+use Rattle.wh_host.specs.HostCounting.{counts_after_cancel}
 use Rattle.wolqedir.specs.ExportContracts.{ExportAsks}
 use Rattle.wolqedir.specs.Codes.{host_error_code}
 use Rattle.wolqedir.proofs.Helding.{left_at, nothing, same_held}
@@ -15,13 +16,14 @@ returns c = (
     c.in-Some.ensures.some ∙ ap Some (sym c.deref_mut.ensures.value),
     c.put.ensures.held,
     c.put.ensures.sound,
-    subst (λ id. ExportAsks (λ w answer w2. IsCancel w id answer w2) c.code_of.result c.deref_mut.result.now c.ask-answer.new.self) c.named-id.ensures (record {
+    subst (λ id. ExportAsks (λ w answer w2. IsCancel w id answer w2) (λ h h2. counts_after_cancel h id h2) c.code_of.result c.deref_mut.result.now c.ask-answer.new.self) c.named-id.ensures (record {
       answer = c.ask-answer.result;
       answered = c.code_of.ensures;
       asks = c.ask-answer.ensures.asks.0;
       err = c.ask-answer.ensures.err;
       backing = c.ask-answer.ensures.backing;
       output = c.ask-answer.ensures.output;
+      counts = c.ask-answer.ensures.counts;
     }),
   ),
 )

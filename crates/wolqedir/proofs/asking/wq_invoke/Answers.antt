@@ -25,6 +25,7 @@ returns c = inr (
         err = c.ask-answer.ensures.err;
         backing = c.ask-answer.ensures.backing;
         output = c.ask-answer.ensures.output;
+        counts = c.ask-answer.ensures.counts;
         told = c.tell_place.ensures.told;
       }),
     ),

@@ -21,6 +21,7 @@ returns c = (
       err = c.release-answer.ensures.err;
       backing = c.release-answer.ensures.backing;
       memory = c.release-answer.ensures.memory;
+      counts = c.release-answer.ensures.counts;
       told = subst (λ output. TellsCaller (λ _. length output) c.release-answer.result c.args.len.now c.tell_length.new.len) (c.output-count.ensures ∙ ap (λ a. a.output) c.deref.ensures) c.tell_length.ensures.told;
     }),
   ),

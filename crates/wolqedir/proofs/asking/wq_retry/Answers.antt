@@ -15,13 +15,14 @@ returns c = (
     c.in-Some.ensures.some ∙ ap Some (sym c.deref_mut.ensures.value),
     c.put.ensures.held,
     c.put.ensures.sound,
-    subst (λ id. ExportAsks (λ w answer w2. IsRetry w id answer w2) c.code_of.result c.deref_mut.result.now c.ask-answer.new.self) c.named-id.ensures (record {
+    subst (λ id. ExportAsks (λ w answer w2. IsRetry w id answer w2) (λ h h2. h.counts) c.code_of.result c.deref_mut.result.now c.ask-answer.new.self) c.named-id.ensures (record {
       answer = c.ask-answer.result;
       answered = c.code_of.ensures;
       asks = c.ask-answer.ensures.asks.0;
       err = c.ask-answer.ensures.err;
       backing = c.ask-answer.ensures.backing;
       output = c.ask-answer.ensures.output;
+      counts = c.ask-answer.ensures.counts;
     }),
   ),
 )

@@ -22,6 +22,7 @@ returns c = inr (
       backing = c.admit-answer.ensures.backing;
       memory = c.admit-answer.ensures.memory;
       output = c.admit-answer.ensures.output;
+      counts = c.admit-answer.ensures.counts;
       told = c.tell_instance.ensures.told;
     }),
   ),

@@ -24,6 +24,7 @@ returns c = (
           backing = c.fork-answer.ensures.backing;
           memory = c.fork-answer.ensures.memory;
           output = c.fork-answer.ensures.output;
+          counts = c.fork-answer.ensures.counts;
           told = c.tell_copy.ensures.told;
         })),
   ),

@@ -20,6 +20,7 @@ returns c = (
       err = c.load-answer.ensures.err;
       backing = c.load-answer.ensures.backing;
       output = c.load-answer.ensures.output;
+      counts = c.load-answer.ensures.counts;
       told = c.tell_module.ensures.told;
     },
   ),

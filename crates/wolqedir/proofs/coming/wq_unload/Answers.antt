@@ -21,6 +21,7 @@ returns c = (
       backing = c.unload-answer.ensures.backing;
       memory = c.unload-answer.ensures.memory;
       output = c.unload-answer.ensures.output;
+      counts = c.unload-answer.ensures.counts;
     },
   ),
 )

@@ -17,6 +17,7 @@ returns c = (
       clears = c.epoch.ensures.clears;
       backing = c.epoch.ensures.backing;
       output = c.epoch.ensures.output;
+      counts = c.epoch.ensures.counts;
     },
   ),
 )

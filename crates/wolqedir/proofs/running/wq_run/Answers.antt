@@ -17,6 +17,7 @@ returns c = (
       runs = c.run.ensures.runs;
       whole = c.run.ensures.whole;
       output = c.run.ensures.output;
+      counts = c.run.ensures.counts;
       told = c.progress_of.ensures;
     },
   ),

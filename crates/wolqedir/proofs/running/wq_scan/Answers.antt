@@ -23,6 +23,7 @@ returns-in-Some-offered c = (
       scans = c.in-Some-offered.ensures.scans;
       full = c.in-Some-offered.ensures.full;
       counts = c.in-Some-offered.ensures.counts;
+      counted = c.in-Some-offered.ensures.counted;
       output = c.scan-offered.ensures.output;
     },
   ),
@@ -48,6 +49,7 @@ returns-in-None c = (
       scans = c.in-None.ensures.scans;
       full = c.in-None.ensures.full;
       counts = c.in-None.ensures.counts;
+      counted = c.in-None.ensures.counted;
       output = c.scan-offered.ensures.output;
     },
   ),

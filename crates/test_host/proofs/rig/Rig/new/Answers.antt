@@ -9,5 +9,5 @@ invariant_of-result c =
     let made = c.in_ok-host.ensures in
     record {
       stands = made.0;
-      carried = none_left h (page_held c.in_ok-device.device) c.new-3.result.items c.new-4.result.items made.0 (made.1 ∙ sym c.in_ok-device.ensures.held) (ap length c.new-3.ensures.items) (ap length c.new-4.ensures.items);
+      carried = none_left h (page_held c.in_ok-device.device) c.new-8.result.items c.new-9.result.items made.0 (made.1 ∙ sym c.in_ok-device.ensures.held) (ap length c.new-8.ensures.items) (ap length c.new-9.ensures.items);
     }

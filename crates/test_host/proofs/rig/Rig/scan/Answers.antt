@@ -3,6 +3,6 @@ use Rattle.test_host.proofs.rig.Rig.scan.Goals as goal
 
 pub invariant_of-self : goal.invariant_of-self
 invariant_of-self g c = record {
-  stands = host_on c.args.self.now.host c.scan.new.self c.args.self.now.stands (λ w st. let t = c.scan.ensures.moves w st in (t.0, t.2));
-  carried = carried_on c.args.self.now.host.space c.scan.new.self.space _ _ _ c.scan.ensures.backing.pass c.args.self.now.carried;
+  stands = host_on c.args.self.now.host c.scan-offered.new.self c.args.self.now.stands (λ w st. let t = c.scan-offered.ensures.moves w st in (t.0, t.2));
+  carried = carried_on c.args.self.now.host.space c.scan-offered.new.self.space _ _ _ c.scan-offered.ensures.backing.pass c.args.self.now.carried;
 }

@@ -1,4 +1,5 @@
 use Rattle.std.proofs.Common.{rules}
+use Rattle.wh_host.proofs.KeptCounts.{whatever_counted}
 use Rattle.wh_host.proofs.Offering.{offered_here}
 use Rattle.wh_host.proofs.Paged.{only_nothing}
 use Rattle.wh_host.proofs.Fields.{host_of, shown_host}
@@ -15,12 +16,13 @@ invariant_of-self g c =
     let inv = c.self.invariant in
     let hashes = g.H.PageHash.hashes c.args.hasher.now in
     let made = offered_here (host_of c.self.inside) inv.0 hashes c.args.id c.args.page c.args.hash c.offer-answer.result c.offer-answer.new.memory inv.1 c.offer-answer.ensures in
-    (made.0, made.2)
+    (made.0, whatever_counted _ made.0 _ made.2)
 
 pub returns-clause-moves : goal.returns-clause-moves
 returns-clause-moves g c w st =
     let hashes = g.H.PageHash.hashes c.args.hasher.now in
-    offered_here (host_of c.self.inside) w hashes c.args.id c.args.page c.args.hash c.offer-answer.result c.offer-answer.new.memory (shown_host w c.self.view_is st) c.offer-answer.ensures
+    let made = offered_here (host_of c.self.inside) w hashes c.args.id c.args.page c.args.hash c.offer-answer.result c.offer-answer.new.memory (shown_host w c.self.view_is st) c.offer-answer.ensures in
+    (made.0, made.1, whatever_counted _ made.0 _ made.2)
 
 pub returns-clause-backing : goal.returns-clause-backing
 returns-clause-backing g c = search rules

@@ -24,6 +24,7 @@ returns c =
       module_place = refl;
       page_limit = refl;
       answer = refl;
+      ended = refl;
       lent = e.lent ∙ ap lent_in (sym c.in-Some-take.is ∙ c.take.ensures.value);
       free = λ gone room. absurd (let bad = sym c.if-not-runner.false ∙ gone in cc bad);
       ran = λ taken. (

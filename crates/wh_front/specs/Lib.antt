@@ -1,0 +1,4 @@
+pub mod Access
+pub mod Askers
+pub mod Faults
+pub mod FrontAnswers

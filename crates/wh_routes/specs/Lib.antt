@@ -1,0 +1,5 @@
+pub mod Separators
+pub mod Readings
+pub mod Paths
+pub mod Queries
+pub mod Laws

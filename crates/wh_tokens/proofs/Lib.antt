@@ -1,0 +1,4 @@
+mod Owners
+mod OneLine
+mod Lines
+mod Spaces

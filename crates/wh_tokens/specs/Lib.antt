@@ -1,0 +1,3 @@
+pub mod TokenOwners
+pub mod GrantLines
+pub mod Bearer
